@@ -1,0 +1,133 @@
+-- Effects that follow one another, and what broke off.
+use Rattle.std.proofs.Common.{◌≡◌, ℕ, ◌+◌, ◌≤◌, List, [], ◌∷◌, ◌++◌, length, take, drop, Option, None, Some, ◌⊎◌, inl, inr, refl, sym, ap, ◌∙◌, subst, append_assoc, arith, ◌-◌, ◌<◌, length-drop}
+use Rattle.std.proofs.Math.Seq.{take-add}
+use Rattle.std.proofs.lemmas.List.{take_rest, take-append-le}
+use Rattle.std.proofs.Math.Seq.{take-append-add}
+use Rattle.std.proofs.lemmas.Bool.Decides.{leb_tells}
+use Rattle.std.specs.Prelude.{Result, Ok, Err}
+use Rattle.outside.specs.Streams.{with_bytes}
+use Rattle.outside.specs.States.{StoreState, SinkState}
+use Rattle.outside.specs.Counts.{Rose}
+use Rattle.outside.specs.Tree.{Tree, folder_path, MayBreakOff, BrokeOff}
+use Rattle.effects.specs.Effects.{Effect, Write, Remove, Print, Stored, Contents, World, stored_of, contents, after, performed, Torn, Off, Partly, Does, Doing}
+use Rattle.effects.specs.Blame.{Steady, Because, Blames}
+use Rattle.effects.specs.declared.stop.Stop.{Stop}
+use Rattle.effects.specs.declared.stop.Stop.TheVariants as stop
+
+pub performed_append : (es fs : List Effect) (c : Contents) → performed (es ++ fs) c ≡ performed fs (performed es c)
+performed_append [] fs c = refl
+performed_append (e ∷ es) fs c = performed_append es fs (after e c)
+
+pub nothing_yet : (es : List Effect) (old new : Contents) → new ≡ old → Partly es old new
+unfolding Partly contents
+nothing_yet [] old new h = h
+nothing_yet (e ∷ es) old new h = inl h
+
+-- what stopped early also stopped early where more was meant
+pub partly_more : (es fs : List Effect) (old new : Contents) → Partly es old new → Partly (es ++ fs) old new
+unfolding Partly contents
+partly_more [] fs old new h = nothing_yet fs old new h
+partly_more (e ∷ es) fs old new h = elim h [ inl same ↦ inl same | inr rest ↦ elim rest [ inl off ↦ inr (inl off) | inr later ↦ inr (inr (partly_more es fs (after e old) new later)) ] ]
+
+-- effects, and then some of those that follow
+pub partly_later : (es fs : List Effect) (old mid new : Contents) → mid ≡ performed es old → Partly fs mid new → Partly (es ++ fs) old new
+unfolding Partly contents
+partly_later [] fs old mid new e h = subst (λ (m : Contents). Partly fs m new) e h
+partly_later (e ∷ es) fs old mid new is h = inr (inr (partly_later es fs (after e old) mid new is h))
+
+pub unmoved : (es : List Effect) (old new : StoreState) (o : SinkState) → new.tree ≡ old.tree → new.writes ≡ old.writes → Partly es (contents (old, o)) (contents (new, o))
+unfolding contents
+unmoved es old new o t w = nothing_yet es (contents (old, o)) (contents (new, o)) (rw (t, w) refl)
+
+torn : (path : List (List ℕ)) (folder file : List ℕ) (o p : Option Tree) (m n : ℕ) → MayBreakOff path folder file o p → n ≡ m → Torn path folder file (stored_of o m) (stored_of p n)
+torn path folder file None p m n h e = record { untold = λ _. rw h.untold refl; told = λ s is. absurd (cc) }
+torn path folder file (Some t) p m n h e =
+    let was = h.told t refl in
+    record {
+      untold = λ is. absurd (cc);
+      told = λ s is.
+          let tree : s ≡ record { tree = t; writes = m } = cc in
+          (record { tree = was.0; writes = n }, rw was.1 refl, rw tree was.2, rw tree e);
+    }
+
+pub torn_write : (folder file bytes : List ℕ) (old new : StoreState) (o : SinkState) → MayBreakOff (folder_path folder) folder file old.tree new.tree → new.writes ≡ old.writes → Partly (Write folder file bytes ∷ []) (contents (old, o)) (contents (new, o))
+unfolding Partly contents
+torn_write folder file bytes old new o h e = inr (inl (torn (folder_path folder) folder file old.tree new.tree old.writes new.writes h e, refl))
+
+pub torn_remove : (folder file : List ℕ) (old new : StoreState) (o : SinkState) → MayBreakOff [] folder file old.tree new.tree → new.writes ≡ old.writes → Partly (Remove folder file ∷ []) (contents (old, o)) (contents (new, o))
+unfolding Partly contents
+torn_remove folder file old new o h e = inr (inl (torn [] folder file old.tree new.tree old.writes new.writes h e, refl))
+
+pub torn_print : (bytes : List ℕ) (n : ℕ) (s : StoreState) (old new : SinkState) → new.held ≡ with_bytes (take n bytes) old.held → Partly (Print bytes ∷ []) (contents (s, old)) (contents (s, new))
+unfolding Partly contents
+torn_print bytes n s old new h = inr (inl (n, rw h refl))
+
+pub printed_more : (bytes : List ℕ) (i n : ℕ) (o : Option (List ℕ)) → with_bytes (take n (drop i bytes)) (with_bytes (take i bytes) o) ≡ with_bytes (take (i + n) bytes) o
+printed_more bytes i n None = refl
+printed_more bytes i n (Some held) = ap Some (append_assoc held (take i bytes) (take n (drop i bytes)) ∙ ap (λ x. held ++ x) (sym (take-add i n bytes)))
+
+pub piece_written : (bytes : List ℕ) (i n : ℕ) (o p q : Option (List ℕ)) → q ≡ with_bytes (take n (take (length bytes - i) (drop i bytes))) p → p ≡ with_bytes (take i bytes) o → q ≡ with_bytes (take (i + n) bytes) o
+piece_written bytes i n o p q h so_far = h ∙ (ap (λ (r : List ℕ). with_bytes (take n r) p) (take_rest bytes i) ∙ (ap (λ (m : Option (List ℕ)). with_bytes (take n (drop i bytes)) m) so_far ∙ printed_more bytes i n o))
+
+pub piece_within : (bytes : List ℕ) (i n : ℕ) → n ≤ length (take (length bytes - i) (drop i bytes)) → i < length bytes → i + n ≤ length bytes
+piece_within bytes i n h lt = let k : n ≤ length (drop i bytes) = subst (λ (r : List ℕ). n ≤ length r) (take_rest bytes i) h in omega (arith, length-drop i bytes)
+
+pub doing_all : (es : List Effect) (c : Contents) → Doing es es c c
+doing_all es c = record { did = []; are = refl; done = refl }
+
+pub doing_more : (all es rest : List Effect) (old now new : Contents) → Doing all (es ++ rest) old now → new ≡ performed es now → Doing all rest old new
+doing_more all es rest old now new d h = record { did = d.did ++ es; are = d.are ∙ sym (append_assoc d.did es rest); done = h ∙ (ap (performed es) d.done ∙ sym (performed_append d.did es old)) }
+
+pub doing_one : (all : List Effect) (e : Effect) (rest : List Effect) (old now new : Contents) → Doing all (e ∷ rest) old now → new ≡ performed (e ∷ []) now → Doing all rest old new
+doing_one all e rest old now new d h = doing_more all (e ∷ []) rest old now new d h
+
+pub doing_stops : (all es rest : List Effect) (old now new : Contents) → Doing all (es ++ rest) old now → Partly es now new → Partly all old new
+doing_stops all es rest old now new d h = rw d.are (partly_later d.did (es ++ rest) old now new d.done (partly_more es rest now new h))
+
+pub doing_one_stops : (all : List Effect) (e : Effect) (rest : List Effect) (old now new : Contents) → Doing all (e ∷ rest) old now → Partly (e ∷ []) now new → Partly all old new
+doing_one_stops all e rest old now new d h = doing_stops all (e ∷ []) rest old now new d h
+
+pub doing_idle : (all rest : List Effect) (old now : Contents) → Doing all rest old now → Partly all old now
+doing_idle all rest old now d = rw d.are (partly_later d.did rest old now now d.done (nothing_yet rest now now refl))
+
+append_none : (xs : List Effect) → xs ++ [] ≡ xs
+append_none [] = refl
+append_none (x ∷ xs) = ap (λ t. x ∷ t) (append_none xs)
+
+pub doing_end : (all : List Effect) (old now : Contents) → Doing all [] old now → now ≡ performed all old
+doing_end all old now d = d.done ∙ ap (λ es. performed es old) (sym (d.are ∙ append_none d.did))
+
+pub first_off : (e : Effect) (es : List Effect) (old new : Contents) → Partly (e ∷ []) old new → Partly (e ∷ es) old new
+first_off e es old new h = partly_more (e ∷ []) es old new h
+
+pub then_off : (e : Effect) (es : List Effect) (old mid new : Contents) → mid ≡ performed (e ∷ []) old → Partly es mid new → Partly (e ∷ es) old new
+then_off e es old mid new is h = partly_later (e ∷ []) es old mid new is h
+
+pub none_off : (es : List Effect) (old new : Contents) → Partly [] old new → Partly es old new
+none_off es old new h = partly_more [] es old new h
+
+with_more : (a b : List ℕ) (o : Option (List ℕ)) → with_bytes b (with_bytes a o) ≡ with_bytes (a ++ b) o
+with_more a b None = refl
+with_more a b (Some held) = ap Some (append_assoc held a b)
+
+-- two prints are one print of both
+pub prints_join : (a b : List ℕ) (es : List Effect) (c : Contents) → performed (Print a ∷ Print b ∷ es) c ≡ performed (Print (a ++ b) ∷ es) c
+prints_join a b es c = ap (λ (h : Option (List ℕ)). performed es (record { stored = c.stored; held = h })) (with_more a b c.held)
+
+printed_part : (a b : List ℕ) (n : ℕ) (es : List Effect) (old new : Contents) → (n ≤ length a) ⊎ (length a ≤ n) → new ≡ record { stored = old.stored; held = with_bytes (take n (a ++ b)) old.held } → Partly (Print a ∷ Print b ∷ es) old new
+unfolding Partly
+printed_part a b n es old new (inl le) is = inr (inl (n, is ∙ ap (λ (t : List ℕ). record { stored = old.stored; held = with_bytes t old.held }) (take-append-le n a b le)))
+printed_part a b n es old new (inr le) is =
+    let m : ℕ = n - length a in
+    let e : n ≡ length a + m = omega arith in
+    let t : take n (a ++ b) ≡ a ++ take m b = ap (λ (k : ℕ). take k (a ++ b)) e ∙ take-append-add a b m in
+    inr (inr (inr (inl (m, is ∙ ap (λ (h : Option (List ℕ)). record { stored = old.stored; held = h }) (ap (λ (x : List ℕ). with_bytes x old.held) t ∙ sym (with_more a (take m b) old.held))))))
+
+le_or_ge : (n m : ℕ) → (n ≤ m) ⊎ (m ≤ n)
+le_or_ge n m = elim (leb_tells n m) [ inl p ↦ inl (omega (arith, p.1)) | inr p ↦ inr (omega (arith, p.1)) ]
+
+-- and what is a part of the one is a part of the two
+pub prints_partly : (a b : List ℕ) (es : List Effect) (old new : Contents) → Partly (Print (a ++ b) ∷ es) old new → Partly (Print a ∷ Print b ∷ es) old new
+unfolding Partly
+prints_partly a b es old new h =
+    elim h [ inl same ↦ inl same | inr rest ↦ elim rest [ inl off ↦ printed_part a b off.0 es old new (le_or_ge off.0 (length a)) off.1 | inr later ↦ inr (inr (inr (inr (subst (λ (held : Option (List ℕ)). Partly es (record { stored = old.stored; held = held }) new) (sym (with_more a b old.held)) later)))) ] ]

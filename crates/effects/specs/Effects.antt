@@ -1,0 +1,78 @@
+-- What a run does to the outside, as a list, and what is there after it, whole or broken off.
+use Rattle.std.specs.Prelude.{◌≡◌, ℕ, true, Bool, List, [], ◌∷◌, ◌++◌, take, ◌⊎◌, Option, None, Some, option_map, is_some, Result, Ok, Err, if◌then◌else◌}
+use Rattle.outside.specs.Counts.{risen}
+use Rattle.outside.specs.Streams.{with_bytes}
+use Rattle.outside.specs.States.{StoreState, SinkState}
+use Rattle.outside.specs.Tree.{Tree, folder_path, file_at, with_file, without_file, BrokeOff}
+use Rattle.effects.specs.declared.stop.Stop.{Stop}
+
+-- one thing that a run does
+pub data Effect : Type 0 where
+  Write : (folder file bytes : List ℕ) → Effect
+  Remove : (folder file : List ℕ) → Effect
+  Print : (bytes : List ℕ) → Effect
+
+-- the tree, and how many files were written or removed
+pub record Stored : Type 0 where
+  pub tree : Tree
+  pub writes : ℕ
+
+-- what the outside holds, where it tells it
+pub record Contents : Type 0 where
+  pub stored : Option Stored
+  pub held : Option (List ℕ)
+
+-- a store and a sink at a moment
+abbrev pub World : Type 0
+World = StoreState × SinkState
+
+abbrev pub stored_of : Option Tree → ℕ → Option Stored
+stored_of None n = None
+stored_of (Some t) n = Some (record { tree = t; writes = n })
+
+unfoldable pub contents : World → Contents
+contents w = record { stored = stored_of w.0.tree w.0.writes; held = w.1.held }
+
+abbrev pub writing : List ℕ → List ℕ → List ℕ → Stored → Stored
+writing folder file bytes s = record { tree = with_file folder file bytes s.tree; writes = risen s.writes 1 }
+
+abbrev pub removing : List ℕ → List ℕ → Stored → Stored
+removing folder file s = record { tree = without_file folder file s.tree; writes = if is_some (file_at s.tree folder file) then risen s.writes 1 else s.writes }
+
+-- after one effect
+abbrev pub after : Effect → Contents → Contents
+after (Write folder file bytes) c = record { stored = option_map (writing folder file bytes) c.stored; held = c.held }
+after (Remove folder file) c = record { stored = option_map (removing folder file) c.stored; held = c.held }
+after (Print bytes) c = record { stored = c.stored; held = with_bytes bytes c.held }
+
+-- after all of them, in order
+abbrev pub performed : List Effect → Contents → Contents
+performed [] c = c
+performed (e ∷ es) c = performed es (after e c)
+
+-- a call on one file broke off
+pub record Torn (path : List (List ℕ)) (folder file : List ℕ) (old new : Option Stored) : Type 0 where
+  pub untold : old ≡ None → new ≡ None
+  pub told : (s : Stored) → old ≡ Some s → (u : Stored) × (new ≡ Some u) × (BrokeOff path folder file s.tree u.tree) × (u.writes ≡ s.writes)
+
+-- one effect broke off
+abbrev pub Off : Effect → Contents → Contents → Type 0
+Off (Write folder file bytes) old new = Torn (folder_path folder) folder file old.stored new.stored × (new.held ≡ old.held)
+Off (Remove folder file) old new = Torn [] folder file old.stored new.stored × (new.held ≡ old.held)
+Off (Print bytes) old new = (n : ℕ) × (new ≡ record { stored = old.stored; held = with_bytes (take n bytes) old.held })
+
+-- the effects in order, up to some place, where one may have broken off
+unfoldable pub Partly : List Effect → Contents → Contents → Type 0
+Partly [] old new = new ≡ old
+Partly (e ∷ es) old new = (new ≡ old) ⊎ (Off e old new ⊎ Partly es (after e old) new)
+
+-- all effects where the call succeeded, else some of them
+abbrev pub Does : {A : Type 0} → List Effect → World → World → Result A Stop → Type 0
+Does es old new (Ok a) = contents new ≡ performed es (contents old)
+Does es old new (Err e) = Partly es (contents old) (contents new)
+
+-- of all these effects those before the rest were done
+pub record Doing (all rest : List Effect) (old now : Contents) : Type 0 where
+  pub did : List Effect
+  pub are : all ≡ did ++ rest
+  pub done : now ≡ performed did old

@@ -1,0 +1,103 @@
+//! The calls on the outside that a run makes.
+ghost use Rattle.std.specs.Prelude.{◌≡◌, [], ◌∷◌, Some, IfOk};
+ghost use Rattle.outside.specs.Tree.{Tree, file_at, files_of};
+ghost use Rattle.effects.specs.Effects.{Write, Remove, Print, Does};
+ghost use Rattle.effects.specs.Blame.{StoreBlames, SinkBlames};
+
+use crate::Stop;
+use outside::{Folders, Sink, StoreFault};
+use ss_text::Text;
+use std::alloc::Global;
+
+/// What a file holds, or nothing where it is missing.
+#[tactic(auto, using(crate::proofs::EffectLemmas::unmoved), unfolding(crate::specs::Effects::contents))]
+pub fn read_file<F: Folders>(
+    alloc: Global,
+    store: &mut F,
+    folder: &Text,
+    file: &Text,
+) -> Result<Option<Text>, Stop>
+    ensures told { IfOk result (λ bytes. (t : Tree) → (F.state store.old).tree ≡ Some t → bytes ≡ file_at t folder.now file.now) }
+    ensures does { (o : _) → Does [] (F.state store.old, o) (F.state store.new, o) result }
+    ensures tree { (F.state store.new).tree ≡ (F.state store.old).tree }
+    ensures blames { StoreBlames (F.state store.old) (F.state store.new) result }
+{
+    match store.read(alloc, folder, file) {
+        Ok(bytes) => Ok(bytes),
+        Err(StoreFault::Failed) => Err(Stop::ReadFault),
+        Err(StoreFault::NoMemory) => Err(Stop::NoMemory),
+    }
+}
+
+/// Gives a file these bytes.
+#[tactic(auto, using(crate::proofs::EffectLemmas::unmoved, crate::proofs::EffectLemmas::torn_write), unfolding(crate::specs::Effects::contents))]
+pub fn write_file<F: Folders>(
+    alloc: Global,
+    store: &mut F,
+    folder: &Text,
+    file: &Text,
+    bytes: &[u8],
+) -> Result<(), Stop>
+    ensures does { (o : _) → Does (Write folder.now file.now bytes.now ∷ []) (F.state store.old, o) (F.state store.new, o) result }
+    ensures blames { StoreBlames (F.state store.old) (F.state store.new) result }
+{
+    match store.write(alloc, folder, file, bytes) {
+        Ok(()) => Ok(()),
+        Err(StoreFault::Failed) => Err(Stop::WriteFault),
+        Err(StoreFault::NoMemory) => Err(Stop::NoMemory),
+    }
+}
+
+/// Removes a file where it is there.
+#[tactic(auto, using(crate::proofs::EffectLemmas::unmoved, crate::proofs::EffectLemmas::torn_remove), unfolding(crate::specs::Effects::contents))]
+pub fn remove_file<F: Folders>(
+    alloc: Global,
+    store: &mut F,
+    folder: &Text,
+    file: &Text,
+) -> Result<(), Stop>
+    ensures does { (o : _) → Does (Remove folder.now file.now ∷ []) (F.state store.old, o) (F.state store.new, o) result }
+    ensures blames { StoreBlames (F.state store.old) (F.state store.new) result }
+{
+    match store.remove(alloc, folder, file) {
+        Ok(_) => Ok(()),
+        Err(StoreFault::Failed) => Err(Stop::WriteFault),
+        Err(StoreFault::NoMemory) => Err(Stop::NoMemory),
+    }
+}
+
+/// Prints bytes.
+#[tactic(auto, using(crate::proofs::EffectLemmas::piece_written, crate::proofs::EffectLemmas::torn_print), unfolding(crate::specs::Effects::contents))]
+pub fn print<K: Sink>(alloc: Global, output: &mut K, bytes: &[u8]) -> Result<(), Stop>
+    ensures does { (s : _) → Does (Print bytes.now ∷ []) (s, K.state output.old) (s, K.state output.new) result }
+    ensures blames { SinkBlames (K.state output.old) (K.state output.new) result }
+{
+    let mut at = 0;
+    while at < bytes.len() {
+        match output.write(alloc, &bytes[at..]) {
+            Ok(n) => at += n,
+            Err(StoreFault::Failed) => return Err(Stop::WriteFault),
+            Err(StoreFault::NoMemory) => return Err(Stop::NoMemory),
+        }
+    }
+    Ok(())
+}
+
+/// The names of the files in a folder.
+#[tactic(auto, using(crate::proofs::EffectLemmas::unmoved), unfolding(crate::specs::Effects::contents))]
+pub fn list_files<F: Folders>(
+    alloc: Global,
+    store: &mut F,
+    folder: &Text,
+) -> Result<Vec<Text>, Stop>
+    ensures told { IfOk result (λ names. (t : Tree) → (F.state store.old).tree ≡ Some t → names.items ≡ files_of t folder.now) }
+    ensures does { (o : _) → Does [] (F.state store.old, o) (F.state store.new, o) result }
+    ensures tree { (F.state store.new).tree ≡ (F.state store.old).tree }
+    ensures blames { StoreBlames (F.state store.old) (F.state store.new) result }
+{
+    match store.files(alloc, folder) {
+        Ok(names) => Ok(names),
+        Err(StoreFault::Failed) => Err(Stop::ReadFault),
+        Err(StoreFault::NoMemory) => Err(Stop::NoMemory),
+    }
+}

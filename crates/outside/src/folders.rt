@@ -1,0 +1,82 @@
+//! Folders of files.
+ghost use Rattle.std.specs.Prelude.{◌≡◌, [], ℕ, ◌≤◌, List, Option, Some, IfOk, OnOk, OnErr, IsErrOf, option_map, is_some, if◌then◌else◌};
+ghost use Rattle.std.specs.List.Sorted.{IsStrictlySortedBy};
+ghost use Rattle.outside.specs.Counts.{Rose, risen};
+ghost use Rattle.outside.specs.States.{StoreState};
+ghost use Rattle.ss_text.specs.Texts.{text_cmp};
+ghost use Rattle.outside.specs.Tree.{Tree, file_at, files_of, subfolders_of, folder_path, with_file, without_file, MayBreakOff};
+
+use crate::StoreFault;
+use ss_text::Text;
+use std::alloc::Global;
+
+/// Folders of files. A folder's name is its parts joined by `/`.
+pub trait Folders {
+    /// What is known of it.
+    ghost state: { Self → StoreState };
+
+    /// The names of the folders right in a folder, ascending. A missing folder has none.
+    fn subfolders(&mut self, alloc: Global, folder: &Text) -> Result<Vec<Text>, StoreFault>
+        ensures told { IfOk result (λ names. (t : Tree) → (state self.old).tree ≡ Some t → names.items ≡ subfolders_of t folder.now) }
+        ensures ascending { IfOk result (λ names. IsStrictlySortedBy text_cmp names.items) }
+        ensures failed { IsErrOf result StoreFault.Failed → Rose ((state self.old).read_faults) ((state self.new).read_faults) }
+        ensures steady { (state self.old).read_faults ≤ (state self.new).read_faults }
+        ensures tree { (state self.new).tree ≡ (state self.old).tree }
+        ensures writes { (state self.new).writes ≡ (state self.old).writes }
+        ensures write_faults { (state self.new).write_faults ≡ (state self.old).write_faults };
+
+    /// The names of the files in a folder, ascending. A missing folder has none.
+    fn files(&mut self, alloc: Global, folder: &Text) -> Result<Vec<Text>, StoreFault>
+        ensures told { IfOk result (λ names. (t : Tree) → (state self.old).tree ≡ Some t → names.items ≡ files_of t folder.now) }
+        ensures ascending { IfOk result (λ names. IsStrictlySortedBy text_cmp names.items) }
+        ensures failed { IsErrOf result StoreFault.Failed → Rose ((state self.old).read_faults) ((state self.new).read_faults) }
+        ensures steady { (state self.old).read_faults ≤ (state self.new).read_faults }
+        ensures tree { (state self.new).tree ≡ (state self.old).tree }
+        ensures writes { (state self.new).writes ≡ (state self.old).writes }
+        ensures write_faults { (state self.new).write_faults ≡ (state self.old).write_faults };
+
+    /// What a file holds, or nothing where it is missing.
+    fn read(
+        &mut self,
+        alloc: Global,
+        folder: &Text,
+        file: &Text,
+    ) -> Result<Option<Text>, StoreFault>
+        ensures told { IfOk result (λ bytes. (t : Tree) → (state self.old).tree ≡ Some t → bytes ≡ file_at t folder.now file.now) }
+        ensures failed { IsErrOf result StoreFault.Failed → Rose ((state self.old).read_faults) ((state self.new).read_faults) }
+        ensures steady { (state self.old).read_faults ≤ (state self.new).read_faults }
+        ensures tree { (state self.new).tree ≡ (state self.old).tree }
+        ensures writes { (state self.new).writes ≡ (state self.old).writes }
+        ensures write_faults { (state self.new).write_faults ≡ (state self.old).write_faults };
+
+    /// Gives a file these bytes, and makes its folder and those above it where they are missing.
+    fn write(
+        &mut self,
+        alloc: Global,
+        folder: &Text,
+        file: &Text,
+        bytes: &[u8],
+    ) -> Result<(), StoreFault>
+        ensures ok { OnOk result ((state self.new).tree ≡ option_map (with_file folder.now file.now bytes.now) ((state self.old).tree)) }
+        ensures counted { OnOk result ((state self.new).writes ≡ risen ((state self.old).writes) 1) }
+        ensures broke_off { IsErrOf result StoreFault.Failed → MayBreakOff (folder_path folder.now) folder.now file.now ((state self.old).tree) ((state self.new).tree) }
+        ensures failed { IsErrOf result StoreFault.Failed → Rose ((state self.old).write_faults) ((state self.new).write_faults) }
+        ensures steady { (state self.old).write_faults ≤ (state self.new).write_faults }
+        ensures uncounted { OnErr result ((state self.new).writes ≡ (state self.old).writes) }
+        ensures no_memory { IsErrOf result StoreFault.NoMemory → (state self.new).tree ≡ (state self.old).tree }
+        ensures no_fault { IsErrOf result StoreFault.NoMemory → (state self.new).write_faults ≡ (state self.old).write_faults }
+        ensures read_faults { (state self.new).read_faults ≡ (state self.old).read_faults };
+
+    /// Removes a file, and answers whether it was there.
+    fn remove(&mut self, alloc: Global, folder: &Text, file: &Text) -> Result<bool, StoreFault>
+        ensures was { IfOk result (λ was. (t : Tree) → (state self.old).tree ≡ Some t → was ≡ is_some (file_at t folder.now file.now)) }
+        ensures ok { OnOk result ((state self.new).tree ≡ option_map (without_file folder.now file.now) ((state self.old).tree)) }
+        ensures counted { IfOk result (λ was. (state self.new).writes ≡ (if was then risen ((state self.old).writes) 1 else (state self.old).writes)) }
+        ensures broke_off { IsErrOf result StoreFault.Failed → MayBreakOff [] folder.now file.now ((state self.old).tree) ((state self.new).tree) }
+        ensures failed { IsErrOf result StoreFault.Failed → Rose ((state self.old).write_faults) ((state self.new).write_faults) }
+        ensures steady { (state self.old).write_faults ≤ (state self.new).write_faults }
+        ensures uncounted { OnErr result ((state self.new).writes ≡ (state self.old).writes) }
+        ensures no_memory { IsErrOf result StoreFault.NoMemory → (state self.new).tree ≡ (state self.old).tree }
+        ensures no_fault { IsErrOf result StoreFault.NoMemory → (state self.new).write_faults ≡ (state self.old).write_faults }
+        ensures read_faults { (state self.new).read_faults ≡ (state self.old).read_faults };
+}

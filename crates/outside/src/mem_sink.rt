@@ -1,0 +1,81 @@
+//! A sink in memory.
+ghost use Rattle.std.specs.Prelude.{◌≡◌, ◌<◌, ◌≤◌, [], Some, true, All, length, take, min, ◌↔◌, OnOk, OnErr, IfOk, IsErrOf};
+ghost use Rattle.outside.specs.Counts.{Rose};
+ghost use Rattle.outside.specs.Calls.{faults_of, next_call, next_fails};
+ghost use Rattle.outside.specs.Streams.{with_bytes};
+
+use crate::numbering::Numbering;
+use crate::{Sink, StoreFault};
+use std::alloc::Global;
+use std::marker::Model;
+
+/// A sink that keeps what it is given, takes at most so many bytes a call, and fails at the calls
+/// with these numbers, counted from 1.
+#[derive(Drop)]
+pub struct MemSink {
+    bytes: Vec<u8>,
+    most: usize,
+    calls: Numbering,
+}
+
+impl Model for MemSink {
+    ghost use Rattle.std.specs.Prelude.{◌<◌};
+    ghost use Rattle.outside.specs.MemStreams.{MemSinkState};
+
+    ghost Value = { MemSinkState };
+
+    ghost view = { λ s. record { held = s.bytes.items; most = s.most; calls = s.calls } };
+
+    ghost invariant = { λ s. 0 < s.most };
+}
+
+impl MemSink {
+    /// An empty sink.
+    pub fn of(alloc: Global, most: usize, fails: Vec<u64>) -> MemSink
+        requires most { 0 < most }
+        requires fails { All (λ k. k < 18446744073709551615) fails.items }
+        ensures { result ≡ record { held = []; most = most; calls = record { fails = fails.items; calls = 0 } } }
+    {
+        MemSink {
+            bytes: Vec::new(alloc),
+            most,
+            calls: Numbering::of(fails),
+        }
+    }
+
+    /// What it holds.
+    pub fn bytes(&self) -> &[u8]
+        ensures { result.now ≡ self.now.held }
+    {
+        self.bytes.as_slice()
+    }
+}
+
+impl Sink for MemSink {
+    ghost state = { λ s. record { held = Some s.held; faults = faults_of s.calls } };
+
+    fn write(&mut self, _alloc: Global, piece: &[u8]) -> Result<usize, StoreFault>
+        ensures count { IfOk result (λ n. n ≤ length piece.now) }
+        ensures some { 0 < length piece.now → IfOk result (λ n. 0 < n) }
+        ensures held { IfOk result (λ n. Some self.new.held ≡ with_bytes (take n piece.now) (Some self.old.held)) }
+        ensures err { OnErr result (Some self.new.held ≡ Some self.old.held) }
+        ensures failed { IsErrOf result StoreFault.Failed → Rose (faults_of self.old.calls) (faults_of self.new.calls) }
+        ensures steady { faults_of self.old.calls ≤ faults_of self.new.calls }
+
+        // What is particular to it.
+        ensures takes { IfOk result (λ n. n ≡ min (length piece.now) self.old.most) }
+        ensures fails { IsErrOf result StoreFault.Failed ↔ (next_fails self.old.calls ≡ true) }
+        ensures counted { OnOk result (self.new.calls ≡ next_call self.old.calls) }
+        ensures counted_failed { IsErrOf result StoreFault.Failed → self.new.calls ≡ next_call self.old.calls }
+        ensures uncounted { IsErrOf result StoreFault.NoMemory → self.new.calls ≡ self.old.calls }
+    {
+        if self.calls.next_fails() {
+            self.calls.count();
+            return Err(StoreFault::Failed);
+        }
+        let n = piece.len().min(self.most);
+        self.bytes.extend_from_slice(&piece[..n])?;
+        self.calls.count();
+        Ok(n)
+    }
+}

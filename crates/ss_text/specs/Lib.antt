@@ -1,0 +1,5 @@
+pub mod Texts
+pub mod Ascending
+pub mod Places
+pub mod Label
+pub mod Whole

@@ -1,0 +1,8 @@
+-- Changes of one element of a list.
+use Rattle.std.specs.Prelude.{ℕ, zero, suc, List, [], ◌∷◌}
+
+-- the list with the element at a place changed; a list that has no such place stays
+abbrev pub at_place : {A : Type 0} → ℕ → (A → A) → List A → List A
+at_place i f [] = []
+at_place zero f (x ∷ xs) = f x ∷ xs
+at_place (suc i) f (x ∷ xs) = x ∷ at_place i f xs

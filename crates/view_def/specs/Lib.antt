@@ -1,0 +1,4 @@
+pub mod Conditions
+pub mod Query
+pub mod RawConditions
+pub mod Tree
