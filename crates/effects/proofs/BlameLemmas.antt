@@ -1,10 +1,9 @@
 -- Counts of faults, call by call.
-use Rattle.std.proofs.Common.{◌≡◌, ℕ, ◌≤◌, arith, inl, inr}
+use Rattle.std.proofs.Common.{arith, inl, inr}
 use Rattle.std.specs.Prelude.{Result, Ok, Err}
-use Rattle.outside.specs.Counts.{Rose}
 use Rattle.outside.specs.States.{StoreState, SinkState}
 use Rattle.effects.specs.Effects.{World}
-use Rattle.effects.specs.Blame.{Steady, Because, StopCause, StoreStop, SinkStop, Blames, StoreCause, StoreBlames, SinkCause, SinkBlames}
+use Rattle.effects.specs.Blame.{Steady, StopCause, StoreStop, SinkStop, Blames, StoreBlames, SinkBlames}
 use Rattle.effects.specs.declared.stop.Stop.{Stop}
 use Rattle.effects.specs.declared.stop.Stop.TheVariants as stop
 

@@ -1,18 +1,13 @@
 -- Effects that follow one another, and what broke off.
-use Rattle.std.proofs.Common.{◌≡◌, ℕ, ◌+◌, ◌≤◌, List, [], ◌∷◌, ◌++◌, length, take, drop, Option, None, Some, ◌⊎◌, inl, inr, refl, sym, ap, ◌∙◌, subst, append_assoc, arith, ◌-◌, ◌<◌, length-drop}
-use Rattle.std.proofs.Math.Seq.{take-add}
+use Rattle.std.proofs.Common.{◌≡◌, ℕ, suc, map, get_or, add-one, drop-cons, ◌+◌, ◌≤◌, List, [], ◌∷◌, ◌++◌, length, take, drop, Option, None, Some, ◌⊎◌, inl, inr, refl, sym, ap, ◌∙◌, subst, append_assoc, arith, ◌-◌, ◌<◌, length-drop}
+use Rattle.std.proofs.Math.Seq.{take-add, drop-length}
 use Rattle.std.proofs.lemmas.List.{take_rest, take-append-le}
 use Rattle.std.proofs.Math.Seq.{take-append-add}
 use Rattle.std.proofs.lemmas.Bool.Decides.{leb_tells}
-use Rattle.std.specs.Prelude.{Result, Ok, Err}
 use Rattle.outside.specs.Streams.{with_bytes}
 use Rattle.outside.specs.States.{StoreState, SinkState}
-use Rattle.outside.specs.Counts.{Rose}
-use Rattle.outside.specs.Tree.{Tree, folder_path, MayBreakOff, BrokeOff}
-use Rattle.effects.specs.Effects.{Effect, Write, Remove, Print, Stored, Contents, World, stored_of, contents, after, performed, Torn, Off, Partly, Does, Doing}
-use Rattle.effects.specs.Blame.{Steady, Because, Blames}
-use Rattle.effects.specs.declared.stop.Stop.{Stop}
-use Rattle.effects.specs.declared.stop.Stop.TheVariants as stop
+use Rattle.outside.specs.Tree.{Tree, folder_path, MayBreakOff}
+use Rattle.effects.specs.Effects.{Effect, Write, Remove, Print, Contents, stored_of, contents, after, performed, Torn, Partly, Doing}
 
 pub performed_append : (es fs : List Effect) (c : Contents) → performed (es ++ fs) c ≡ performed fs (performed es c)
 performed_append [] fs c = refl
@@ -96,6 +91,20 @@ append_none (x ∷ xs) = ap (λ t. x ∷ t) (append_none xs)
 
 pub doing_end : (all : List Effect) (old now : Contents) → Doing all [] old now → now ≡ performed all old
 doing_end all old now d = d.done ∙ ap (λ es. performed es old) (sym (d.are ∙ append_none d.did))
+
+-- a loop that does one effect for each element: what is left is that of the elements that are left
+module _ {A : Type 0} (f : A → Effect) where
+  left_at : (xs : List A) (i : ℕ) (x : A) → i < length xs → x ≡ get_or xs i x → map f (drop i xs) ≡ f x ∷ map f (drop (i + 1) xs)
+  left_at xs i x lt is = rw (add-one, drop-cons xs i x) (ap (λ y. f y ∷ map f (drop (suc i) xs)) (sym is))
+
+  pub each_done : (xs : List A) (i : ℕ) (x : A) (all : List Effect) (old now new : Contents) → i < length xs → x ≡ get_or xs i x → Doing all (map f (drop i xs)) old now → new ≡ performed (f x ∷ []) now → Doing all (map f (drop (i + 1) xs)) old new
+  each_done xs i x all old now new lt is d h = doing_one all (f x) (map f (drop (i + 1) xs)) old now new (subst (λ (es : List Effect). Doing all es old now) (left_at xs i x lt is) d) h
+
+  pub each_stops : (xs : List A) (i : ℕ) (x : A) (all : List Effect) (old now new : Contents) → i < length xs → x ≡ get_or xs i x → Doing all (map f (drop i xs)) old now → Partly (f x ∷ []) now new → Partly all old new
+  each_stops xs i x all old now new lt is d h = doing_one_stops all (f x) (map f (drop (i + 1) xs)) old now new (subst (λ (es : List Effect). Doing all es old now) (left_at xs i x lt is) d) h
+
+  pub each_ends : (xs : List A) (i : ℕ) (all : List Effect) (old now : Contents) → i ≡ length xs → Doing all (map f (drop i xs)) old now → now ≡ performed all old
+  each_ends xs i all old now e d = doing_end all old now (subst (λ (ys : List A). Doing all (map f ys) old now) (ap (λ n. drop n xs) e ∙ drop-length xs) d)
 
 pub first_off : (e : Effect) (es : List Effect) (old new : Contents) → Partly (e ∷ []) old new → Partly (e ∷ es) old new
 first_off e es old new h = partly_more (e ∷ []) es old new h

@@ -1,5 +1,5 @@
 -- When a run may stop.
-use Rattle.std.specs.Prelude.{ℕ, ◌≤◌, ◌⊎◌, Result, Ok, Err, ⊤}
+use Rattle.std.specs.Prelude.{◌≤◌, ◌⊎◌, Result, Ok, Err, ⊤}
 use Rattle.outside.specs.Counts.{Rose}
 use Rattle.outside.specs.States.{StoreState, SinkState}
 use Rattle.effects.specs.Effects.{World}

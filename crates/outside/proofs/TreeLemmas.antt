@@ -158,12 +158,3 @@ told_broke_off path folder file t u h = record {
   untold = λ e. absurd (cc);
   told = λ x e. (u, refl, subst (λ (y : Tree). BrokeOff path folder file y u) (ap (λ o. unwrap_or o t) e) h);
 }
-
-pub has_named : (ks : List (List ℕ)) (q : List ℕ) → map.contains_key (folder_set ks) q ≡ list_any (is_at (text_cmp q)) ks
-has_named ks q = ap is_some (get_named ks q) ∙ some_if (list_any (is_at (text_cmp q)) ks) tt
-
--- no names ascend
-pub none_ascend : (ks : List (List ℕ)) → ks ≡ [] → IsStrictlySortedBy text_cmp ks
-unfolding IsStrictlySortedBy
-none_ascend [] h = tt
-none_ascend (k ∷ ks) h = absurd (cc)

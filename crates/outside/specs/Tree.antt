@@ -29,7 +29,7 @@ names_in folder (place ∷ places) = if bytes_eq place.0 folder then place.1 ∷
 
 -- the names of the files in a folder, ascending
 abbrev pub files_of : Tree → List ℕ → List (List ℕ)
-files_of t folder = if map.contains_key t.folders folder then names_in folder (map.keys t.files) else []
+files_of t folder = names_in folder (map.keys t.files)
 
 -- what stands before each `/` among the first n bytes
 abbrev pub fronts : List ℕ → ℕ → List (List ℕ)

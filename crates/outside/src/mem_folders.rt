@@ -91,15 +91,10 @@ impl Folders for MemFolders {
         Ok(names)
     }
 
-    #[tactic(auto, using(crate::proofs::TreeLemmas::none_ascend))]
     fn files(&mut self, alloc: Global, folder: &Text) -> Result<Vec<Text>, StoreFault> {
         if self.reads.next_fails() {
             self.reads.count();
             return Err(StoreFault::Failed);
-        }
-        if !paths::is_there(&self.folders, folder) {
-            self.reads.count();
-            return Ok(Vec::new(alloc));
         }
         let names = places::names(alloc, &self.files, folder)?;
         self.reads.count();

@@ -48,14 +48,6 @@ fn folder_path(alloc: Global, folder: &Text) -> Result<Vec<Text>, NoMemory>
     Ok(path)
 }
 
-/// Whether a folder is there.
-#[tactic(auto, using(crate::proofs::TreeLemmas::has_named))]
-pub fn is_there(folders: &BTreeSet<Text>, folder: &Text) -> bool
-    ensures { result ≡ map.contains_key (folder_set folders.now.keys) folder.now }
-{
-    folders.contains(folder)
-}
-
 /// The names of the folders right in a folder, ascending.
 #[tactic(auto, using(crate::proofs::TreeLemmas::items_ordered, crate::proofs::TreeLemmas::children_ascend))]
 pub fn children(

@@ -1,0 +1,30 @@
+//! A file of a view folder.
+ghost use Rattle.std.specs.Prelude.{◌≡◌, IfOk};
+ghost use Rattle.view_folder.specs.Files.{is_csv_name, view_folder};
+
+use ss_text::{NoMemory, Text};
+use std::alloc::Global;
+
+/// A file: its name, and its bytes.
+#[derive(Debug, Drop)]
+pub struct File {
+    pub name: Text,
+    pub bytes: Text,
+}
+
+// Whether a name ends in `.csv`.
+pub(crate) fn is_csv_name(name: &Text) -> bool
+    ensures { result ≡ is_csv_name name.now }
+{
+    let bytes = name.as_slice();
+    &bytes[bytes.len().saturating_sub(4)..] == b".csv".as_slice()
+}
+
+/// The folder of a view's database.
+pub fn folder_of_view(alloc: Global, view_db: &Text) -> Result<Text, NoMemory>
+    ensures { IfOk result (λ folder. folder ≡ view_folder view_db.now) }
+{
+    let mut bytes = Vec::from_slice(alloc, b"views/")?;
+    bytes.extend_from_slice(view_db.as_slice())?;
+    Text::of(alloc, &bytes)
+}

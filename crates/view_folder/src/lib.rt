@@ -1,0 +1,11 @@
+//! The files of a view folder.
+//!
+//! Its contract: after the opening sync the folder's `.csv` files are exactly those that are given. It knows
+//! nothing of views, of tables' meaning or of source relations.
+#![tactic(auto)]
+
+mod file;
+mod opening;
+
+pub use file::File;
+pub use opening::sync_opening;

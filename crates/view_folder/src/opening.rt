@@ -1,0 +1,92 @@
+//! The opening sync.
+ghost use Rattle.std.specs.Prelude.{◌≡◌, ◌+◌, ◌≤◌, ◌&&◌, not, List, ℕ, [], ◌∷◌, ◌++◌, length, Some, IfOk, map, filter};
+ghost use Rattle.outside.specs.Tree.{Tree, files_of};
+ghost use Rattle.effects.specs.Effects.{Remove, Does};
+ghost use Rattle.effects.specs.Blame.{StoreBlames};
+ghost use Rattle.view_folder.specs.Files.{is_named, is_csv_name, other_names};
+ghost use Rattle.view_folder.specs.Sync.{written, removed, opening_sync, opening_count};
+
+use crate::File;
+use crate::file::is_csv_name;
+use effects::{Stop, list_files, remove_file, write_file};
+use outside::Folders;
+use ss_text::{NoMemory, Text};
+use std::alloc::Global;
+
+/// Writes these files in order, and then removes every other file of the folder whose name ends in
+/// `.csv`, ascending. Answers how many files were written or removed.
+#[tactic(auto, using(effects::proofs::EffectLemmas::partly_more, effects::proofs::EffectLemmas::partly_later, effects::proofs::EffectLemmas::performed_append, effects::proofs::EffectLemmas::none_off, effects::proofs::EffectLemmas::nothing_yet))]
+pub fn sync_opening<F: Folders>(
+    alloc: Global,
+    store: &mut F,
+    folder: &Text,
+    files: &[File],
+) -> Result<usize, Stop>
+    ensures does { (o : _) (t : Tree) → (F.state store.old).tree ≡ Some t → Does (opening_sync folder.now files.now (files_of t folder.now)) (F.state store.old, o) (F.state store.new, o) result }
+    ensures count { IfOk result (λ n. (t : Tree) → (F.state store.old).tree ≡ Some t → n ≡ opening_count files.now (files_of t folder.now)) }
+    ensures blames { StoreBlames (F.state store.old) (F.state store.new) result }
+{
+    let names = list_files(alloc, store, folder)?;
+    let others = others_among(alloc, files, names)?;
+    write_files(alloc, store, folder, files)?;
+    remove_files(alloc, store, folder, &others)?;
+    Ok(files.len() + others.len())
+}
+
+// Of these names, those that end in `.csv` and are no file's.
+fn others_among(alloc: Global, files: &[File], names: Vec<Text>) -> Result<Vec<Text>, NoMemory>
+    ensures { IfOk result (λ others. others.items ≡ other_names files.now names.items) }
+{
+    let others = names
+        .into_iter()
+        .filter(|name| is_other(files, name))
+        .collect(alloc)?;
+    Ok(others)
+}
+
+fn is_other(files: &[File], name: &Text) -> bool
+    ensures { result ≡ (is_csv_name name.now && not (is_named files.now name.now)) }
+{
+    is_csv_name(name) && !is_named(files, name)
+}
+
+// Whether a file has this name.
+fn is_named(files: &[File], name: &Text) -> bool
+    ensures { result ≡ is_named files.now name.now }
+{
+    files.iter().any(|file| *name == file.name)
+}
+
+// Writes these files, in order.
+#[tactic(auto, using(effects::proofs::EffectLemmas::each_stops, effects::proofs::EffectLemmas::each_ends, effects::proofs::EffectLemmas::doing_all))]
+fn write_files<F: Folders>(
+    alloc: Global,
+    store: &mut F,
+    folder: &Text,
+    files: &[File],
+) -> Result<(), Stop>
+    ensures does { (o : _) → Does (written folder.now files.now) (F.state store.old, o) (F.state store.new, o) result }
+    ensures blames { StoreBlames (F.state store.old) (F.state store.new) result }
+{
+    for file in files {
+        write_file(alloc, store, folder, &file.name, file.bytes.as_slice())?;
+    }
+    Ok(())
+}
+
+// Removes these files, in order.
+#[tactic(auto, using(effects::proofs::EffectLemmas::each_stops, effects::proofs::EffectLemmas::each_ends, effects::proofs::EffectLemmas::doing_all))]
+fn remove_files<F: Folders>(
+    alloc: Global,
+    store: &mut F,
+    folder: &Text,
+    names: &[Text],
+) -> Result<(), Stop>
+    ensures does { (o : _) → Does (removed folder.now names.now) (F.state store.old, o) (F.state store.new, o) result }
+    ensures blames { StoreBlames (F.state store.old) (F.state store.new) result }
+{
+    for name in names {
+        remove_file(alloc, store, folder, name)?;
+    }
+    Ok(())
+}
