@@ -1,0 +1,4 @@
+pub mod AllRecords
+pub mod Canonical
+pub mod RoundTrip
+pub mod WritingLemmas
