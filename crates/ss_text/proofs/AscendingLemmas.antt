@@ -8,7 +8,8 @@ use Rattle.std.specs.FinMap.{put, find, is_sorted, IsAntisymmetric}
 use Rattle.std.specs.FinMap.Entries.{by_order as std_by_order, is_sorted-put, find-put, same_entries}
 use Rattle.std.specs.List.{list_any, items_where_true}
 use Rattle.std.specs.List.Retain.{ReturnsInTurn, IsFiltered, DiffersFromLast}
-use Rattle.std.specs.List.Sorted.{IsPermutation, IsSorted}
+use Rattle.std.specs.List.{AllByRecursion}
+use Rattle.std.specs.List.Sorted.{IsPermutation, IsSorted, IsStrictlySortedBy}
 use Rattle.std.proofs.lemmas.List.Sorted.{list_any-IsPermutation}
 use Rattle.std.proofs.lemmas.Cmp.{tied_itself}
 use Rattle.std.specs.Ordering.{eq_by_cmp, is_lt, is_eq, ordering_reverse}
@@ -101,3 +102,32 @@ module _ {A : Type 0} (R : A → A → Ordering) where
       -- sorted, and then each once
       pub sorted_once : (xs ys zs : List A) → IsPermutation xs ys → IsSorted R ys → IsFiltered (DiffersFromLast E) [] ys zs → zs ≡ ascending R xs
       sorted_once xs ys zs p s h = filtered ys zs s h ∙ sym (ascending_same same xs ys (λ q. list_any-IsPermutation (eq_by_cmp R q) xs ys p))
+
+    below_with : (z x : A) (ys : List A) → R z x ≡ Less → AllByRecursion (λ y. R z y ≡ Less) ys → AllByRecursion (λ y. R z y ≡ Less) (with_element R x ys)
+    below_with z x [] h b = (h, tt)
+    below_with z x (y ∷ ys) h b =
+        elim (R x y) as (λ r. AllByRecursion (λ w. R z w ≡ Less) (by_order r (x ∷ y ∷ ys) (y ∷ ys) (y ∷ with_element R x ys))) [
+          | Less ↦ (h, b)
+          | Equal ↦ b
+          | Greater ↦ (b.0, below_with z x ys h b.1)
+        ]
+
+    below_more : (x y : A) (ys : List A) → R x y ≡ Less → AllByRecursion (λ z. R y z ≡ Less) ys → AllByRecursion (λ z. R x z ≡ Less) ys
+    below_more x y [] h b = tt
+    below_more x y (z ∷ zs) h b = (o.trans x y z h b.0, below_more x y zs h b.1)
+
+    with_ascends : (x : A) (ys : List A) → IsStrictlySortedBy R ys → IsStrictlySortedBy R (with_element R x ys)
+    unfolding IsStrictlySortedBy
+    with_ascends x [] h = (tt, tt)
+    with_ascends x (y ∷ ys) h =
+        elim (R x y) as (λ r. R x y ≡ r → IsStrictlySortedBy R (by_order r (x ∷ y ∷ ys) (y ∷ ys) (y ∷ with_element R x ys))) [
+          | Less ↦ λ e. ((e, below_more x y ys e h.0), h)
+          | Equal ↦ λ _. h
+          | Greater ↦ λ e. (below_with y x ys (o.antisymm y x ∙ ap ordering_reverse e) h.0, with_ascends x ys h.1)
+        ] refl
+
+    -- the elements once each, ascending, do ascend
+    pub ascending_ascends : (xs : List A) → IsStrictlySortedBy R (ascending R xs)
+    unfolding IsStrictlySortedBy
+    ascending_ascends [] = tt
+    ascending_ascends (x ∷ xs) = with_ascends x (ascending R xs) (ascending_ascends xs)

@@ -33,6 +33,15 @@ impl Model for Text {
 }
 
 impl Text {
+    /// The text without bytes, which takes no memory.
+    pub fn empty(alloc: Global) -> Text
+        ensures { result ≡ [] }
+    {
+        Text {
+            bytes: SmallVec::new(alloc),
+        }
+    }
+
     /// The text with these bytes.
     pub fn of(alloc: Global, bytes: &[u8]) -> Result<Text, NoMemory>
         ensures { IfOk result (λ text. text ≡ bytes.now) }
@@ -54,6 +63,16 @@ impl Text {
         ensures { IfOk result (λ text. text ≡ self.now) }
     {
         Text::of(*self.bytes.allocator(), self.as_slice())
+    }
+}
+
+impl From<Vec<u8>> for Text {
+    ghost from_gives = { λ bytes text. text ≡ bytes.items };
+
+    fn from(bytes: Vec<u8>) -> Text {
+        Text {
+            bytes: SmallVec::from_vec(bytes),
+        }
     }
 }
 

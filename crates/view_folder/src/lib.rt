@@ -7,5 +7,5 @@
 mod file;
 mod opening;
 
-pub use file::File;
+pub use file::{File, folder_of_view};
 pub use opening::sync_opening;
