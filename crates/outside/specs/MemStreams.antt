@@ -1,13 +1,18 @@
 -- Streams in memory, as contracts see them.
-use Rattle.std.specs.Prelude.{ℕ, List, [], ◌∷◌, ◌++◌}
+use Rattle.std.specs.Prelude.{ℕ, List, [], ◌∷◌, ◌++◌, drop}
 use Rattle.outside.specs.Calls.{Calls}
 
--- what a source has left, and its calls
+-- the pieces that a source has left, the first of which may be begun, and its calls
 pub record MemSourceState : Type 0 where
-  pub rest : List ℕ
+  pub pieces : List (List ℕ)
   pub calls : Calls
 
--- what a sink holds, how much it takes a call, and its calls
+-- what a sink holds, and how much it takes a call
+pub record SureSinkState : Type 0 where
+  pub held : List ℕ
+  pub most : ℕ
+
+-- and its calls
 pub record MemSinkState : Type 0 where
   pub held : List ℕ
   pub most : ℕ
@@ -17,3 +22,20 @@ pub record MemSinkState : Type 0 where
 abbrev pub joined : List (List ℕ) → List ℕ
 joined [] = []
 joined (piece ∷ pieces) = piece ++ joined pieces
+
+-- the first piece that is not empty
+abbrev pub current_piece : List (List ℕ) → List ℕ
+current_piece [] = []
+current_piece ([] ∷ pieces) = current_piece pieces
+current_piece ((b ∷ bs) ∷ pieces) = b ∷ bs
+
+-- what is left after n bytes of that piece
+abbrev pub pieces_after : ℕ → List (List ℕ) → List (List ℕ)
+pieces_after n [] = []
+pieces_after n ([] ∷ pieces) = pieces_after n pieces
+pieces_after n ((b ∷ bs) ∷ pieces) = drop n (b ∷ bs) ∷ pieces
+
+-- these pieces, of which the first n bytes are used
+abbrev pub begun : ℕ → List (List ℕ) → List (List ℕ)
+begun n [] = []
+begun n (piece ∷ pieces) = drop n piece ∷ pieces

@@ -1,42 +1,35 @@
 //! Folders in memory.
-ghost use Rattle.std.specs.Prelude.{◌≡◌, ◌<◌, All, Some, IfOk, OnOk, OnErr};
+ghost use Rattle.std.specs.Prelude.{◌≡◌, ◌/◌, ◌<◌, ◌≤◌, [], All, Some, true, false, length, take, ◌↔◌, IfOk, OnOk, OnErr, IsErrOf, option_map, is_some, if◌then◌else◌};
 ghost use Rattle.std.specs.FinMap as map;
-ghost use Rattle.outside.specs.Calls.{faults_of};
-ghost use Rattle.outside.specs.Tree.{with_file};
+ghost use Rattle.std.specs.List.Sorted.{IsStrictlySortedBy};
+ghost use Rattle.ss_text.specs.Texts.{text_cmp};
+ghost use Rattle.outside.specs.Counts.{Rose, risen};
+ghost use Rattle.outside.specs.Calls.{faults_of, next_fails, CountedUnlessNoMemory};
+ghost use Rattle.outside.specs.Tree.{Tree, file_at, files_of, subfolders_of, folder_path, with_file, without_file, MayBreakOff};
 
 use crate::numbering::Numbering;
-use crate::places::Files;
-use crate::{Folders, StoreFault, paths, places};
+use crate::{Folders, StoreFault, SureFolders};
 use ss_text::{NoMemory, Text};
 use std::alloc::Global;
-use std::collections::{BTreeMap, BTreeSet};
 use std::marker::Model;
 
-/// Folders in memory, of which the calls with these numbers fail.
+/// Folders in memory, of which the calls with these numbers fail, counted from 1: those that read
+/// in one numbering, those that write or remove in another.
 #[derive(Drop)]
 pub struct MemFolders {
-    folders: BTreeSet<Text>,
-    files: Files,
+    store: SureFolders,
     reads: Numbering,
     changes: Numbering,
-    writes: u64,
 }
 
 impl Model for MemFolders {
-    ghost use Rattle.std.specs.FinMap as map;
-    ghost use Rattle.outside.specs.Tree.{files_map, folder_set};
     ghost use Rattle.outside.specs.MemTree.{MemFoldersState, coded_state};
 
     ghost Value = { MemFoldersState };
 
     ghost coded = { coded_state };
 
-    ghost view = { λ s. record {
-      tree = record { folders = folder_set s.folders.keys; files = files_map s.files.entries };
-      reads = s.reads;
-      changes = s.changes;
-      writes = s.writes;
-    } };
+    ghost view = { λ s. record { tree = s.store.tree; writes = s.store.writes; reads = s.reads; changes = s.changes } };
 }
 
 impl MemFolders {
@@ -46,17 +39,15 @@ impl MemFolders {
         requires writes { All (λ k. k < 18446744073709551615) write_fails.items }
         ensures { result ≡ record {
           tree = record { folders = map.empty; files = map.empty };
+          writes = 0;
           reads = record { fails = read_fails.items; calls = 0 };
           changes = record { fails = write_fails.items; calls = 0 };
-          writes = 0;
         } }
     {
         MemFolders {
-            folders: BTreeSet::new(alloc),
-            files: BTreeMap::new(alloc),
+            store: SureFolders::of(alloc),
             reads: Numbering::of(read_fails),
             changes: Numbering::of(write_fails),
-            writes: 0,
         }
     }
 
@@ -71,32 +62,55 @@ impl MemFolders {
         ensures ok { OnOk result (self.new ≡ record self.old { tree = with_file folder.now file.now bytes.now self.old.tree }) }
         ensures err { OnErr result (self.new ≡ self.old) }
     {
-        let folders = paths::with_path(alloc, &self.folders, folder)?;
-        places::put(alloc, &mut self.files, folder, file, bytes)?;
-        self.folders = folders;
-        Ok(())
+        self.store.put(alloc, folder, file, bytes)
     }
 }
 
 impl Folders for MemFolders {
     ghost state = { λ s. record { tree = Some s.tree; writes = s.writes; read_faults = faults_of s.reads; write_faults = faults_of s.changes } };
 
-    fn subfolders(&mut self, alloc: Global, folder: &Text) -> Result<Vec<Text>, StoreFault> {
+    fn subfolders(&mut self, alloc: Global, folder: &Text) -> Result<Vec<Text>, StoreFault>
+        ensures told { IfOk result (λ names. (t : Tree) → Some self.old.tree ≡ Some t → names.items ≡ subfolders_of t folder.now) }
+        ensures ascending { IfOk result (λ names. IsStrictlySortedBy text_cmp names.items) }
+        ensures failed { IsErrOf result StoreFault.Failed → Rose (faults_of self.old.reads) (faults_of self.new.reads) }
+        ensures steady { faults_of self.old.reads ≤ faults_of self.new.reads }
+        ensures tree { Some self.new.tree ≡ Some self.old.tree }
+        ensures writes { self.new.writes ≡ self.old.writes }
+        ensures write_faults { faults_of self.new.changes ≡ faults_of self.old.changes }
+
+        // What is particular to it.
+        ensures fails { IsErrOf result StoreFault.Failed ↔ (next_fails self.old.reads ≡ true) }
+        ensures numbered { CountedUnlessNoMemory result self.old.reads self.new.reads }
+        ensures changes { self.new.changes ≡ self.old.changes }
+    {
         if self.reads.next_fails() {
             self.reads.count();
             return Err(StoreFault::Failed);
         }
-        let names = paths::children(alloc, &self.folders, folder)?;
+        let names = self.store.subfolders(alloc, folder)?;
         self.reads.count();
         Ok(names)
     }
 
-    fn files(&mut self, alloc: Global, folder: &Text) -> Result<Vec<Text>, StoreFault> {
+    fn files(&mut self, alloc: Global, folder: &Text) -> Result<Vec<Text>, StoreFault>
+        ensures told { IfOk result (λ names. (t : Tree) → Some self.old.tree ≡ Some t → names.items ≡ files_of t folder.now) }
+        ensures ascending { IfOk result (λ names. IsStrictlySortedBy text_cmp names.items) }
+        ensures failed { IsErrOf result StoreFault.Failed → Rose (faults_of self.old.reads) (faults_of self.new.reads) }
+        ensures steady { faults_of self.old.reads ≤ faults_of self.new.reads }
+        ensures tree { Some self.new.tree ≡ Some self.old.tree }
+        ensures writes { self.new.writes ≡ self.old.writes }
+        ensures write_faults { faults_of self.new.changes ≡ faults_of self.old.changes }
+
+        // What is particular to it.
+        ensures fails { IsErrOf result StoreFault.Failed ↔ (next_fails self.old.reads ≡ true) }
+        ensures numbered { CountedUnlessNoMemory result self.old.reads self.new.reads }
+        ensures changes { self.new.changes ≡ self.old.changes }
+    {
         if self.reads.next_fails() {
             self.reads.count();
             return Err(StoreFault::Failed);
         }
-        let names = places::names(alloc, &self.files, folder)?;
+        let names = self.store.files(alloc, folder)?;
         self.reads.count();
         Ok(names)
     }
@@ -106,12 +120,24 @@ impl Folders for MemFolders {
         alloc: Global,
         folder: &Text,
         file: &Text,
-    ) -> Result<Option<Text>, StoreFault> {
+    ) -> Result<Option<Text>, StoreFault>
+        ensures told { IfOk result (λ bytes. (t : Tree) → Some self.old.tree ≡ Some t → bytes ≡ file_at t folder.now file.now) }
+        ensures failed { IsErrOf result StoreFault.Failed → Rose (faults_of self.old.reads) (faults_of self.new.reads) }
+        ensures steady { faults_of self.old.reads ≤ faults_of self.new.reads }
+        ensures tree { Some self.new.tree ≡ Some self.old.tree }
+        ensures writes { self.new.writes ≡ self.old.writes }
+        ensures write_faults { faults_of self.new.changes ≡ faults_of self.old.changes }
+
+        // What is particular to it.
+        ensures fails { IsErrOf result StoreFault.Failed ↔ (next_fails self.old.reads ≡ true) }
+        ensures numbered { CountedUnlessNoMemory result self.old.reads self.new.reads }
+        ensures changes { self.new.changes ≡ self.old.changes }
+    {
         if self.reads.next_fails() {
             self.reads.count();
             return Err(StoreFault::Failed);
         }
-        let bytes = places::find(alloc, &self.files, folder, file)?;
+        let bytes = self.store.read(alloc, folder, file)?;
         self.reads.count();
         Ok(bytes)
     }
@@ -123,29 +149,59 @@ impl Folders for MemFolders {
         folder: &Text,
         file: &Text,
         bytes: &[u8],
-    ) -> Result<(), StoreFault> {
+    ) -> Result<(), StoreFault>
+        ensures ok { OnOk result (Some self.new.tree ≡ option_map (with_file folder.now file.now bytes.now) (Some self.old.tree)) }
+        ensures counted { OnOk result (self.new.writes ≡ risen self.old.writes 1) }
+        ensures broke_off { IsErrOf result StoreFault.Failed → MayBreakOff (folder_path folder.now) folder.now file.now (Some self.old.tree) (Some self.new.tree) }
+        ensures failed { IsErrOf result StoreFault.Failed → Rose (faults_of self.old.changes) (faults_of self.new.changes) }
+        ensures steady { faults_of self.old.changes ≤ faults_of self.new.changes }
+        ensures uncounted { OnErr result (self.new.writes ≡ self.old.writes) }
+        ensures no_memory { IsErrOf result StoreFault.NoMemory → Some self.new.tree ≡ Some self.old.tree }
+        ensures no_fault { IsErrOf result StoreFault.NoMemory → faults_of self.new.changes ≡ faults_of self.old.changes }
+        ensures read_faults { faults_of self.new.reads ≡ faults_of self.old.reads }
+
+        // What is particular to it: a call that fails leaves the first half of the bytes.
+        ensures fails { IsErrOf result StoreFault.Failed → next_fails self.old.changes ≡ true }
+        ensures does { OnOk result (next_fails self.old.changes ≡ false) }
+        ensures numbered { CountedUnlessNoMemory result self.old.changes self.new.changes }
+        ensures half { IsErrOf result StoreFault.Failed → self.new.tree ≡ with_file folder.now file.now (take (length bytes.now / 2) bytes.now) self.old.tree }
+        ensures reads { self.new.reads ≡ self.old.reads }
+    {
         if self.changes.next_fails() {
             self.put(alloc, folder, file, &bytes[..bytes.len() / 2])?;
             self.changes.count();
             return Err(StoreFault::Failed);
         }
-        self.put(alloc, folder, file, bytes)?;
+        self.store.write(alloc, folder, file, bytes)?;
         self.changes.count();
-        self.writes = self.writes.saturating_add(1);
         Ok(())
     }
 
     #[tactic(auto, using(crate::proofs::TreeLemmas::told_broke_off, crate::proofs::TreeLemmas::same_broke_off))]
-    fn remove(&mut self, alloc: Global, folder: &Text, file: &Text) -> Result<bool, StoreFault> {
+    fn remove(&mut self, alloc: Global, folder: &Text, file: &Text) -> Result<bool, StoreFault>
+        ensures was { IfOk result (λ was. (t : Tree) → Some self.old.tree ≡ Some t → was ≡ is_some (file_at t folder.now file.now)) }
+        ensures ok { OnOk result (Some self.new.tree ≡ option_map (without_file folder.now file.now) (Some self.old.tree)) }
+        ensures counted { IfOk result (λ was. self.new.writes ≡ (if was then risen self.old.writes 1 else self.old.writes)) }
+        ensures broke_off { IsErrOf result StoreFault.Failed → MayBreakOff [] folder.now file.now (Some self.old.tree) (Some self.new.tree) }
+        ensures failed { IsErrOf result StoreFault.Failed → Rose (faults_of self.old.changes) (faults_of self.new.changes) }
+        ensures steady { faults_of self.old.changes ≤ faults_of self.new.changes }
+        ensures uncounted { OnErr result (self.new.writes ≡ self.old.writes) }
+        ensures no_memory { IsErrOf result StoreFault.NoMemory → Some self.new.tree ≡ Some self.old.tree }
+        ensures no_fault { IsErrOf result StoreFault.NoMemory → faults_of self.new.changes ≡ faults_of self.old.changes }
+        ensures read_faults { faults_of self.new.reads ≡ faults_of self.old.reads }
+
+        // What is particular to it: a call that fails leaves the file.
+        ensures fails { IsErrOf result StoreFault.Failed ↔ (next_fails self.old.changes ≡ true) }
+        ensures numbered { CountedUnlessNoMemory result self.old.changes self.new.changes }
+        ensures stays { OnErr result (self.new.tree ≡ self.old.tree) }
+        ensures reads { self.new.reads ≡ self.old.reads }
+    {
         if self.changes.next_fails() {
             self.changes.count();
             return Err(StoreFault::Failed);
         }
-        let was = places::take(alloc, &mut self.files, folder, file)?;
+        let was = self.store.remove(alloc, folder, file)?;
         self.changes.count();
-        if was {
-            self.writes = self.writes.saturating_add(1);
-        }
         Ok(was)
     }
 }

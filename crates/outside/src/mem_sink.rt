@@ -1,11 +1,11 @@
 //! A sink in memory.
-ghost use Rattle.std.specs.Prelude.{◌≡◌, ◌<◌, ◌≤◌, [], Some, true, All, length, take, min, ◌↔◌, OnOk, OnErr, IfOk, IsErrOf};
+ghost use Rattle.std.specs.Prelude.{◌≡◌, ◌<◌, ◌≤◌, [], Some, true, All, length, take, min, ◌↔◌, OnErr, IfOk, IsErrOf};
 ghost use Rattle.outside.specs.Counts.{Rose};
-ghost use Rattle.outside.specs.Calls.{faults_of, next_call, next_fails};
+ghost use Rattle.outside.specs.Calls.{faults_of, next_fails, CountedUnlessNoMemory};
 ghost use Rattle.outside.specs.Streams.{with_bytes};
 
 use crate::numbering::Numbering;
-use crate::{Sink, StoreFault};
+use crate::{Sink, StoreFault, SureSink};
 use std::alloc::Global;
 use std::marker::Model;
 
@@ -13,20 +13,16 @@ use std::marker::Model;
 /// with these numbers, counted from 1.
 #[derive(Drop)]
 pub struct MemSink {
-    bytes: Vec<u8>,
-    most: usize,
+    sink: SureSink,
     calls: Numbering,
 }
 
 impl Model for MemSink {
-    ghost use Rattle.std.specs.Prelude.{◌<◌};
     ghost use Rattle.outside.specs.MemStreams.{MemSinkState};
 
     ghost Value = { MemSinkState };
 
-    ghost view = { λ s. record { held = s.bytes.items; most = s.most; calls = s.calls } };
-
-    ghost invariant = { λ s. 0 < s.most };
+    ghost view = { λ s. record { held = s.sink.held; most = s.sink.most; calls = s.calls } };
 }
 
 impl MemSink {
@@ -37,8 +33,7 @@ impl MemSink {
         ensures { result ≡ record { held = []; most = most; calls = record { fails = fails.items; calls = 0 } } }
     {
         MemSink {
-            bytes: Vec::new(alloc),
-            most,
+            sink: SureSink::of(alloc, most),
             calls: Numbering::of(fails),
         }
     }
@@ -47,14 +42,14 @@ impl MemSink {
     pub fn bytes(&self) -> &[u8]
         ensures { result.now ≡ self.now.held }
     {
-        self.bytes.as_slice()
+        self.sink.bytes()
     }
 }
 
 impl Sink for MemSink {
     ghost state = { λ s. record { held = Some s.held; faults = faults_of s.calls } };
 
-    fn write(&mut self, _alloc: Global, piece: &[u8]) -> Result<usize, StoreFault>
+    fn write(&mut self, alloc: Global, piece: &[u8]) -> Result<usize, StoreFault>
         ensures count { IfOk result (λ n. n ≤ length piece.now) }
         ensures some { 0 < length piece.now → IfOk result (λ n. 0 < n) }
         ensures held { IfOk result (λ n. Some self.new.held ≡ with_bytes (take n piece.now) (Some self.old.held)) }
@@ -63,18 +58,16 @@ impl Sink for MemSink {
         ensures steady { faults_of self.old.calls ≤ faults_of self.new.calls }
 
         // What is particular to it.
-        ensures takes { IfOk result (λ n. n ≡ min (length piece.now) self.old.most) }
         ensures fails { IsErrOf result StoreFault.Failed ↔ (next_fails self.old.calls ≡ true) }
-        ensures counted { OnOk result (self.new.calls ≡ next_call self.old.calls) }
-        ensures counted_failed { IsErrOf result StoreFault.Failed → self.new.calls ≡ next_call self.old.calls }
-        ensures uncounted { IsErrOf result StoreFault.NoMemory → self.new.calls ≡ self.old.calls }
+        ensures numbered { CountedUnlessNoMemory result self.old.calls self.new.calls }
+        ensures takes { IfOk result (λ n. n ≡ min (length piece.now) self.old.most) }
+        ensures most { self.new.most ≡ self.old.most }
     {
         if self.calls.next_fails() {
             self.calls.count();
             return Err(StoreFault::Failed);
         }
-        let n = piece.len().min(self.most);
-        self.bytes.extend_from_slice(&piece[..n])?;
+        let n = self.sink.write(alloc, piece)?;
         self.calls.count();
         Ok(n)
     }
