@@ -1,0 +1,6 @@
+pub mod Tables
+pub mod InOrder
+pub mod Facts
+pub mod FactTables
+pub mod Script
+pub mod Lines
