@@ -1,5 +1,5 @@
 -- Lists that ascend strictly by a key: what is found at a place, and what changes there come to.
-use Rattle.std.proofs.Common.{◌≡◌, ◌<◌, ◌≤◌, ◌∷◌, [], ℕ, Bool, true, false, List, Some, None, Result, Ok, Err, IfOk, IfErr, refl, sym, ◌∙◌, ap, subst, zero, suc, length, map, take, drop, get_or, arith, slice_index_or}
+use Rattle.std.proofs.Common.{◌≡◌, ◌<◌, ◌≤◌, ◌∷◌, [], ℕ, Bool, true, false, List, Some, None, Result, Ok, Err, IfOk, IfErr, is_ok, refl, sym, ◌∙◌, ap, subst, zero, suc, length, map, take, drop, get_or, arith, slice_index_or}
 use Rattle.std.specs.Prelude.{not, ◌||◌, count_by, insert, remove, filter}
 use Rattle.std.specs.List.{AllByRecursion, AllWithin, find, list_any}
 use Rattle.std.specs.List.Sorted.{IsStrictlySortedBy, IsSearchInRange, IsBinarySearchResult, IsNonDecreasingBy}
@@ -11,6 +11,8 @@ use Rattle.std.specs.Cmp.{IsTotalOrder}
 use Rattle.std.specs.Cmp.Lexicographic.{nat_list_cmp_total, lists_total, texts_ties, lists_ties, slice_cmp}
 use Rattle.std.specs.FinMap.{IsAntisymmetric, nat_cmp-IsAntisymmetric, slice_cmp-IsAntisymmetric}
 use Rattle.std.proofs.lemmas.Cmp.{tied_itself}
+use Rattle.std.proofs.lemmas.Bool.{false≢true}
+use Rattle.std.proofs.lemmas.List.{length-map, take-map, drop-map}
 use Rattle.std.proofs.lemmas.List.Sums.{sum_by-cons}
 use Rattle.ss_text.specs.Texts.{text_cmp, row_cmp, text_eq, row_eq}
 use Rattle.ss_text.specs.Ascending.{with_element}
@@ -244,13 +246,73 @@ module _ {K : Type 0} {R : K → K → Ordering} {E : K → K → Bool} (o : IsK
     dropped P (x ∷ xs) zero h = (h 0 x (omega arith) (omega arith), dropped P xs zero (λ j d low high. h (suc j) d (omega arith) (omega arith)))
     dropped P (x ∷ xs) (suc i) h = dropped P xs i (λ j d low high. h (suc j) d (omega arith) (omega arith))
 
+    -- a key that an element has, has a place; one that none has could stand somewhere
+    pub place_there : (k : K) (xs : List A) → list_any (λ x. E k (key x)) xs ≡ true → (i : ℕ) × IsPlaceOf key k xs i
+    place_there k [] h = absurd (cc)
+    place_there k (x ∷ xs) h = here (E k (key x)) refl (λ e. place_there k xs (rw e at h))
+      where
+        later : (i : ℕ) × IsPlaceOf key k xs i → (i : ℕ) × IsPlaceOf key k (x ∷ xs) i
+        later (i, at) = (suc i, record { within = omega (arith, at.within); has_key = at.has_key })
+
+        here : (b : Bool) → E k (key x) ≡ b → (E k (key x) ≡ false → (i : ℕ) × IsPlaceOf key k xs i) → (i : ℕ) × IsPlaceOf key k (x ∷ xs) i
+        here true e rest = (0, record { within = omega arith; has_key = λ d. sym (equal_is k (key x) e) })
+        here false e rest = later (rest e)
+
+    all_behind : (k : K) (x : A) (xs : List A) → R k (key x) ≡ Less → AllByRecursion (λ y. R (key x) y ≡ Less) (map key xs) → AllByRecursion (λ y. R (key y) k ≡ Greater) xs
+    all_behind k x [] lt h = tt
+    all_behind k x (y ∷ ys) lt h = (less_turned k (key y) (o.total.trans k (key x) (key y) lt h.0), all_behind k x ys lt h.1)
+
+    pub place_missing : (k : K) (xs : List A) → Ascends xs → list_any (λ x. E k (key x)) xs ≡ false → (i : ℕ) × IsPlaceFor R key k xs i
+    unfolding IsStrictlySortedBy
+    place_missing k [] s h = (0, record { within = omega arith; before = tt; after = tt })
+    place_missing k (x ∷ xs) s h = here (R (key x) k) refl (λ e. place_missing k xs s.1 (rw (less_differs (key x) k e) at h))
+      where
+        later : R (key x) k ≡ Less → (i : ℕ) × IsPlaceFor R key k xs i → (i : ℕ) × IsPlaceFor R key k (x ∷ xs) i
+        later e (i, gap) = (suc i, record { within = omega (arith, gap.within); before = (e, gap.before); after = gap.after })
+
+        here : (r : Ordering) → R (key x) k ≡ r → (R (key x) k ≡ Less → (i : ℕ) × IsPlaceFor R key k xs i) → (i : ℕ) × IsPlaceFor R key k (x ∷ xs) i
+        here Less e rest = later e (rest e)
+        here Equal e rest = absurd (false≢true (sym h ∙ ap (λ b. b || list_any (λ y. E k (key y)) xs) (o.ties k (key x) ∙ ap is_eq (o.total.antisymm k (key x) ∙ ap ordering_reverse e))))
+        here Greater e rest = (0, record { within = omega arith; before = tt; after = (e, all_behind k x xs (greater_turned (key x) k e) s.0) })
+
     -- what a binary search answers
     pub searched : (k : K) (xs : List A) (r : Result ℕ ℕ) → Ascends xs → IsSearchInRange r (length xs) → IsBinarySearchResult (λ y. R (key y) k) xs r
-        → record { found : IfOk r (IsPlaceOf key k xs); absent : IfErr r (IsPlaceFor R key k xs) }
-    searched k xs (Ok i) s bound at = record { found = record { within = bound; has_key = λ d. o.same _ k (at d) }; absent = tt }
+        → record { there : is_ok r ≡ list_any (λ x. E k (key x)) xs; found : IfOk r (IsPlaceOf key k xs); absent : IfErr r (IsPlaceFor R key k xs) }
+    searched k xs (Ok i) s bound at =
+        let place : IsPlaceOf key k xs i = record { within = bound; has_key = λ d. o.same _ k (at d) } in
+        record { there = sym (has_any k xs i place); found = place; absent = tt }
     searched k xs (Err i) s bound parted =
         let parts = parted (comparisons_rise k xs s) in
-        record { found = tt; absent = record { within = bound; before = taken (λ x. R (key x) k ≡ Less) xs i parts.0 bound; after = dropped (λ x. R (key x) k ≡ Greater) xs i parts.1 } }
+        let place : IsPlaceFor R key k xs i = record { within = bound; before = taken (λ x. R (key x) k ≡ Less) xs i parts.0 bound; after = dropped (λ x. R (key x) k ≡ Greater) xs i parts.1 } in
+        record { there = sym (lacks_any k xs (lacks_for k xs i place)); found = tt; absent = place }
+
+    -- places among elements that are seen as others
+    module _ {B : Type 0} (seen : B → A) where
+      pub place_of_seen : (k : K) (xs : List B) (i : ℕ) → IsPlaceOf (λ x. key (seen x)) k xs i → IsPlaceOf key k (map seen xs) i
+      place_of_seen k [] i at = absurd (omega (arith, at.within))
+      place_of_seen k (x ∷ xs) zero at = record { within = rw (length-map xs seen) at.within; has_key = λ d. at.has_key x }
+      place_of_seen k (x ∷ xs) (suc i) at =
+          let rest = place_of_seen k xs i (record { within = omega (arith, at.within); has_key = at.has_key }) in
+          record { within = omega (arith, rest.within); has_key = rest.has_key }
+
+      all_seen : (P : K → Type 0) (xs : List B) → AllByRecursion (λ x. P (key (seen x))) xs → AllByRecursion (λ x. P (key x)) (map seen xs)
+      all_seen P [] h = tt
+      all_seen P (x ∷ xs) h = (h.0, all_seen P xs h.1)
+
+      pub place_for_seen : (k : K) (xs : List B) (i : ℕ) → IsPlaceFor R (λ x. key (seen x)) k xs i → IsPlaceFor R key k (map seen xs) i
+      place_for_seen k xs i gap = record {
+        within = rw (length-map xs seen) gap.within;
+        before = rw (take-map seen i xs) (all_seen (λ j. R j k ≡ Less) (take i xs) gap.before);
+        after = rw (drop-map seen i xs) (all_seen (λ j. R j k ≡ Greater) (drop i xs) gap.after);
+      }
+
+      pub keys_seen : (xs : List B) → map key (map seen xs) ≡ map (λ x. key (seen x)) xs
+      keys_seen [] = refl
+      keys_seen (x ∷ xs) = ap (λ ks. key (seen x) ∷ ks) (keys_seen xs)
+
+      pub any_seen : (p : A → Bool) (xs : List B) → list_any p (map seen xs) ≡ list_any (λ x. p (seen x)) xs
+      any_seen p [] = refl
+      any_seen p (x ∷ xs) = ap (λ b. p (seen x) || b) (any_seen p xs)
 
   -- the value of a key in a list of pairs
   module _ {X : Type 0} where
@@ -267,3 +329,14 @@ module _ {K : Type 0} {R : K → K → Ordering} {E : K → K → Bool} (o : IsK
     lookup_at k (e ∷ es) (suc i) d s at =
         let later = at_tail (λ (e : K × X). e.0) k e es i at in
         rw (earlier_differs (λ (e : K × X). e.0) k e es i s.0 later) (lookup_at k es i d s.1 later)
+
+-- what a binary search answers, of elements that are seen as others
+pub searched_seen : {K A B : Type 0} {R : K → K → Ordering} {E : K → K → Bool} (o : IsKeyOrder R E) (key : A → K) (seen : B → A) (k : K) (xs : List B) (r : Result ℕ ℕ)
+    → IsStrictlySortedBy R (map key (map seen xs)) → IsSearchInRange r (length xs) → IsBinarySearchResult (λ y. R (key (seen y)) k) xs r
+    → record { there : is_ok r ≡ list_any (λ x. E k (key x)) (map seen xs); found : IfOk r (IsPlaceOf key k (map seen xs)); absent : IfErr r (IsPlaceFor R key k (map seen xs)) }
+searched_seen {R} {E} o key seen k xs r s bound answer = of_seen r (searched o (λ x. key (seen x)) k xs r (subst (IsStrictlySortedBy R) (keys_seen o key seen xs) s) bound answer)
+  where
+    of_seen : (r : Result ℕ ℕ) → record { there : is_ok r ≡ list_any (λ x. E k (key (seen x))) xs; found : IfOk r (IsPlaceOf (λ x. key (seen x)) k xs); absent : IfErr r (IsPlaceFor R (λ x. key (seen x)) k xs) }
+        → record { there : is_ok r ≡ list_any (λ x. E k (key x)) (map seen xs); found : IfOk r (IsPlaceOf key k (map seen xs)); absent : IfErr r (IsPlaceFor R key k (map seen xs)) }
+    of_seen (Ok i) h = record { there = h.there ∙ sym (any_seen o key seen (λ x. E k (key x)) xs); found = place_of_seen o key seen k xs i h.found; absent = tt }
+    of_seen (Err i) h = record { there = h.there ∙ sym (any_seen o key seen (λ x. E k (key x)) xs); found = tt; absent = place_for_seen o key seen k xs i h.absent }
