@@ -1,17 +1,16 @@
 -- Worked rows: the offices that keep departments as columns, as tables and as values.
-use Rattle.std.proofs.Common.{◌≡◌, refl, Bool, List, [], ◌∷◌, Option, Some, None, true, false}
+use Rattle.std.proofs.Common.{◌≡◌, refl, List, [], ◌∷◌, Option, Some, None, true, false}
 use Rattle.std.specs.Prelude.{codes}
 use Rattle.std.specs.Str.{is_utf8, chars}
 use Rattle.ss_text.specs.Texts.{Text, Row}
 use Rattle.ss_text.specs.Label.{is_table_label, is_column_label}
 use Rattle.flow_law.specs.Facts.{Fact, conflict, illegal}
-use Rattle.flow_law.specs.Tables.{TablesValue, TableValue, table_value, empty_table}
+use Rattle.flow_law.specs.Tables.{TablesValue, table_value, empty_table}
 use Rattle.flow_law.specs.FactTables.{tables}
 use Rattle.flow_law.specs.Script.{script}
 use Rattle.flow_law.specs.Lines.{after_lines, fit_lines}
 use Rattle.flow_law.specs.declared.shape.Shape.{Shape}
-use Rattle.flow_law.specs.declared.line.TableLine.{TableLine}
-use Rattle.flow_law.specs.declared.line.TableLine.TheVariants.{TableMinus, TablePlus, RowMinus, ColumnMinus, ColumnPlus, RowPlus, Cell}
+use Rattle.flow_law.specs.declared.line.TableLine.TheVariants.{TableMinus, RowMinus, ColumnMinus, ColumnPlus, RowPlus, Cell}
 
 abbrev fact : Text → Text → Text → Text → Fact
 fact label key column value = record { label = label; key = key ∷ []; cell = Some (column, value) }

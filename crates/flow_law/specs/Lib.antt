@@ -4,3 +4,4 @@ pub mod Facts
 pub mod FactTables
 pub mod Script
 pub mod Lines
+pub mod KeyedRows

@@ -1,5 +1,5 @@
 -- The lines by which new tables differ from old ones.
-use Rattle.std.specs.Prelude.{Bool, not, List, [], ◌∷◌, ◌++◌, map, filter, flat_map, Option, Some, None, if◌then◌else◌}
+use Rattle.std.specs.Prelude.{not, List, [], ◌∷◌, ◌++◌, map, filter, flat_map, Option, Some, None, if◌then◌else◌}
 use Rattle.std.specs.List.{list_any, filter_map}
 use Rattle.ss_text.specs.Texts.{Text, Row, text_eq, row_eq, text_cmp, is_in}
 use Rattle.ss_text.specs.Ascending.{ascending}

@@ -1,5 +1,6 @@
 -- Tables as plain data, and what is read of them.
-use Rattle.std.specs.Prelude.{List, [], Option, zip, unwrap_or}
+use Rattle.std.specs.Prelude.{ℕ, List, [], Option, unwrap_or, slice_index_or}
+use Rattle.std.specs.List.{zip}
 use Rattle.std.specs.Map.{lookup, keys_of}
 use Rattle.ss_text.specs.Texts.{Text, Row, text_eq, row_eq}
 
@@ -42,3 +43,19 @@ cell_in columns cells column = unwrap_or (lookup (text_eq column) (zip columns c
 -- the value of a cell, empty where the row or the column is missing
 abbrev pub cell_of : TableValue → Row → Text → Text
 cell_of t key column = cell_in t.columns (cells_of t key) column
+
+-- the row at a place; nothing is said of a place that is not there
+abbrev pub row_at : ℕ → TableValue → Row × Row
+row_at place t = slice_index_or t.rows place ([], [])
+
+-- the key of a row
+abbrev pub key_of : Row × Row → Row
+key_of r = r.0
+
+-- the label of a table
+abbrev pub label_in : Text × TableValue → Text
+label_in p = p.0
+
+-- the label and the table at a place; nothing is said of a place that is not there
+abbrev pub tables_at : ℕ → TablesValue → Text × TableValue
+tables_at place ts = slice_index_or ts place ([], empty_table)
