@@ -1,3 +1,4 @@
 pub mod Digits
 pub mod AscendingLemmas
 pub mod PlaceLemmas
+pub mod KeyLemmas

@@ -3,3 +3,4 @@ pub mod Ascending
 pub mod Places
 pub mod Label
 pub mod Whole
+pub mod Keys

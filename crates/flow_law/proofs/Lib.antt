@@ -1,0 +1,4 @@
+mod WorkedRows
+pub mod TableLemmas
+pub mod RowLemmas
+pub mod LabelLemmas

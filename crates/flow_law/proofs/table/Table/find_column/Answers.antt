@@ -1,0 +1,8 @@
+use Rattle.ss_text.proofs.KeyLemmas.{text_order, searched}
+use Rattle.flow_law.proofs.TableLemmas.{own_keys}
+use Rattle.flow_law.proofs.table.Table.find_column.Goals as goal
+
+pub returns : goal.returns
+returns c =
+    let facts = c.binary_search.ensures in
+    rw (← c.self.view_is) (searched text_order (λ x. x) c.args.column.now c.self.inside.columns.items c.binary_search.result (own_keys c.self.inside.columns.items c.self.invariant.columns) (rw c.deref.ensures.value at facts.bound) (rw c.deref.ensures.value at facts.position))

@@ -1,0 +1,18 @@
+//! Facts, the tables that they make, and the lines by which tables change.
+//!
+//! Its contract: `Tables::change` gives exactly the tables of the line's meaning, by plain lists. It knows
+//! nothing of relations, of views or of files.
+#![tactic(auto)]
+
+mod keyed_row;
+mod line;
+mod refused;
+mod shape;
+mod table;
+mod tables;
+
+pub use line::TableLine;
+pub use refused::{Clash, IllegalLabel};
+pub use shape::Shape;
+pub use table::Table;
+pub use tables::Tables;
