@@ -1,0 +1,2 @@
+mod PrintExamples
+mod PrintLemmas

@@ -1,4 +1,5 @@
 pub mod Conditions
+pub mod Print
 pub mod Query
 pub mod RawConditions
 pub mod Tree

@@ -1,0 +1,70 @@
+-- The header of a view.
+use Rattle.std.specs.Prelude.{ℕ, Bool, true, false, not, List, [], ◌∷◌, length, map, Option, Some, None, nat_eq, bytes_eq, position}
+use Rattle.std.specs.List.{list_any, filter_map, find}
+use Rattle.ss_text.specs.Texts.{Text, Row, is_in}
+use Rattle.ss_text.specs.Label.{is_table_label}
+use Rattle.view_def.specs.declared.written.Name.{Name}
+use Rattle.view_def.specs.declared.written.RawDecl.{RawDecl}
+use Rattle.view_def.specs.declared.typed.Place.{Place}
+use Rattle.view_def.specs.declared.typed.Place.TheVariants as place
+use Rattle.view_def.specs.Tree.{Tree}
+use Rattle.var_typing.specs.declared.fault.TypeFault.{TypeFault}
+use Rattle.var_typing.specs.declared.fault.TypeFault.TheVariants.{WrongKind, BadLabel, TwoVariableColumns, ColumnTwice, NoConstantColumn, CountDiffers}
+use Rattle.var_typing.specs.Refusals.{where_true, ◌or_else◌, in_turn}
+use Rattle.var_typing.specs.Scope.{is_tuple, variable_named, place_named}
+
+-- a name that is no variable has to be a legal table label
+abbrev pub name_label_fault : Text → Option TypeFault
+name_label_fault t = where_true (not (is_table_label t)) (BadLabel t)
+
+-- the view database is no variable
+abbrev pub database_fault : Text → Option ℕ → Option TypeFault
+database_fault x None = name_label_fault x
+database_fault x (Some k) = Some (WrongKind x)
+
+-- the table label is no tuple variable
+abbrev pub label_fault : List RawDecl → Text → Option ℕ → Option TypeFault
+label_fault ds x None = name_label_fault x
+label_fault ds x (Some k) = where_true (is_tuple ds k) (WrongKind x)
+
+abbrev pub is_variable : Place → Bool
+is_variable (place.Var k) = true
+is_variable (place.Fixed t) = false
+
+abbrev pub constant_text : Place → Option Text
+constant_text (place.Var k) = None
+constant_text (place.Fixed t) = Some t
+
+-- what the columns stand for
+abbrev pub column_places : List RawDecl → List Name → List Place
+column_places ds columns = map (place_named ds) columns
+
+-- the constant columns, in order
+abbrev pub constants_of : List Place → Row
+constants_of columns = filter_map constant_text columns
+
+-- a column after these: at most one is a variable, which is no tuple variable, and no constant stands twice
+abbrev pub place_fault : List RawDecl → List Place → Text → Option ℕ → Option TypeFault
+place_fault ds before x None = where_true (is_in x (constants_of before)) (ColumnTwice x)
+place_fault ds before x (Some k) = where_true (is_tuple ds k) (WrongKind x) or_else where_true (list_any is_variable before) (TwoVariableColumns x)
+
+abbrev pub column_fault : List RawDecl → List Name → Name → Option TypeFault
+column_fault ds before n = place_fault ds (column_places ds before) n.text (variable_named ds n)
+
+abbrev pub is_empty : Row → Bool
+is_empty [] = true
+is_empty (t ∷ ts) = false
+
+abbrev pub columns_fault : List RawDecl → List Name → Option TypeFault
+columns_fault ds columns =
+    in_turn (column_fault ds) [] columns or_else where_true (is_empty (constants_of (column_places ds columns))) NoConstantColumn
+
+-- as many terms as columns
+abbrev pub count_fault : Tree → Option TypeFault
+count_fault t = where_true (not (nat_eq (length t.columns) (length t.select))) (CountDiffers (length t.columns) (length t.select))
+
+abbrev pub header_fault : Tree → Option TypeFault
+header_fault t =
+    database_fault t.view_db.text (variable_named t.decls t.view_db)
+    or_else label_fault t.decls t.label.text (variable_named t.decls t.label)
+    or_else columns_fault t.decls t.columns
