@@ -5,7 +5,9 @@
 #![tactic(auto)]
 
 mod read;
+mod records_text;
 mod write;
 
 pub use read::records;
+pub use records_text::RecordsText;
 pub use write::{record_text, relation_text, written_records_read_back};

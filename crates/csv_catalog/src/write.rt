@@ -20,7 +20,7 @@ pub fn record_text(alloc: Global, row: &Row) -> Result<Text, NoMemory>
 {
     let mut writer = new_writer(alloc);
     write_row(&mut writer, row)?;
-    text_of(alloc, writer)
+    text_of(writer)
 }
 
 /// The canonical text of a relation's file: the record of its attributes, and then those of its rows in their
@@ -32,7 +32,7 @@ pub fn relation_text(alloc: Global, relation: &Relation) -> Result<Text, NoMemor
     let mut writer = new_writer(alloc);
     write_row(&mut writer, relation.attributes())?;
     write_rows(&mut writer, relation)?;
-    text_of(alloc, writer)
+    text_of(writer)
 }
 
 // Writes the rows of a relation.
@@ -50,7 +50,7 @@ fn write_rows(writer: &mut Writer<Vec<u8>>, relation: &Relation) -> Result<(), N
     Ok(())
 }
 
-fn new_writer(alloc: Global) -> Writer<Vec<u8>>
+pub(crate) fn new_writer(alloc: Global) -> Writer<Vec<u8>>
     ensures between { IsBetweenRecords result }
     ensures empty { written result ≡ [] }
 {
@@ -58,7 +58,7 @@ fn new_writer(alloc: Global) -> Writer<Vec<u8>>
 }
 
 // Writes a record.
-fn write_row(writer: &mut Writer<Vec<u8>>, row: &Row) -> Result<(), NoMemory>
+pub(crate) fn write_row(writer: &mut Writer<Vec<u8>>, row: &Row) -> Result<(), NoMemory>
     requires some { row.now ≢ [] }
     requires between { IsBetweenRecords writer.old }
     ensures text { OnOk result (written writer.new ≡ written writer.old ++ record_text row.now) }
@@ -76,11 +76,11 @@ fn write_row(writer: &mut Writer<Vec<u8>>, row: &Row) -> Result<(), NoMemory>
 }
 
 // The text that was written.
-fn text_of(alloc: Global, writer: Writer<Vec<u8>>) -> Result<Text, NoMemory>
+pub(crate) fn text_of(writer: Writer<Vec<u8>>) -> Result<Text, NoMemory>
     ensures { IfOk result (λ text. text ≡ written writer) }
 {
     match writer.into_inner() {
-        Ok(bytes) => Text::of(alloc, &bytes),
+        Ok(bytes) => Ok(Text::from(bytes)),
         Err(_) => Err(NoMemory),
     }
 }

@@ -251,10 +251,10 @@ csv_named (f ∷ fs) q h e =
     ] refl
 
 module _ (d : Text) (fs : List File) (s : Stored) (h : AreViewFiles fs) where
-  abbrev others : List Text
+  abbrev pub others : List Text
   others = other_names fs (files_of s.tree d)
 
-  abbrev now : Stored
+  abbrev pub now : Stored
   now = cleared d others (wrote d fs s)
 
   -- what is there in the end: a view's file, else nothing if it was another `.csv` file, else what was there
@@ -303,7 +303,7 @@ module _ (d : Text) (fs : List File) (s : Stored) (h : AreViewFiles fs) where
       not_true true e = absurd (cc)
       not_true false e = refl
 
-  counted : now.writes ≡ risen s.writes (opening_count fs (files_of s.tree d))
+  pub counted : now.writes ≡ risen s.writes (opening_count fs (files_of s.tree d))
   counted =
       removed_count d others (wrote d fs s) (apart_filter (λ n. is_csv_name n && not (is_named fs n)) (files_of s.tree d) (apart_files s.tree d)) each_there
       ∙ ap (λ w. risen w (length others)) (written_count d fs s) ∙ joined s.writes (length fs) (length others)
