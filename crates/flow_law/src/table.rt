@@ -76,6 +76,14 @@ impl Table {
         &self.rows[place].cells[column]
     }
 
+    /// The cells of the row at a place, from 0, one for each column.
+    pub fn cells(&self, place: usize) -> &[Text]
+        requires { place < length self.now.rows }
+        ensures { result.now ≡ (row_at place self.now).1 }
+    {
+        &self.rows[place].cells
+    }
+
     // The place of a key, or where a row of this key would stand.
     fn find_row(&self, key: &Row) -> Result<usize, usize>
         ensures there { is_ok result ≡ has_row key.now self.now }

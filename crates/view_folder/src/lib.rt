@@ -6,6 +6,8 @@
 
 mod file;
 mod opening;
+mod table_file;
 
 pub use file::{File, folder_of_view};
 pub use opening::sync_opening;
+pub use table_file::{table_files, table_text};

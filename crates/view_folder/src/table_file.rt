@@ -1,0 +1,85 @@
+//! The file of a table.
+ghost use Rattle.std.specs.Prelude.{◌≡◌, ◌≢◌, ◌++◌, ◌<◌, [], IfOk, length, map, take, slice_index_or};
+ghost use Rattle.ss_text.specs.Texts.{Row};
+ghost use Rattle.flow_law.specs.Tables.{row_at};
+ghost use Rattle.view_folder.specs.TableFiles.{spliced, table_text, table_file, table_files, FitsShape, FitShape};
+
+use crate::File;
+use csv_catalog::RecordsText;
+use flow_law::{Shape, Table, Tables};
+use ss_text::{NoMemory, Row, Text};
+use std::alloc::Global;
+
+/// The canonical text of a table's file: the header record, the dynamic columns standing behind as many
+/// constant columns as the shape says, and a record for each key, ascending.
+#[tactic(auto, unfolding(crate::specs::TableFiles::table_text))]
+pub fn table_text(alloc: Global, table: &Table, shape: &Shape) -> Result<Text, NoMemory>
+    requires { FitsShape shape.now table.now }
+    ensures { IfOk result (λ text. text ≡ table_text shape.now table.now) }
+{
+    let header = spliced(alloc, shape.spot, &shape.constants, table.columns())?;
+    let mut text = RecordsText::new(alloc).with(&header)?;
+    for place in 0..table.count() {
+        let record = spliced(alloc, shape.spot, table.key(place), table.cells(place))?;
+        text = text.with(&record)?;
+    }
+    text.into_text()
+}
+
+/// The files of tables, in the order of their labels: a label and `.csv` is the name of its table's file.
+#[tactic(auto, unfolding(crate::specs::TableFiles::table_files))]
+pub fn table_files(alloc: Global, tables: &Tables, shape: &Shape) -> Result<Vec<File>, NoMemory>
+    requires { FitShape shape.now tables.now }
+    ensures { IfOk result (λ files. files.items ≡ table_files shape.now tables.now) }
+{
+    let mut files = Vec::new(alloc);
+    for place in 0..tables.count() {
+        files.push(table_file(alloc, tables.label(place), tables.table(place), shape)?)?;
+    }
+    Ok(files)
+}
+
+// The file of a table.
+fn table_file(alloc: Global, label: &Text, table: &Table, shape: &Shape) -> Result<File, NoMemory>
+    requires { FitsShape shape.now table.now }
+    ensures { IfOk result (λ file. file ≡ table_file shape.now (label.now, table.now)) }
+{
+    let mut name = Vec::from_slice(alloc, label.as_slice())?;
+    name.extend_from_slice(b".csv")?;
+    let bytes = table_text(alloc, table, shape)?;
+    Ok(File {
+        name: Text::from(name),
+        bytes,
+    })
+}
+
+// A record: the constant part, with the dynamic part behind as many of its texts as the spot says.
+fn spliced(
+    alloc: Global,
+    spot: Option<usize>,
+    constant: &Row,
+    dynamic: &[Text],
+) -> Result<Row, NoMemory>
+    ensures { IfOk result (λ row. row ≡ spliced spot constant.now dynamic.now) }
+{
+    let Some(spot) = spot else {
+        return constant.copy();
+    };
+    let constant = constant.cells();
+    let split = spot.min(constant.len());
+    let mut record = Vec::new(alloc);
+    append(&mut record, &constant[..split])?;
+    append(&mut record, dynamic)?;
+    append(&mut record, &constant[split..])?;
+    Ok(Row::of(record))
+}
+
+// Puts copies of these texts last.
+fn append(record: &mut Vec<Text>, texts: &[Text]) -> Result<(), NoMemory>
+    ensures { IfOk result (λ _. record.new.items ≡ record.old.items ++ texts.now) }
+{
+    for text in texts {
+        record.push(text.copy()?)?;
+    }
+    Ok(())
+}
