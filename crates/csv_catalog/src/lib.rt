@@ -4,8 +4,15 @@
 //! relation's records, and what is written so is read back. It knows nothing of views or of changes.
 #![tactic(auto)]
 
+mod fault;
+mod file;
+mod judge;
+mod listing;
+mod place;
 mod read;
+mod relation;
 mod write;
 
+pub use fault::LoadFault;
 pub use read::records;
 pub use write::{record_text, relation_text, written_records_read_back};
