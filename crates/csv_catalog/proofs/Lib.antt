@@ -6,3 +6,6 @@ pub mod LeftLemmas
 pub mod FaultLemmas
 pub mod PlaceLemmas
 pub mod FileLemmas
+pub mod KeptLemmas
+pub mod FilesLemmas
+pub mod StoreLemmas

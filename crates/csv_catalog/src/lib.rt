@@ -6,6 +6,7 @@
 
 mod fault;
 mod file;
+mod files;
 mod judge;
 mod listing;
 mod place;
