@@ -9,3 +9,4 @@ pub mod FileLemmas
 pub mod KeptLemmas
 pub mod FilesLemmas
 pub mod StoreLemmas
+pub mod DatabaseLemmas

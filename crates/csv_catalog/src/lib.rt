@@ -4,6 +4,7 @@
 //! relation's records, and what is written so is read back. It knows nothing of views or of changes.
 #![tactic(auto)]
 
+mod database;
 mod fault;
 mod file;
 mod files;
