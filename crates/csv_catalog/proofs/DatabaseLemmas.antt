@@ -1,5 +1,5 @@
 -- The files of a database: their limit, and the order of their relations.
-use Rattle.std.proofs.Common.{◌≡◌, ◌≢◌, ◌<◌, ◌≤◌, ◌-◌, ◌∷◌, ◌++◌, ◌∙◌, [], ℕ, List, Bool, true, false, Option, Some, None, refl, sym, ap, subst, length, map, take, drop, arith, inl, inr}
+use Rattle.std.proofs.Common.{◌≡◌, ◌≢◌, ◌<◌, ◌≤◌, ◌-◌, ◌∷◌, ◌++◌, ◌∙◌, [], ℕ, List, Bool, true, false, Option, Some, None, refl, sym, ap, subst, length, map, drop, arith, inl, inr}
 use Rattle.std.specs.Prelude.{filter, nat_lt, codes, option_map, unwrap_or, ◌&&◌}
 use Rattle.std.specs.List.{AllByRecursion, cons_option}
 use Rattle.std.specs.List.Sorted.{IsStrictlySortedBy}
@@ -14,9 +14,8 @@ use Rattle.std.proofs.lemmas.Map.Lookups.{exact_bytes}
 use Rattle.std.proofs.lemmas.Slice.Eq.{bytes_eq-Decides}
 use Rattle.std.proofs.lemmas.Cmp.{tied_itself}
 use Rattle.std.specs.Cmp.Lexicographic.{nat_list_cmp_total}
-use Rattle.ss_text.specs.Label.{is_table_label}
 use Rattle.ss_text.specs.Texts.{Text, text_cmp}
-use Rattle.ss_text.specs.Ascending.{by_order, with_element, ascending}
+use Rattle.ss_text.specs.Ascending.{with_element, ascending}
 use Rattle.outside.specs.Tree.{Tree, file_at, files_of}
 use Rattle.schema_model.specs.Catalogue.{RelationValue}
 use Rattle.schema_model.specs.declared.Which.TheVariants.{Relations}
@@ -43,7 +42,6 @@ module _ {A : Type 0} (R : A → A → Ordering) (p : A → Bool) where
     | inl good ↦ rw good (above_filter x xs h.0, filter_ascends xs h.1)
     | inr bad ↦ rw bad (filter_ascends xs h.1)
   ]
-
 
 -- what passes a filter
 pub all_pass : {A : Type 0} (p : A → Bool) (xs : List A) → AllByRecursion (λ x. p x ≡ true) (filter p xs)

@@ -10,3 +10,5 @@ pub mod KeptLemmas
 pub mod FilesLemmas
 pub mod StoreLemmas
 pub mod DatabaseLemmas
+pub mod PutLemmas
+pub mod LoadLemmas

@@ -1,5 +1,5 @@
 -- Where an element stands in an ascending list, looked for from the end.
-use Rattle.std.proofs.Common.{◌≡◌, ◌<◌, ◌≤◌, ◌+◌, ◌-◌, ◌∷◌, ◌++◌, ◌∙◌, [], ℕ, List, refl, sym, ap, zero, suc, length, map, take, drop, get_or, arith, append_assoc, insert}
+use Rattle.std.proofs.Common.{◌≡◌, ◌<◌, ◌≤◌, ◌+◌, ◌∷◌, ◌++◌, ◌∙◌, [], ℕ, List, refl, sym, ap, zero, suc, length, map, take, drop, get_or, arith, append_assoc, insert}
 use Rattle.std.proofs.lemmas.List.{append-nil, take_all, drop_all, take_more, drop_more}
 use Rattle.std.specs.List.{AllByRecursion}
 use Rattle.std.specs.List.Sorted.{IsStrictlySortedBy}

@@ -1,5 +1,5 @@
 -- A store that is only read.
-use Rattle.std.proofs.Common.{◌≡◌, ◌≤◌, ◌∙◌, ℕ, refl, arith}
+use Rattle.std.proofs.Common.{◌≤◌, ◌∙◌, ℕ, refl, arith}
 use Rattle.outside.specs.States.{StoreState}
 use Rattle.csv_catalog.specs.Reading.{OnlyRead}
 

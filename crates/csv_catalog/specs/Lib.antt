@@ -4,3 +4,4 @@ pub mod Written
 pub mod FileFaults
 pub mod Loaded
 pub mod Reading
+pub mod Put

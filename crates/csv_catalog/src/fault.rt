@@ -10,9 +10,16 @@ use std::alloc::{AllocError, AllocFailed};
 #[derive(Debug, Drop)]
 pub enum LoadFault {
     /// A file has no record.
-    NoHeader { db: Text, file: Text },
+    NoHeader {
+        db: Text,
+        file: Text,
+    },
     /// A header gives a name twice. It is that of the first place whose name stands earlier too.
-    NameTwice { db: Text, file: Text, name: Text },
+    NameTwice {
+        db: Text,
+        file: Text,
+        name: Text,
+    },
     /// A record has `got` fields where the header has `want`. Records are counted from 1, the header being 1.
     Ragged {
         db: Text,
@@ -22,7 +29,9 @@ pub enum LoadFault {
         got: usize,
     },
     /// There are more of these than a catalogue may hold.
-    Limit { which: Which },
+    Limit {
+        which: Which,
+    },
     /// A call on the store failed.
     ReadFault,
     NoMemory,

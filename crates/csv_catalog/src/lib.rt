@@ -10,11 +10,14 @@ mod file;
 mod files;
 mod judge;
 mod listing;
+mod loading;
 mod place;
+mod put;
 mod read;
 mod relation;
 mod write;
 
 pub use fault::LoadFault;
+pub use loading::load;
 pub use read::records;
 pub use write::{record_text, relation_text, written_records_read_back};

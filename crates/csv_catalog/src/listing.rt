@@ -58,10 +58,7 @@ impl RelationFile {
 }
 
 // The files of relations among these names, in their order.
-pub(crate) fn relation_files(
-    alloc: Global,
-    names: Vec<Text>,
-) -> Result<Vec<RelationFile>, NoMemory>
+pub(crate) fn relation_files(alloc: Global, names: Vec<Text>) -> Result<Vec<RelationFile>, NoMemory>
     ensures { IfOk result (λ files. files.items ≡ filter is_relation_file names.items) }
 {
     let mut files = Vec::new(alloc);

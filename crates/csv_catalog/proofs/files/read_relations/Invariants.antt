@@ -1,4 +1,4 @@
-use Rattle.std.proofs.Common.{◌≡◌, ◌≤◌, ◌+◌, Some, length}
+use Rattle.std.proofs.Common.{◌≤◌, ◌+◌, length}
 use Rattle.std.specs.Vec.Iter.{into_iter_items}
 use Rattle.csv_catalog.specs.Reading.{OnlyRead, WhereTold, AreKept}
 use Rattle.csv_catalog.proofs.FilesLemmas.{IsReading}

@@ -1,4 +1,4 @@
-use Rattle.std.proofs.Common.{◌∙◌, sym, ap, take, Some, None}
+use Rattle.std.proofs.Common.{◌∙◌, sym, ap, take, Some}
 use Rattle.ss_text.specs.Texts.{Text, is_in}
 use Rattle.csv_catalog.proofs.FaultLemmas.{repeated_here, repeated_more, repeated_end, seen_more, was_seen, was_fresh}
 use Rattle.csv_catalog.proofs.judge.first_repeated.Goals as goal
