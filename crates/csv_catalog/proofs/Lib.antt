@@ -2,3 +2,13 @@ pub mod AllRecords
 pub mod Canonical
 pub mod RoundTrip
 pub mod WritingLemmas
+pub mod LeftLemmas
+pub mod FaultLemmas
+pub mod PlaceLemmas
+pub mod FileLemmas
+pub mod KeptLemmas
+pub mod FilesLemmas
+pub mod StoreLemmas
+pub mod DatabaseLemmas
+pub mod PutLemmas
+pub mod LoadLemmas

@@ -4,10 +4,22 @@
 //! relation's records, and what is written so is read back. It knows nothing of views or of changes.
 #![tactic(auto)]
 
+mod database;
+mod fault;
+mod file;
+mod files;
+mod judge;
+mod listing;
+mod loading;
+mod place;
+mod put;
 mod read;
 mod records_text;
+mod relation;
 mod write;
 
+pub use fault::LoadFault;
+pub use loading::load;
 pub use read::records;
 pub use records_text::RecordsText;
 pub use write::{record_text, relation_text, written_records_read_back};

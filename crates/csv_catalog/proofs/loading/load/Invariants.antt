@@ -1,0 +1,11 @@
+use Rattle.std.specs.Vec.Iter.{into_iter_items}
+use Rattle.csv_catalog.specs.Reading.{OnlyRead, WhereTold}
+use Rattle.csv_catalog.proofs.LoadLemmas.{IsLoading, MayGrow}
+use Rattle.csv_catalog.proofs.loading.load.Given as goal
+
+abbrev pub invariant-loop-db : goal.invariant-loop-db
+invariant-loop-db g l = record {
+  told : WhereTold (g.F.Folders.state l.fn.store) (λ t. IsLoading t (into_iter_items l.db-iterator) l.catalogue);
+  grows : MayGrow (into_iter_items l.db-iterator) l.catalogue;
+  store : OnlyRead (g.F.Folders.state l.fn.store) (g.F.Folders.state l.store);
+}

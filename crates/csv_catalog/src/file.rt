@@ -1,0 +1,48 @@
+//! One file of a database.
+ghost use Rattle.std.specs.Prelude.{◌≡◌, ◌≤◌, [], ◌∷◌, Some, None, true, map, IfOk, IfErr, IfSome, OnOk, IsErrOf};
+ghost use Rattle.std.specs.Option.{option_to_list};
+ghost use Rattle.outside.specs.Counts.{Rose};
+ghost use Rattle.csv_catalog.specs.Loaded.{files_read, files_fault, relation_of, is_refusal};
+ghost use Rattle.csv_catalog.specs.Reading.{OnlyRead, WhereTold, MayBeKept};
+
+use crate::LoadFault;
+use crate::judge::{file_fault, told_fault};
+use crate::listing::RelationFile;
+use crate::read::records;
+use crate::relation::ReadRelation;
+use outside::{Folders, StoreFault};
+use ss_text::Text;
+use std::alloc::Global;
+
+// Reads the relation of a file in the folder of a database, where so many rows were counted before. A file that
+// is not there has none.
+#[tactic(auto, using(crate::proofs::FileLemmas::file_missing, crate::proofs::FileLemmas::file_sound, crate::proofs::FileLemmas::file_refused, crate::proofs::FaultLemmas::some_record, crate::proofs::AllRecords::records_have_fields))]
+pub(crate) fn read_relation<F: Folders>(
+    alloc: Global,
+    store: &mut F,
+    db: &Text,
+    folder: &Text,
+    file: RelationFile,
+    count: usize,
+) -> Result<Option<ReadRelation>, LoadFault>
+    requires few { count ≤ 1000000 }
+    ensures sound { OnOk result (WhereTold (F.state store.old) (λ t. files_fault db.now count (files_read t folder.now (file ∷ [])) ≡ None)) }
+    ensures told { IfOk result (λ read. WhereTold (F.state store.old) (λ t. map relation_of (files_read t folder.now (file ∷ [])) ≡ option_to_list read)) }
+    ensures refused { IfErr result (λ e. is_refusal e ≡ true → WhereTold (F.state store.old) (λ t. files_fault db.now count (files_read t folder.now (file ∷ [])) ≡ Some e)) }
+    ensures may_be_kept { IfOk result (λ read. IfSome read (λ r. MayBeKept r count)) }
+    ensures read_fault { IsErrOf result LoadFault.ReadFault → Rose ((F.state store.old).read_faults) ((F.state store.new).read_faults) }
+    ensures store { OnlyRead (F.state store.old) (F.state store.new) }
+{
+    let bytes = match store.read(alloc, folder, file.name()) {
+        Ok(Some(bytes)) => bytes,
+        Ok(None) => return Ok(None),
+        Err(StoreFault::Failed) => return Err(LoadFault::ReadFault),
+        Err(StoreFault::NoMemory) => return Err(LoadFault::NoMemory),
+    };
+    let found = records(alloc, bytes.as_slice())?;
+    let (name, label) = file.into_names();
+    match file_fault(alloc, count, &found)? {
+        Some(fault) => Err(told_fault(db, name, fault)?),
+        None => Ok(Some(ReadRelation::of(label, found, count))),
+    }
+}

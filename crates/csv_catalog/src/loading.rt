@@ -1,0 +1,89 @@
+//! The catalogue of a store.
+ghost use Rattle.std.specs.Prelude.{◌≡◌, ◌≢◌, ◌<◌, ◌≤◌, [], ◌∷◌, ◌++◌, Some, None, Ok, Err, true, false, length, filter, IfOk, IfErr, OnOk, IsErrOf};
+ghost use Rattle.ss_text.specs.Label.{is_table_label};
+ghost use Rattle.outside.specs.Counts.{Rose};
+ghost use Rattle.schema_model.specs.Catalogue.{database_names, row_count};
+ghost use Rattle.schema_model.specs.Sound.{AreNames};
+ghost use Rattle.csv_catalog.specs.Loaded.{loaded, databases_in, database_in, database_fault, is_refusal};
+ghost use Rattle.csv_catalog.specs.Reading.{OnlyRead, WhereTold};
+
+use crate::LoadFault;
+use crate::database::read_database;
+use crate::put::put_database;
+use outside::{Folders, StoreFault};
+use schema_model::{Catalogue, Which};
+use ss_text::{Text, table_label_legal};
+use std::alloc::Global;
+
+const MOST_DATABASES: usize = 200;
+
+/// Reads the catalogue of the folder `sources`.
+pub fn load<F: Folders>(alloc: Global, store: &mut F) -> Result<Catalogue, LoadFault>
+    ensures loaded { IfOk result (λ catalogue. WhereTold (F.state store.old) (λ t. loaded t ≡ Ok catalogue)) }
+    ensures refused { IfErr result (λ e. is_refusal e ≡ true → WhereTold (F.state store.old) (λ t. loaded t ≡ Err e)) }
+    ensures read_fault { IsErrOf result LoadFault.ReadFault → Rose ((F.state store.old).read_faults) ((F.state store.new).read_faults) }
+    ensures store { OnlyRead (F.state store.old) (F.state store.new) }
+{
+    let names = database_names(alloc, store)?;
+    if names.len() > MOST_DATABASES {
+        return Err(LoadFault::Limit {
+            which: Which::Databases,
+        });
+    }
+    let mut catalogue = Catalogue::empty(alloc);
+    for db in names {
+        match load_database(alloc, store, &mut catalogue, db) {
+            Ok(()) => (),
+            Err(fault) => return Err(fault),
+        }
+    }
+    Ok(catalogue)
+}
+
+// The names of the databases, ascending.
+#[tactic(auto, using(crate::proofs::LoadLemmas::names_legal))]
+fn database_names<F: Folders>(alloc: Global, store: &mut F) -> Result<Vec<Text>, LoadFault>
+    ensures told { IfOk result (λ names. WhereTold (F.state store.old) (λ t. names.items ≡ databases_in t)) }
+    ensures names { IfOk result (λ names. AreNames names.items) }
+    ensures no_refusal { IfErr result (λ e. is_refusal e ≡ false) }
+    ensures read_fault { IsErrOf result LoadFault.ReadFault → Rose ((F.state store.old).read_faults) ((F.state store.new).read_faults) }
+    ensures store { OnlyRead (F.state store.old) (F.state store.new) }
+{
+    let sources = Text::of(alloc, b"sources")?;
+    match store.subfolders(alloc, &sources) {
+        Ok(names) => Ok(legal_names(names)),
+        Err(StoreFault::Failed) => Err(LoadFault::ReadFault),
+        Err(StoreFault::NoMemory) => Err(LoadFault::NoMemory),
+    }
+}
+
+// Those that are legal table labels.
+fn legal_names(mut names: Vec<Text>) -> Vec<Text>
+    ensures { result.items ≡ filter is_table_label names.items }
+{
+    names.retain(|name| table_label_legal(name));
+    names
+}
+
+// Reads a database, and puts it after all others.
+fn load_database<F: Folders>(
+    alloc: Global,
+    store: &mut F,
+    catalogue: &mut Catalogue,
+    db: Text,
+) -> Result<(), LoadFault>
+    requires names { AreNames (database_names catalogue.old ++ db ∷ []) }
+    requires place { length catalogue.old < 200 }
+    requires few { row_count catalogue.old ≤ 1000000 }
+    ensures sound { OnOk result (WhereTold (F.state store.old) (λ t. database_fault t db (row_count catalogue.old) ≡ None)) }
+    ensures told { OnOk result (WhereTold (F.state store.old) (λ t. catalogue.new ≡ catalogue.old ++ database_in t db ∷ [])) }
+    ensures refused { IfErr result (λ e. is_refusal e ≡ true → WhereTold (F.state store.old) (λ t. database_fault t db (row_count catalogue.old) ≡ Some e)) }
+    ensures names { OnOk result (database_names catalogue.new ≡ database_names catalogue.old ++ db ∷ []) }
+    ensures few { OnOk result (row_count catalogue.new ≤ 1000000) }
+    ensures read_fault { IsErrOf result LoadFault.ReadFault → Rose ((F.state store.old).read_faults) ((F.state store.new).read_faults) }
+    ensures store { OnlyRead (F.state store.old) (F.state store.new) }
+{
+    let relations = read_database(alloc, store, &db, catalogue.row_count())?;
+    put_database(catalogue, db, relations)?;
+    Ok(())
+}

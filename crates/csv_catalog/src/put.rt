@@ -1,0 +1,71 @@
+//! Puts what was read into a catalogue.
+ghost use Rattle.std.specs.Prelude.{◌≡◌, [], ◌∷◌, ◌++◌, OnOk};
+ghost use Rattle.ss_text.specs.Places.{at_place};
+ghost use Rattle.schema_model.specs.Catalogue.{database_value, with_relation, with_relation_at};
+ghost use Rattle.csv_catalog.specs.Put.{with_rows, with_relations, CanTakeRows, CanTakeRelations, CanTakeDatabase};
+
+use crate::relation::ReadRelation;
+use schema_model::Catalogue;
+use ss_text::{NoMemory, Row, Text};
+
+#[tactic(auto, using(crate::proofs::PutLemmas::relations_then, crate::proofs::PutLemmas::takes_relations))]
+// Puts a database with these relations after all others.
+pub(crate) fn put_database(
+    catalogue: &mut Catalogue,
+    name: Text,
+    relations: Vec<ReadRelation>,
+) -> Result<(), NoMemory>
+    requires { CanTakeDatabase catalogue.old name relations.items }
+    ensures { OnOk result (catalogue.new ≡ catalogue.old ++ database_value name relations.items ∷ []) }
+{
+    let db = catalogue.databases().len();
+    catalogue.put_database(name)?;
+    put_relations(catalogue, db, relations)
+}
+
+// Puts these relations after all others of a database.
+fn put_relations(
+    catalogue: &mut Catalogue,
+    db: usize,
+    relations: Vec<ReadRelation>,
+) -> Result<(), NoMemory>
+    requires { CanTakeRelations catalogue.old db relations.items }
+    ensures { OnOk result (catalogue.new ≡ at_place db (with_relations relations.items) catalogue.old) }
+{
+    for relation in relations {
+        put_relation(catalogue, db, relation)?;
+    }
+    Ok(())
+}
+
+#[tactic(auto, using(crate::proofs::PutLemmas::rows_then))]
+// Puts a relation after all others of a database.
+fn put_relation(
+    catalogue: &mut Catalogue,
+    db: usize,
+    relation: ReadRelation,
+) -> Result<(), NoMemory>
+    requires { CanTakeRelations catalogue.old db (relation ∷ []) }
+    ensures { OnOk result (catalogue.new ≡ at_place db (with_relation relation) catalogue.old) }
+{
+    let rel = catalogue.databases()[db].relations().len();
+    let (label, attributes, rows) = relation.into_parts();
+    catalogue.put_relation(db, label, attributes)?;
+    put_rows(catalogue, db, rel, rows)
+}
+
+// Puts these rows after all others of a relation.
+fn put_rows(
+    catalogue: &mut Catalogue,
+    db: usize,
+    rel: usize,
+    rows: Vec<Row>,
+) -> Result<(), NoMemory>
+    requires { CanTakeRows catalogue.old db rel rows.items }
+    ensures { OnOk result (catalogue.new ≡ at_place db (with_relation_at rel (with_rows rows.items)) catalogue.old) }
+{
+    for row in rows {
+        catalogue.put_row(db, rel, row)?;
+    }
+    Ok(())
+}
