@@ -1,5 +1,5 @@
 -- Worked rows: one office with its salaries.
-use Rattle.std.proofs.Common.{◌≡◌, refl, List, [], ◌∷◌, ◌++◌, Option, Some, None, Ok, Err}
+use Rattle.std.proofs.Common.{◌≡◌, refl, List, [], ◌∷◌, ◌++◌, Some, None, Ok, Err}
 use Rattle.std.specs.Prelude.{codes}
 use Rattle.std.specs.Str.{is_utf8, chars}
 use Rattle.ss_text.specs.Texts.{Text, Row}
@@ -8,7 +8,6 @@ use Rattle.schema_model.specs.Catalogue.{CatalogueValue, relation_value, databas
 use Rattle.schema_model.specs.Refusals.{fault}
 use Rattle.schema_model.specs.Changes.{after}
 use Rattle.schema_model.specs.Reading.{change_of, change_so_far}
-use Rattle.schema_model.specs.declared.change.Change.{Change}
 use Rattle.schema_model.specs.declared.change.Change.TheVariants.{Insert, Delete, AddAttribute, DropAttribute, RenameAttribute, CreateRelation, DropRelation, RenameRelation}
 use Rattle.schema_model.specs.declared.change.ChangeFault.TheVariants.{UnknownVerb, FieldCount, NotYet}
 use Rattle.schema_model.specs.declared.refusal.Refusal.TheVariants.{NoDatabase, IllegalName, NoRelation, RelationThere, NoAttribute, AttributeThere, LastAttribute, ArityDiffers, NoRow}

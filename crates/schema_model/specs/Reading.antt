@@ -1,5 +1,5 @@
 -- What a line of fields says, and the line of a change.
-use Rattle.std.specs.Prelude.{◌≡◌, ℕ, ◌+◌, Bool, List, [], ◌∷◌, length, Result, Ok, Err, Option, find, codes, ⊤}
+use Rattle.std.specs.Prelude.{◌≡◌, ◌+◌, List, [], ◌∷◌, length, Result, Ok, Err, Option, find, codes, ⊤}
 use Rattle.std.specs.Option.{option_map_or}
 use Rattle.ss_text.specs.Texts.{Text, Row, text_eq}
 use Rattle.schema_model.specs.declared.verb.Verb.{Verb}

@@ -1,5 +1,5 @@
 -- The first refusal of a change.
-use Rattle.std.specs.Prelude.{ℕ, Bool, true, false, not, ◌==◌, List, [], ◌∷◌, length, take, Option, Some, None, is_some, is_none, option_map, find, nat_le, nat_lt, slice_index_or, if◌then◌else◌}
+use Rattle.std.specs.Prelude.{ℕ, Bool, not, ◌==◌, List, [], ◌∷◌, length, take, Option, Some, None, is_some, is_none, option_map, find, nat_le, nat_lt, slice_index_or, if◌then◌else◌}
 use Rattle.std.specs.List.{list_any, range_with_len}
 use Rattle.std.specs.Option.{option_or}
 use Rattle.ss_text.specs.Texts.{Text, Row, row_eq, is_in}
@@ -84,3 +84,7 @@ fault c (DropRelation db rel) =
     first_of (no_database c db ∷ no_relation c db rel ∷ [])
 fault c (RenameRelation db rel to) =
     first_of (no_database c db ∷ illegal_name to ∷ no_relation c db rel ∷ relation_there c db to ∷ [])
+
+-- the first of the refusals that an insert and a delete share
+abbrev pub row_fault : CatalogueValue → Text → Text → Row → Option Refusal
+row_fault c db rel row = first_of (no_database c db ∷ no_relation c db rel ∷ arity_differs c db rel row ∷ [])
