@@ -214,12 +214,11 @@ mod tests {
     fn lines_make_a_table(rt: HostRuntime) -> Result<(), Fail> {
         let alloc = rt.alloc();
         let mut tables = Tables::new(alloc);
-        let steps: [(&[&str], bool); 14] = [
+        let steps: [(&[&str], bool); 13] = [
             (&["+", "Prof"], false),
             (&["table"], true),
             (&["table"], false),
             (&["+", "Prof"], true),
-            (&["| ", "cs"], true),
             (&["|", "cs"], true),
             (&["|", "bio"], true),
             (&["+", "Assoc"], true),

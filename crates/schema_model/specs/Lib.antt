@@ -1,2 +1,5 @@
 pub mod Catalogue
 pub mod Sound
+pub mod Refusals
+pub mod Changes
+pub mod Reading

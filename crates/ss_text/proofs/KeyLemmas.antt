@@ -4,6 +4,8 @@ use Rattle.std.specs.Prelude.{not, ◌||◌, count_by, insert, remove, filter}
 use Rattle.std.specs.List.{AllByRecursion, AllWithin, find, list_any}
 use Rattle.std.specs.List.Sorted.{IsStrictlySortedBy, IsSearchInRange, IsBinarySearchResult, IsNonDecreasingBy}
 use Rattle.std.specs.Map.{lookup}
+use Rattle.std.specs.Option.{IfSome, IfNone}
+use Rattle.std.specs.Result.{result_ok}
 use Rattle.std.specs.declared.cmp.Ordering.{Ordering}
 use Rattle.std.specs.declared.cmp.Ordering.TheVariants.{Less, Equal, Greater}
 use Rattle.std.specs.Ordering.{nat_cmp, eq_by_cmp, is_lt, is_eq, ordering_reverse, ordering_index}
@@ -285,6 +287,12 @@ module _ {K : Type 0} {R : K → K → Ordering} {E : K → K → Bool} (o : IsK
         let parts = parted (comparisons_rise k xs s) in
         let place : IsPlaceFor R key k xs i = record { within = bound; before = taken (λ x. R (key x) k ≡ Less) xs i parts.0 bound; after = dropped (λ x. R (key x) k ≡ Greater) xs i parts.1 } in
         record { there = sym (lacks_any k xs (lacks_for k xs i place)); found = tt; absent = place }
+
+    -- where only the place matters
+    pub searched_place : (k : K) (xs : List A) (r : Result ℕ ℕ) → Ascends xs → IsSearchInRange r (length xs) → IsBinarySearchResult (λ y. R (key y) k) xs r
+        → record { found : IfSome (result_ok r) (IsPlaceOf key k xs); absent : IfNone (result_ok r) (find (λ x. E k (key x)) xs ≡ None) }
+    searched_place k xs (Ok i) s bound answer = record { found = (searched k xs (Ok i) s bound answer).found; absent = tt }
+    searched_place k xs (Err i) s bound answer = record { found = tt; absent = lacks_find k xs (lacks_for k xs i (searched k xs (Err i) s bound answer).absent) }
 
     -- places among elements that are seen as others
     module _ {B : Type 0} (seen : B → A) where
