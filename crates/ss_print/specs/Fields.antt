@@ -1,0 +1,33 @@
+-- The name and the fields of each refusal, as they are printed.
+use Rattle.std.specs.Prelude.{ℕ, List, [], ◌∷◌, ◌++◌, Option, None, Some, option_to_list, codes, decimal}
+use Rattle.ss_text.specs.Texts.{Text, Row}
+use Rattle.schema_model.specs.declared.refusal.Which.{Which}
+use Rattle.schema_model.specs.declared.refusal.Which.TheVariants.{Databases, Relations, Attributes, Rows}
+use Rattle.csv_catalog.specs.declared.fault.LoadFault.{LoadFault}
+use Rattle.csv_catalog.specs.declared.fault.LoadFault.TheVariants as load
+use Rattle.flow_law.specs.declared.refused.IllegalLabel.{IllegalLabel}
+use Rattle.flow_law.specs.declared.refused.Clash.{Clash}
+
+-- what a limit counts
+abbrev pub counted : Which → Text
+counted Databases = codes "databases"
+counted Relations = codes "relations"
+counted Attributes = codes "attributes"
+counted Rows = codes "rows"
+
+-- source relations that are refused; a fault of reading or of memory is none
+abbrev pub load_fields : LoadFault → Row
+load_fields (load.NoHeader db file) = codes "no-header" ∷ db ∷ file ∷ []
+load_fields (load.NameTwice db file name) = codes "name-twice" ∷ db ∷ file ∷ name ∷ []
+load_fields (load.Ragged db file nth want got) = codes "ragged" ∷ db ∷ file ∷ decimal nth ∷ decimal want ∷ decimal got ∷ []
+load_fields (load.Limit which) = codes "limit" ∷ counted which ∷ []
+load_fields load.ReadFault = []
+load_fields load.NoMemory = []
+
+-- a label that is not legal: the table's, and the column's where it is that
+abbrev pub illegal_fields : IllegalLabel → Row
+illegal_fields e = codes "illegal-label" ∷ e.table ∷ option_to_list e.column
+
+-- two values for one cell: the table, the column, the values, and then the key
+abbrev pub clash_fields : Clash → Row
+clash_fields e = codes "conflict" ∷ e.table ∷ e.column ∷ e.first ∷ e.second ∷ e.key
