@@ -1,4 +1,5 @@
 pub mod AllRecords
+pub mod ReaderLemmas
 pub mod Canonical
 pub mod RoundTrip
 pub mod WritingLemmas

@@ -12,19 +12,20 @@ use std::alloc::Global;
 pub fn records(alloc: Global, bytes: &[u8]) -> Result<Vec<Row>, NoMemory>
     ensures { IfOk result (λ rows. rows.items ≡ records_of bytes.now) }
 {
-    let reader = ReaderBuilder::new()
+    let mut reader = ReaderBuilder::new()
         .has_headers(false)
         .flexible(true)
         .from_reader(alloc, bytes);
     let mut rows = Vec::new(alloc);
-    for found in reader.into_byte_records() {
-        // Memory is all that this reader can lack: a slice is read without a fault.
-        let Ok(found) = found else {
-            return Err(NoMemory);
-        };
-        rows.push(row_of(alloc, &found)?)?;
+    let mut found = ByteRecord::new(alloc);
+    loop {
+        match reader.read_byte_record(&mut found) {
+            Ok(true) => rows.push(row_of(alloc, &found)?)?,
+            Ok(false) => return Ok(rows),
+            // Memory is all that this reader can lack: a slice is read without a fault.
+            Err(_) => return Err(NoMemory),
+        }
     }
-    Ok(rows)
 }
 
 // The fields of a record.
@@ -32,7 +33,7 @@ pub fn records(alloc: Global, bytes: &[u8]) -> Result<Vec<Row>, NoMemory>
 fn row_of(alloc: Global, found: &ByteRecord) -> Result<Row, NoMemory>
     ensures { IfOk result (λ row. row ≡ fields_of found.now) }
 {
-    let mut texts = Vec::new(alloc);
+    let mut texts = Vec::with_capacity(alloc, found.len())?;
     for field in found {
         texts.push(Text::of(alloc, field)?)?;
     }
