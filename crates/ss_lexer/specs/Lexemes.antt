@@ -49,12 +49,23 @@ lexeme_in bytes (Ok t) = lexeme_of t.kind (slice_range bytes t.from t.to)
 lexeme_in bytes (Err (fault.BadByte at)) = Bad_byte
 lexeme_in bytes (Err (fault.OpenQuote at)) = Open_quote
 
--- what the tokens of a text say, up to its end or to its first fault
-abbrev pub lexemes : List ℕ → List Lexeme
-lexemes bytes = map (lexeme_in bytes) (tokens bytes)
-
 -- where an answer stands
 abbrev pub place_of : Answer → ℕ
 place_of (Ok t) = t.from
 place_of (Err (fault.BadByte at)) = at
 place_of (Err (fault.OpenQuote at)) = at
+
+-- a lexeme, and where it stands
+pub record Piece : Type 0 where
+  pub says : Lexeme
+  pub at : ℕ
+
+abbrev pub piece_in : List ℕ → Answer → Piece
+piece_in bytes a = record { says = lexeme_in bytes a; at = place_of a }
+
+-- what the tokens of a text say and where, up to its end or to its first fault
+abbrev pub pieces : List ℕ → List Piece
+pieces bytes = map (piece_in bytes) (tokens bytes)
+
+abbrev pub lexemes : List ℕ → List Lexeme
+lexemes bytes = map (lexeme_in bytes) (tokens bytes)

@@ -1,0 +1,7 @@
+mod Rows
+pub mod PhraseLaws
+pub mod Wider
+pub mod ListLoops
+pub mod ViewLaws
+pub mod Deeper
+pub mod Refusals

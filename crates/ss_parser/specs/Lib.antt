@@ -1,0 +1,7 @@
+pub mod Phrases
+pub mod Terms
+pub mod Declarations
+pub mod Comparing
+pub mod Views
+pub mod Refused
+pub mod Parses

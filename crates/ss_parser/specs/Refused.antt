@@ -1,0 +1,45 @@
+-- What a view text is read as, and where it is refused.
+use Rattle.std.specs.Prelude.{◌≡◌, ◌≢◌, ℕ, suc, List, [], take, slice_get, Some, ⊤}
+use Rattle.view_def.specs.Tree.{Tree}
+use Rattle.ss_lexer.specs.Lexemes.{Bad_byte, Open_quote, Piece, pieces}
+use Rattle.ss_parser.specs.declared.fault.ParseFault.{ParseFault}
+use Rattle.ss_parser.specs.declared.fault.ParseFault.TheVariants as fault
+use Rattle.ss_parser.specs.Views.{view}
+
+-- these pieces are a view with this tree, with at most so many of NOT and "(" open at once
+unfoldable pub AreView : ℕ → List Piece → Tree → Type 0
+AreView levels ps t = (view levels).reads ps t []
+
+-- the bytes are a view text with this tree
+abbrev pub IsRead : List ℕ → Tree → Type 0
+IsRead bytes t = AreView 64 (pieces bytes) t
+
+-- some view begins with the first k of these pieces
+abbrev pub Begin : ℕ → List Piece → ℕ → Type 0
+Begin levels ps k = (us : List Piece) × (t : Tree) × (take k us ≡ take k ps) × AreView levels us t
+
+-- the pieces before the place k begin some view, and with the one there they begin none
+pub record FirstBad (ps : List Piece) (k : ℕ) : Type 0 where
+  pub before : Begin 64 ps k
+  pub not_with : Begin 64 ps (suc k) → ⊥
+
+-- which fault it is: that of the text where one stands there; else too deep, where a view that has one more open goes on so;
+-- else unexpected, however many may be open
+abbrev pub IsFaultAt : List Piece → ℕ → Piece → ParseFault → Type 0
+IsFaultAt ps k p (fault.BadByte at) = (p.says ≡ Bad_byte) × (at ≡ p.at)
+IsFaultAt ps k p (fault.OpenQuote at) = (p.says ≡ Open_quote) × (at ≡ p.at)
+IsFaultAt ps k p (fault.Unexpected at) = (p.says ≢ Bad_byte) × (p.says ≢ Open_quote) × ((levels : ℕ) → Begin levels ps (suc k) → ⊥) × (at ≡ p.at)
+IsFaultAt ps k p (fault.TooDeep at) = Begin 65 ps (suc k) × (at ≡ p.at)
+IsFaultAt ps k p fault.NoMemory = ⊤
+
+-- a fault stands at the first piece with which these begin no view
+abbrev pub IsRefusedAt : List Piece → ParseFault → Type 0
+IsRefusedAt ps f = (k : ℕ) × (p : Piece) × (slice_get ps k ≡ Some p) × FirstBad ps k × IsFaultAt ps k p f
+
+-- the earliest refusal in the text; want of memory is none
+abbrev pub IsRefused : List ℕ → ParseFault → Type 0
+IsRefused bytes (fault.BadByte at) = IsRefusedAt (pieces bytes) (fault.BadByte at)
+IsRefused bytes (fault.OpenQuote at) = IsRefusedAt (pieces bytes) (fault.OpenQuote at)
+IsRefused bytes (fault.Unexpected at) = IsRefusedAt (pieces bytes) (fault.Unexpected at)
+IsRefused bytes (fault.TooDeep at) = IsRefusedAt (pieces bytes) (fault.TooDeep at)
+IsRefused bytes fault.NoMemory = ⊤
