@@ -5,3 +5,4 @@ pub mod ListLoops
 pub mod ViewLaws
 pub mod Deeper
 pub mod Refusals
+pub mod ReaderLemmas

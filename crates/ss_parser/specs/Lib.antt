@@ -5,3 +5,4 @@ pub mod Comparing
 pub mod Views
 pub mod Refused
 pub mod Parses
+pub mod Ahead

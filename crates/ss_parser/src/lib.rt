@@ -5,6 +5,7 @@
 #![tactic(auto)]
 
 mod fault;
+mod reader;
 
 pub use fault::ParseFault;
 
