@@ -1,3 +1,4 @@
+pub mod Keywords
 pub mod Phrases
 pub mod Terms
 pub mod Declarations

@@ -1,7 +1,7 @@
 -- What a view text is read as, and where it is refused.
 use Rattle.std.specs.Prelude.{◌≡◌, ◌≢◌, ℕ, suc, List, [], take, slice_get, Some, ⊤}
 use Rattle.view_def.specs.Tree.{Tree}
-use Rattle.ss_lexer.specs.Lexemes.{Bad_byte, Open_quote, Piece, pieces}
+use Rattle.ss_lexer.specs.Lexemes.{Lexeme, Bad_byte, Open_quote, Piece, pieces}
 use Rattle.ss_parser.specs.declared.fault.ParseFault.{ParseFault}
 use Rattle.ss_parser.specs.declared.fault.ParseFault.TheVariants as fault
 use Rattle.ss_parser.specs.Views.{view}
@@ -31,6 +31,15 @@ IsFaultAt ps k p (fault.OpenQuote at) = (p.says ≡ Open_quote) × (at ≡ p.at)
 IsFaultAt ps k p (fault.Unexpected at) = (p.says ≢ Bad_byte) × (p.says ≢ Open_quote) × ((levels : ℕ) → Begin levels ps (suc k) → ⊥) × (at ≡ p.at)
 IsFaultAt ps k p (fault.TooDeep at) = Begin 65 ps (suc k) × (at ≡ p.at)
 IsFaultAt ps k p fault.NoMemory = ⊤
+
+-- the fault of a piece that no view goes on with: that of the text where it says one, or that it is not expected
+abbrev pub fault_by : Lexeme → ℕ → ParseFault
+fault_by Bad_byte at = fault.BadByte at
+fault_by Open_quote at = fault.OpenQuote at
+fault_by l at = fault.Unexpected at
+
+abbrev pub fault_at : Piece → ParseFault
+fault_at p = fault_by p.says p.at
 
 -- a fault stands at the first piece with which these begin no view
 abbrev pub IsRefusedAt : List Piece → ParseFault → Type 0

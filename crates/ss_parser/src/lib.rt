@@ -5,7 +5,9 @@
 #![tactic(auto)]
 
 mod fault;
+mod keyword;
 mod reader;
+mod unquote;
 
 pub use fault::ParseFault;
 
