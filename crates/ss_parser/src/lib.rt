@@ -6,6 +6,7 @@
 
 mod fault;
 mod keyword;
+mod operator;
 mod reader;
 mod unquote;
 

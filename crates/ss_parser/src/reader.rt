@@ -5,21 +5,24 @@ ghost use Rattle.std.specs.Str.{str_to_ascii_lowercase};
 ghost use Rattle.ss_text.specs.Texts.{Text as bytes_of_text, is_in};
 ghost use Rattle.ss_lexer.specs.Lexemes.{Piece, pieces, keywords};
 ghost use Rattle.ss_parser.specs.Phrases.{next, passes};
-ghost use Rattle.ss_parser.specs.Terms.{just, key as key_phrase, sign as sign_phrase, ident as ident_phrase, is_key, is_sign, is_ident};
-ghost use Rattle.ss_parser.specs.Comparing.{starts_term};
-ghost use Rattle.ss_parser.specs.Views.{is_finish};
+ghost use Rattle.ss_parser.specs.Terms.{just, key as key_phrase, sign as sign_phrase, ident as ident_phrase, name as name_phrase, literal as literal_phrase, is_key, is_sign, is_ident};
+ghost use Rattle.ss_parser.specs.Comparing.{starts_term, operator as operator_phrase};
+ghost use Rattle.ss_parser.specs.Views.{finish as finish_phrase};
 ghost use Rattle.ss_parser.specs.Keywords.{spelling};
 ghost use Rattle.ss_parser.specs.Refused.{fault_at};
-ghost use Rattle.ss_parser.specs.Parses.{Parses};
+ghost use Rattle.ss_parser.specs.Parses.{Parses, ParsesAll};
 ghost use Rattle.ss_parser.specs.Ahead.{is_end};
 
 use crate::ParseFault;
 use crate::fault::Stop;
 use crate::keyword::{Keyword, is_keyword};
+use crate::operator::operator_of;
+use crate::unquote::unquoted;
 use ss_lexer::{Kind, Token, TokenFault, Tokens};
 use ss_text::{NoMemory, Text};
 use std::alloc::Global;
 use std::marker::Model;
+use view_def::{Name, Op, RawTerm};
 
 /// A text that is read, which contracts see as the list of the pieces that are left. There is always one more.
 #[derive(Drop)]
@@ -127,13 +130,101 @@ impl<'a> Reader<'a> {
         }
     }
 
-    /// Whether the end is next.
-    fn is_finish(&self) -> bool
-        ensures { result ≡ passes is_finish (next self.now) }
+    /// Passes over this sign.
+    pub(crate) fn sign(&mut self, sign: &[u8]) -> Result<(), Stop>
+        ensures { Parses (λ _. tt) (sign_phrase sign.now) self.old self.new result }
+    {
+        if !self.is_sign(sign) {
+            return Err(Stop::Unexpected);
+        }
+        self.advance();
+        Ok(())
+    }
+
+    /// Passes over this keyword.
+    pub(crate) fn key(&mut self, key: Keyword) -> Result<(), Stop>
+        ensures { Parses (λ _. tt) (key_phrase (spelling key)) self.old self.new result }
+    {
+        if !self.is_key(key) {
+            return Err(Stop::Unexpected);
+        }
+        self.advance();
+        Ok(())
+    }
+
+    /// Sees that nothing is left.
+    pub(crate) fn finish(&self) -> Result<(), Stop>
+        ensures { ParsesAll (λ _. tt) finish_phrase self.now self.now result }
     {
         match self.ahead {
-            Ok(token) => token.kind == Kind::Finish,
-            Err(_) => false,
+            Ok(token) if token.kind == Kind::Finish => Ok(()),
+            _ => Err(Stop::Unexpected),
+        }
+    }
+
+    /// An identifier.
+    pub(crate) fn ident(&mut self, alloc: Global) -> Result<Text, Stop>
+        ensures { Parses (λ t. t) ident_phrase self.old self.new result }
+    {
+        let text = match self.ahead {
+            Ok(token) if self.is_ident() => Text::of(alloc, text_of(self.bytes, token))?,
+            _ => return Err(Stop::Unexpected),
+        };
+        self.advance();
+        Ok(text)
+    }
+
+    /// A name.
+    pub(crate) fn name(&mut self, alloc: Global) -> Result<Name, Stop>
+        ensures { Parses (λ n. n) name_phrase self.old self.new result }
+    {
+        let ahead = self.ahead;
+        let name = match ahead {
+            Ok(token) if token.kind == Kind::Quoted => Name {
+                text: unquoted(alloc, b'"', text_of(self.bytes, token))?,
+                quoted: true,
+            },
+            Ok(token) if self.is_ident() => Name {
+                text: Text::of(alloc, text_of(self.bytes, token))?,
+                quoted: false,
+            },
+            _ => return Err(Stop::Unexpected),
+        };
+        self.advance();
+        Ok(name)
+    }
+
+    /// A literal.
+    pub(crate) fn literal(&mut self, alloc: Global) -> Result<RawTerm, Stop>
+        ensures { Parses (λ t. t) literal_phrase self.old self.new result }
+    {
+        let ahead = self.ahead;
+        let text = match ahead {
+            Ok(token) if token.kind == Kind::Str => {
+                unquoted(alloc, b'\'', text_of(self.bytes, token))?
+            }
+            Ok(token) if token.kind == Kind::Num => Text::of(alloc, text_of(self.bytes, token))?,
+            _ => return Err(Stop::Unexpected),
+        };
+        self.advance();
+        Ok(RawTerm::Literal(text))
+    }
+
+    /// An operator.
+    pub(crate) fn operator(&mut self) -> Result<Op, Stop>
+        ensures { Parses (λ o. o) operator_phrase self.old self.new result }
+    {
+        let ahead = self.ahead;
+        let op = match ahead {
+            Ok(token) if token.kind == Kind::Sign => operator_of(text_of(self.bytes, token)),
+            _ => None,
+        };
+        match op {
+            Some(op) => {
+                self.advance();
+                Ok(op)
+            }
+            None => Err(Stop::Unexpected),
         }
     }
 }
