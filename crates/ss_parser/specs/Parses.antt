@@ -1,5 +1,5 @@
 -- What a function of the reader does with the pieces that are left.
-use Rattle.std.specs.Prelude.{Bool, true, false, List, [], Result, Ok, Err, ⊤}
+use Rattle.std.specs.Prelude.{◌≡◌, Bool, true, false, List, [], ◌∷◌, Result, Ok, Err, ⊤}
 use Rattle.ss_lexer.specs.Lexemes.{Piece}
 use Rattle.ss_parser.specs.declared.fault.Stop.{Stop}
 use Rattle.ss_parser.specs.declared.fault.Stop.TheVariants as stop
@@ -16,3 +16,8 @@ Parses view p old new (Err stop.NoMemory) = ⊤
 abbrev pub ParsesAll : {X A : Type 0} → (X → A) → Phrase Piece A → List Piece → List Piece → Result X Stop → Type 0
 ParsesAll view p old new (Ok x) = p.reads old (view x) []
 ParsesAll view p old new (Err e) = Parses view p old new (Err e)
+
+-- The first piece passes, and the others are left.
+abbrev pub Passes : (Piece → Bool) → List Piece → List Piece → Type 0
+Passes test [] new = ⊥
+Passes test (p ∷ ps) new = (test p ≡ true) × (ps ≡ new)

@@ -4,10 +4,12 @@
 //! knows nothing of declared variables, and of no relation.
 #![tactic(auto)]
 
+mod declaration;
 mod fault;
 mod keyword;
 mod operator;
 mod reader;
+mod term;
 mod unquote;
 
 pub use fault::ParseFault;

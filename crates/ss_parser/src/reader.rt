@@ -10,7 +10,7 @@ ghost use Rattle.ss_parser.specs.Comparing.{starts_term, operator as operator_ph
 ghost use Rattle.ss_parser.specs.Views.{finish as finish_phrase};
 ghost use Rattle.ss_parser.specs.Keywords.{spelling};
 ghost use Rattle.ss_parser.specs.Refused.{fault_at};
-ghost use Rattle.ss_parser.specs.Parses.{Parses, ParsesAll};
+ghost use Rattle.ss_parser.specs.Parses.{Parses, ParsesAll, Passes};
 ghost use Rattle.ss_parser.specs.Ahead.{is_end};
 
 use crate::ParseFault;
@@ -150,6 +150,32 @@ impl<'a> Reader<'a> {
         }
         self.advance();
         Ok(())
+    }
+
+    /// Passes over this sign, if it is next.
+    pub(crate) fn takes_sign(&mut self, sign: &[u8]) -> bool
+        ensures there { OnTrue result (Passes (is_sign sign.now) self.old self.new) }
+        ensures missing { OnFalse result (passes (is_sign sign.now) (next self.old) ≡ false) }
+        ensures stays { OnFalse result (self.new ≡ self.old) }
+    {
+        let there = self.is_sign(sign);
+        if there {
+            self.advance();
+        }
+        there
+    }
+
+    /// Passes over this keyword, if it is next.
+    pub(crate) fn takes_key(&mut self, key: Keyword) -> bool
+        ensures there { OnTrue result (Passes (is_key (spelling key)) self.old self.new) }
+        ensures missing { OnFalse result (passes (is_key (spelling key)) (next self.old) ≡ false) }
+        ensures stays { OnFalse result (self.new ≡ self.old) }
+    {
+        let there = self.is_key(key);
+        if there {
+            self.advance();
+        }
+        there
     }
 
     /// Sees that nothing is left.
