@@ -1,13 +1,15 @@
 -- Where a view is refused, and that a text has one tree.
 use Rattle.std.proofs.Common.{◌≡◌, ◌≢◌, ℕ, zero, suc, ◌+◌, ◌-◌, ◌<◌, ◌≤◌, Bool, true, false, List, [], ◌∷◌, ◌++◌, length, take, drop, Option, Some, None, ◌⊎◌, ⊎_elim, refl, sym, ◌∙◌, ap, subst, inl, inr, arith, length-append, unwrap_or}
-use Rattle.std.specs.Prelude.{slice_get}
+use Rattle.std.specs.Prelude.{slice_get, option_map}
 use Rattle.std.proofs.lemmas.Bool.{cases_lt}
 use Rattle.std.proofs.Math.Seq.{take-append_seam, take-append-add, take-length}
 use Rattle.view_def.specs.Tree.{Tree}
-use Rattle.ss_lexer.specs.Lexemes.{Piece}
+use Rattle.ss_lexer.specs.Lexemes.{Lexeme, Ident, Key, Quoted, Literal, Mark, Finish, Bad_byte, Open_quote, Piece, pieces}
 use Rattle.ss_parser.specs.Phrases.{Phrase, next}
 use Rattle.ss_parser.specs.Views.{view}
-use Rattle.ss_parser.specs.Refused.{AreView, Begin, FirstBad, IsRead}
+use Rattle.ss_parser.specs.declared.fault.ParseFault.{ParseFault}
+use Rattle.ss_parser.specs.declared.fault.ParseFault.TheVariants as fault
+use Rattle.ss_parser.specs.Refused.{AreView, Begin, FirstBad, IsRead, IsFaultAt, IsRefusedAt, IsRefused, fault_by, fault_at}
 use Rattle.ss_parser.proofs.PhraseLaws.{Laws, Stuck}
 use Rattle.ss_parser.proofs.Wider.{Wider, GoesPast}
 use Rattle.ss_parser.proofs.ViewLaws.{view_laws}
@@ -64,26 +66,103 @@ agree (x ∷ done) (u ∷ us) rest e =
     (tail.0, ap (λ m. u ∷ m) tail.1 ∙ ap (λ x'. x' ∷ (done ++ tail.0)) (ap (λ m. unwrap_or (next m) u) e), tail.2)
 
 -- the pieces before the one where a view stops begin a view, and with it they begin none
-module _ (levels : ℕ) (deep : Bool) (ts rest : List Piece) (s : (view levels).stops deep ts rest) where
-  -- how many pieces stand before that one
-  pub place : ℕ
-  place = length ((view_laws levels).stuck deep ts rest s).done
+module _ (levels : ℕ) (deep : Bool) (ts rest : List Piece) (s : (view levels).stops deep ts rest) (k : ℕ) (e : k + length rest ≡ length ts) where
+  at_done : length ((view_laws levels).stuck deep ts rest s).done ≡ k
+  at_done = let at = (view_laws levels).stuck deep ts rest s in omega (arith, ap length at.is, length-append at.done rest)
 
-  pub begins : Begin levels ts place
-  unfolding AreView place
+  begins : Begin levels ts k
+  unfolding AreView
   begins =
       let at = (view_laws levels).stuck deep ts rest s in
-      let whole = at.goes_on in (
+      let whole = at.goes_on in
+      subst (Begin levels ts) at_done (
         at.done ++ (whole.rest ++ []),
         whole.value,
         take-append_seam at.done (whole.rest ++ []) ∙ sym (take-append_seam at.done rest) ∙ ap (take (length at.done)) (sym at.is),
         whole.reads [] refl,
       )
 
-  pub begins_no_more : Begin levels ts (suc place) → ⊥
-  unfolding AreView place
+  begins_no_more : Begin levels ts (suc k) → ⊥
+  unfolding AreView
   begins_no_more other =
       let l = view_laws levels in
       let at = l.stuck deep ts rest s in
-      let same = agree at.done other.0 rest (other.2 ∙ ap (take (suc (length at.done))) at.is) in
+      let same_front = subst (λ n. take (suc n) other.0 ≡ take (suc n) ts) (sym at_done) other.2 in
+      let same = agree at.done other.0 rest (same_front ∙ ap (take (suc (length at.done))) at.is) in
       l.not_both deep other.0 other.1 [] same.0 other.3 (subst (λ m. (view levels).stops deep m same.0) (sym same.1) (at.again same.0 same.2))
+
+-- however many may be open
+unexpected : (ts rest : List Piece) (k : ℕ) → (view 64).stops false ts rest → k + length rest ≡ length ts → (m : ℕ) → Begin m ts (suc k) → ⊥
+unfolding AreView
+unexpected ts rest k s e m other = ⊎_elim
+    (λ (le : m < 64). begins_no_more 64 false ts rest s k e (other.0, other.1, other.2, more_levels m 64 (omega arith) other.0 other.1 [] other.3))
+    (λ (le : 64 ≤ m). begins_no_more m false ts rest (more_stops 64 m le ts rest s) k e other) (cases_lt m 64)
+
+-- where one more may be open
+too_deep : (ts rest : List Piece) (k : ℕ) → (view 64).stops true ts rest → k + length rest ≡ length ts → Begin 65 ts (suc k)
+unfolding AreView
+too_deep ts rest k s e =
+    let g = (view_wider 64).goes ts rest s in
+    let k_is : length g.done + 1 ≡ suc k = omega (arith, ap length g.is, length-append g.done rest) in (
+      g.done ++ (g.one ∷ (g.some ++ [])),
+      g.value,
+      subst (λ n. take n (g.done ++ (g.one ∷ (g.some ++ []))) ≡ take n ts) k_is
+          (take-append-add g.done (g.one ∷ (g.some ++ [])) 1 ∙ sym (ap (take (length g.done + 1)) (g.is ∙ ap (λ m. g.done ++ m) g.is_rest) ∙ take-append-add g.done (g.one ∷ g.left) 1)),
+      g.reads [] refl,
+    )
+
+-- the piece where a view stops, by its place
+got : (done rest : List Piece) (p : Piece) → next rest ≡ Some p → slice_get (done ++ rest) (length done) ≡ Some p
+got [] [] p e = absurd (cc)
+got [] (x ∷ rest) p e = e
+got (x ∷ done) rest p e = got done rest p e
+
+-- what is read, and what is refused, of a text
+module _ (bytes : List ℕ) (ps : List Piece) (is : ps ≡ pieces bytes) where
+  pub is_read : (t : Tree) → (view 64).reads ps t [] → IsRead bytes t
+  unfolding AreView
+  is_read t r = subst (λ m. (view 64).reads m t []) is r
+
+  pub not_read : (deep : Bool) (rest : List Piece) (t : Tree) → (view 64).stops deep ps rest → IsRead bytes t → ⊥
+  unfolding AreView
+  not_read deep rest t s r = (view_laws 64).not_both deep (pieces bytes) t [] rest r (subst (λ m. (view 64).stops deep m rest) is s)
+
+  module _ (deep : Bool) (rest : List Piece) (p : Piece) (s : (view 64).stops deep ps rest) (e : next rest ≡ Some p) where
+    place : ℕ
+    place = length ((view_laws 64).stuck deep ps rest s).done
+
+    place_is : place + length rest ≡ length ps
+    unfolding place
+    place_is = let at = (view_laws 64).stuck deep ps rest s in sym (ap length at.is ∙ length-append at.done rest)
+
+    at_place : slice_get ps place ≡ Some p
+    unfolding place
+    at_place = let at = (view_laws 64).stuck deep ps rest s in ap (λ m. slice_get m (length at.done)) at.is ∙ got at.done rest p e
+
+    refused_at : (f : ParseFault) → IsFaultAt ps place p f → IsRefusedAt ps f
+    refused_at f h = (place, p, at_place, record { before = begins 64 deep ps rest s place place_is; not_with = begins_no_more 64 deep ps rest s place place_is }, h)
+
+  module _ (rest : List Piece) (p : Piece) (s : (view 64).stops false ps rest) (e : next rest ≡ Some p) where
+    none_at : (m : ℕ) → Begin m ps (suc (place false rest p s e)) → ⊥
+    none_at = unexpected ps rest (place false rest p s e) s (place_is false rest p s e)
+
+    refused_by : (l : Lexeme) → p.says ≡ l → IsRefused bytes (fault_by l p.at)
+    refused_by Bad_byte says = subst (λ m. IsRefusedAt m (fault.BadByte p.at)) is (refused_at false rest p s e (fault.BadByte p.at) (says, refl))
+    refused_by Open_quote says = subst (λ m. IsRefusedAt m (fault.OpenQuote p.at)) is (refused_at false rest p s e (fault.OpenQuote p.at) (says, refl))
+    refused_by (Ident t) says = subst (λ m. IsRefusedAt m (fault.Unexpected p.at)) is (refused_at false rest p s e (fault.Unexpected p.at) (λ h. cc, λ h. cc, none_at, refl))
+    refused_by (Key t) says = subst (λ m. IsRefusedAt m (fault.Unexpected p.at)) is (refused_at false rest p s e (fault.Unexpected p.at) (λ h. cc, λ h. cc, none_at, refl))
+    refused_by (Quoted t) says = subst (λ m. IsRefusedAt m (fault.Unexpected p.at)) is (refused_at false rest p s e (fault.Unexpected p.at) (λ h. cc, λ h. cc, none_at, refl))
+    refused_by (Literal t) says = subst (λ m. IsRefusedAt m (fault.Unexpected p.at)) is (refused_at false rest p s e (fault.Unexpected p.at) (λ h. cc, λ h. cc, none_at, refl))
+    refused_by (Mark t) says = subst (λ m. IsRefusedAt m (fault.Unexpected p.at)) is (refused_at false rest p s e (fault.Unexpected p.at) (λ h. cc, λ h. cc, none_at, refl))
+    refused_by Finish says = subst (λ m. IsRefusedAt m (fault.Unexpected p.at)) is (refused_at false rest p s e (fault.Unexpected p.at) (λ h. cc, λ h. cc, none_at, refl))
+
+  pub refused : (rest : List Piece) (f : ParseFault) → (view 64).stops false ps rest → option_map fault_at (next rest) ≡ Some f → IsRefused bytes f
+  refused [] f s e = absurd (cc)
+  refused (p ∷ rest) f s e = subst (IsRefused bytes) (ap (λ o. unwrap_or o f) e) (refused_by (p ∷ rest) p s refl p.says refl)
+
+  pub refused_too_deep : (rest : List Piece) (at : ℕ) → (view 64).stops true ps rest → option_map (λ (p : Piece). p.at) (next rest) ≡ Some at → IsRefused bytes (fault.TooDeep at)
+  refused_too_deep [] at s e = absurd (cc)
+  refused_too_deep (p ∷ rest) at s e =
+      let k = place true (p ∷ rest) p s refl in
+      let same : at ≡ p.at = sym (ap (λ o. unwrap_or o at) e) in
+      subst (λ m. IsRefusedAt m (fault.TooDeep at)) is (refused_at true (p ∷ rest) p s refl (fault.TooDeep at) (too_deep ps (p ∷ rest) k s (place_is true (p ∷ rest) p s refl), same))

@@ -1,5 +1,5 @@
 -- The laws of the grammar of a view text.
-use Rattle.std.proofs.Common.{◌≡◌, ℕ, zero, suc, Bool, true, false, List, [], Option, Some, None, refl, ap, cond}
+use Rattle.std.proofs.Common.{◌≡◌, ◌-◌, ◌<◌, arith, ℕ, zero, suc, Bool, true, false, List, [], Option, Some, None, refl, ap, cond}
 use Rattle.std.specs.Prelude.{if◌then◌else◌, codes}
 use Rattle.ss_text.specs.Texts.{Text}
 use Rattle.view_def.specs.declared.written.Name.{Name}
@@ -109,6 +109,17 @@ pub unit_laws : (levels : ℕ) → Laws (unit levels) after_term word
 unfolding unit
 unit_laws zero = limited_laws starts_term opens comparison after_term word comparison_laws refl
 unit_laws (suc levels) = by_next_laws starts_term comparison (inside (unit levels)) after_term word (the_key (codes "not")) comparison_laws (inside_laws (unit levels) (unit_laws levels)) refl
+
+-- where none may be open, and where one less may be open inside
+pub unit_zero : (levels : ℕ) → levels ≡ 0 → unit levels ≡ by_next starts_term comparison (limit opens)
+unfolding unit
+unit_zero zero h = refl
+unit_zero (suc levels) h = absurd (omega arith)
+
+pub unit_inside : (levels : ℕ) → 0 < levels → unit levels ≡ nested (unit (levels - 1))
+unfolding unit
+unit_inside zero h = absurd (omega arith)
+unit_inside (suc levels) h = let e : levels ≡ suc levels - 1 = omega arith in ap (λ n. nested (unit n)) e
 
 -- declarations
 pub var_laws : (r : RawRange) → Laws (var r) always word

@@ -5,5 +5,6 @@ pub mod Declarations
 pub mod Comparing
 pub mod Views
 pub mod Refused
+pub mod Heads
 pub mod Parses
 pub mod Ahead

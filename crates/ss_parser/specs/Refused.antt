@@ -1,6 +1,7 @@
 -- What a view text is read as, and where it is refused.
-use Rattle.std.specs.Prelude.{◌≡◌, ◌≢◌, ℕ, suc, List, [], take, slice_get, Some, ⊤}
-use Rattle.view_def.specs.Tree.{Tree}
+use Rattle.std.specs.Prelude.{◌≡◌, ◌≢◌, ℕ, suc, List, [], take, slice_get, Some, Result, Ok, Err, ⊤}
+use Rattle.view_def.specs.declared.written.ViewText.{ViewText}
+use Rattle.view_def.specs.Tree.{Tree, tree_of}
 use Rattle.ss_lexer.specs.Lexemes.{Lexeme, Bad_byte, Open_quote, Piece, pieces}
 use Rattle.ss_parser.specs.declared.fault.ParseFault.{ParseFault}
 use Rattle.ss_parser.specs.declared.fault.ParseFault.TheVariants as fault
@@ -52,3 +53,8 @@ IsRefused bytes (fault.OpenQuote at) = IsRefusedAt (pieces bytes) (fault.OpenQuo
 IsRefused bytes (fault.Unexpected at) = IsRefusedAt (pieces bytes) (fault.Unexpected at)
 IsRefused bytes (fault.TooDeep at) = IsRefusedAt (pieces bytes) (fault.TooDeep at)
 IsRefused bytes fault.NoMemory = ⊤
+
+-- what is answered where a view is read: its tree, or want of memory
+abbrev pub IsReadAs : Tree → Result ViewText ParseFault → Type 0
+IsReadAs t (Ok v) = tree_of v ≡ t
+IsReadAs t (Err f) = f ≡ fault.NoMemory

@@ -17,6 +17,17 @@ pub enum ParseFault {
     NoMemory,
 }
 
+impl From<NoMemory> for ParseFault {
+    ghost use Rattle.std.specs.Prelude.{◌≡◌};
+    ghost use Rattle.ss_parser.specs.declared.fault.ParseFault.TheVariants as fault;
+
+    ghost from_gives = { λ _ e. e ≡ fault.NoMemory };
+
+    fn from(_: NoMemory) -> ParseFault {
+        ParseFault::NoMemory
+    }
+}
+
 /// Why nothing is read from here on.
 #[derive(Clone, Copy, Debug, PartialEq, Eq)]
 pub(crate) enum Stop {

@@ -4,6 +4,7 @@
 //! knows nothing of declared variables, and of no relation.
 #![tactic(auto)]
 
+mod condition;
 mod declaration;
 mod fault;
 mod keyword;
@@ -11,15 +12,7 @@ mod operator;
 mod reader;
 mod term;
 mod unquote;
+mod view;
 
 pub use fault::ParseFault;
-
-ghost use Rattle.std.specs.Prelude.{List, ℕ, [], ◌≡◌};
-ghost use Rattle.view_def.specs.Tree.{Tree};
-ghost use Rattle.ss_parser.specs.Refused.{IsRead, IsRefused};
-
-/// Cites the definitions, so that they are checked.
-pub fn cites(reason: ParseFault)
-    ensures read { (t : Tree) → IsRead [] t → IsRead [] t }
-    ensures refused { IsRefused [] reason → IsRefused [] reason }
-{}
+pub use view::parse;

@@ -1,5 +1,5 @@
 //! The pieces of a text, one of them ahead.
-ghost use Rattle.std.specs.Prelude.{◌≡◌, ◌≤◌, ◌<◌, Bool, true, false, List, length, drop, IfOk, IfSome, Some, option_map, slice_get, slice_range, map};
+ghost use Rattle.std.specs.Prelude.{◌≡◌, ◌≤◌, ◌<◌, Bool, true, false, List, length, drop, IfOk, Some, option_map, slice_get, slice_range, map};
 ghost use Rattle.std.specs.Bool.{OnTrue, OnFalse};
 ghost use Rattle.std.specs.Str.{str_to_ascii_lowercase};
 ghost use Rattle.ss_text.specs.Texts.{Text as bytes_of_text, is_in};
@@ -70,7 +70,7 @@ impl<'a> Reader<'a> {
 
     /// Why the next piece goes on no view: the fault of the text there, or that it is not expected.
     pub(crate) fn fault(&self) -> ParseFault
-        ensures { IfSome (next self.now) (λ p. result ≡ fault_at p) }
+        ensures { option_map fault_at (next self.now) ≡ Some result }
     {
         match self.ahead {
             Ok(token) => ParseFault::Unexpected { at: token.from },
