@@ -16,7 +16,7 @@ use Rattle.ss_parser.specs.Declarations.{decl_of, var, arrow_var, column_var, ce
 use Rattle.ss_parser.specs.Comparing.{an_operator, operator, comparison, any_of, all_of, all, any, negation, group, starts_term, opens, inside, nested, unit}
 use Rattle.ss_parser.specs.Views.{Head, head_of, columns, target, header, selection, declarations, is_finish, finish, closed, end, filtered, unfiltered, ending, tree_with, view}
 use Rattle.ss_parser.proofs.PhraseLaws.{Laws, always, mapped_laws, then_laws}
-use Rattle.ss_parser.proofs.Wider.{Wider, GoesPast, less_wide, IsShallow, token_shallow, gives_shallow, then_shallow, by_next_shallow, listed_shallow, shallow_wider, token_wider, then_wider, mapped_wider, list_wider, by_next_wider}
+use Rattle.ss_parser.proofs.Wider.{Wider, GoesPast, less_wide, IsShallow, token_shallow, gives_shallow, then_shallow, by_next_shallow, listed_shallow, shallow_wider, StopsAt, shallow_stops, then_stops_at, by_next_stops_at, listed_stops_at, limit_stops_at, token_wider, then_wider, mapped_wider, list_wider, by_next_wider}
 use Rattle.ss_parser.proofs.ViewLaws.{word, the_key, the_sign, after_term, after_all, after_any, after_comma, just_laws, all_laws, any_laws, close_laws, unit_laws, end_laws, header_laws, selection_laws, declarations_laws, filtered_laws, ending_laws}
 
 -- nothing outside of conditions is nested
@@ -257,3 +257,42 @@ module _ (levels : ℕ) where
       from_selection h =
           then_laws selection (λ select. declarations >>= λ decls. ending (suc levels) >>= λ c. gives (tree_with h select decls c)) (after_comma after_term) always (the_key (codes "select")) (the_key (codes "from")) selection_laws (λ select.
           from_declarations h select) refl
+
+-- what is too deep is a NOT or a parenthesis
+module _ (u : Phrase Piece Raw) (h : StopsAt opens u) where
+  gives_stops : {A B : Type 0} (p : Phrase Piece A) (g : A → B) → StopsAt opens p → StopsAt opens (p >>= λ a. gives (g a))
+  gives_stops p g k = then_stops_at opens p (λ a. gives (g a)) k (λ a. shallow_stops opens (gives (g a)) (gives_shallow (g a)))
+
+  behind_stops : {A : Type 0} (test : Piece → Bool) (p : Phrase Piece A) → StopsAt opens p → StopsAt opens (just test >>= λ _. p)
+  behind_stops test p k = then_stops_at opens (just test) (λ _. p) (shallow_stops opens (just test) (just_shallow test)) (λ _. k)
+
+  any_stops : StopsAt opens (any u)
+  any_stops = gives_stops (listed (is_key (codes "or")) (all u)) any_of (listed_stops_at opens (is_key (codes "or")) (all u) (gives_stops (listed (is_key (codes "and")) u) all_of (listed_stops_at opens (is_key (codes "and")) u h)))
+
+  inside_stops_at : StopsAt opens (inside u)
+  inside_stops_at =
+      by_next_stops_at opens (is_key (codes "not")) (negation u) (group u)
+      (behind_stops (is_key (codes "not")) (u >>= λ c. gives (NotRaw c)) (gives_stops u (λ c. NotRaw c) h))
+      (behind_stops (is_sign (codes "(")) (any u >>= λ c. sign (codes ")") >>= λ _. gives c)
+      (then_stops_at opens (any u) (λ c. sign (codes ")") >>= λ _. gives c) any_stops (λ c.
+      shallow_stops opens (sign (codes ")") >>= λ _. gives c) (behind_shallow (is_sign (codes ")")) (gives c) (gives_shallow c)))))
+
+pub unit_stops_at : (levels : ℕ) → StopsAt opens (unit levels)
+unfolding unit
+unit_stops_at zero = by_next_stops_at opens starts_term comparison (limit opens) (shallow_stops opens comparison comparison_shallow) (limit_stops_at Raw opens)
+unit_stops_at (suc levels) = by_next_stops_at opens starts_term comparison (inside (unit levels)) (shallow_stops opens comparison comparison_shallow) (inside_stops_at (unit levels) (unit_stops_at levels))
+
+pub view_stops_at : (levels : ℕ) → StopsAt opens (view levels)
+view_stops_at levels =
+    then_stops_at opens header (λ h. selection >>= λ select. declarations >>= λ decls. ending levels >>= λ c. gives (tree_with h select decls c)) (shallow_stops opens header header_shallow) (λ h.
+    then_stops_at opens selection (λ select. declarations >>= λ decls. ending levels >>= λ c. gives (tree_with h select decls c)) (shallow_stops opens selection selection_shallow) (λ select.
+    then_stops_at opens declarations (λ decls. ending levels >>= λ c. gives (tree_with h select decls c)) (shallow_stops opens declarations declarations_shallow) (λ decls.
+    then_stops_at opens (ending levels) (λ c. gives (tree_with h select decls c)) ending_stops (λ c. shallow_stops opens (gives (tree_with h select decls c)) (gives_shallow (tree_with h select decls c))))))
+  where
+    ending_stops : StopsAt opens (ending levels)
+    ending_stops =
+        by_next_stops_at opens (is_key (codes "where")) (filtered levels) unfiltered
+        (then_stops_at opens (key (codes "where")) (λ _. any (unit levels) >>= λ c. end >>= λ _. gives (Some c)) (shallow_stops opens (key (codes "where")) (just_shallow (is_key (codes "where")))) (λ _.
+        then_stops_at opens (any (unit levels)) (λ c. end >>= λ _. gives (Some c)) (any_stops (unit levels) (unit_stops_at levels)) (λ c.
+        shallow_stops opens (end >>= λ _. gives (Some c)) (mapped_shallow end (λ _. Some c) end_shallow))))
+        (shallow_stops opens unfiltered (mapped_shallow {B = Option Raw} end (λ _. None) end_shallow))

@@ -13,7 +13,7 @@ use Rattle.ss_parser.specs.Refused.{AreView, Begin, FirstBad, IsRead, IsFaultAt,
 use Rattle.ss_parser.proofs.PhraseLaws.{Laws, Stuck}
 use Rattle.ss_parser.proofs.Wider.{Wider, GoesPast}
 use Rattle.ss_parser.proofs.ViewLaws.{view_laws}
-use Rattle.ss_parser.proofs.Deeper.{view_wider}
+use Rattle.ss_parser.proofs.Deeper.{view_wider, view_stops_at}
 
 -- d levels more
 up : ℕ → ℕ → ℕ
@@ -147,14 +147,14 @@ module _ (bytes : List ℕ) (ps : List Piece) (is : ps ≡ pieces bytes) where
     none_at = unexpected ps rest (place false rest p s e) s (place_is false rest p s e)
 
     refused_by : (l : Lexeme) → p.says ≡ l → IsRefused bytes (fault_by l p.at)
-    refused_by Bad_byte says = subst (λ m. IsRefusedAt m (fault.BadByte p.at)) is (refused_at false rest p s e (fault.BadByte p.at) (says, refl))
-    refused_by Open_quote says = subst (λ m. IsRefusedAt m (fault.OpenQuote p.at)) is (refused_at false rest p s e (fault.OpenQuote p.at) (says, refl))
-    refused_by (Ident t) says = subst (λ m. IsRefusedAt m (fault.Unexpected p.at)) is (refused_at false rest p s e (fault.Unexpected p.at) (λ h. cc, λ h. cc, none_at, refl))
-    refused_by (Key t) says = subst (λ m. IsRefusedAt m (fault.Unexpected p.at)) is (refused_at false rest p s e (fault.Unexpected p.at) (λ h. cc, λ h. cc, none_at, refl))
-    refused_by (Quoted t) says = subst (λ m. IsRefusedAt m (fault.Unexpected p.at)) is (refused_at false rest p s e (fault.Unexpected p.at) (λ h. cc, λ h. cc, none_at, refl))
-    refused_by (Literal t) says = subst (λ m. IsRefusedAt m (fault.Unexpected p.at)) is (refused_at false rest p s e (fault.Unexpected p.at) (λ h. cc, λ h. cc, none_at, refl))
-    refused_by (Mark t) says = subst (λ m. IsRefusedAt m (fault.Unexpected p.at)) is (refused_at false rest p s e (fault.Unexpected p.at) (λ h. cc, λ h. cc, none_at, refl))
-    refused_by Finish says = subst (λ m. IsRefusedAt m (fault.Unexpected p.at)) is (refused_at false rest p s e (fault.Unexpected p.at) (λ h. cc, λ h. cc, none_at, refl))
+    refused_by Bad_byte says = subst (λ m. IsRefusedAt m (fault.BadByte p.at)) is (refused_at false rest p s e (fault.BadByte p.at) (sym (ap (λ l. fault_by l p.at) says), none_at))
+    refused_by Open_quote says = subst (λ m. IsRefusedAt m (fault.OpenQuote p.at)) is (refused_at false rest p s e (fault.OpenQuote p.at) (sym (ap (λ l. fault_by l p.at) says), none_at))
+    refused_by (Ident t) says = subst (λ m. IsRefusedAt m (fault.Unexpected p.at)) is (refused_at false rest p s e (fault.Unexpected p.at) (sym (ap (λ l. fault_by l p.at) says), none_at))
+    refused_by (Key t) says = subst (λ m. IsRefusedAt m (fault.Unexpected p.at)) is (refused_at false rest p s e (fault.Unexpected p.at) (sym (ap (λ l. fault_by l p.at) says), none_at))
+    refused_by (Quoted t) says = subst (λ m. IsRefusedAt m (fault.Unexpected p.at)) is (refused_at false rest p s e (fault.Unexpected p.at) (sym (ap (λ l. fault_by l p.at) says), none_at))
+    refused_by (Literal t) says = subst (λ m. IsRefusedAt m (fault.Unexpected p.at)) is (refused_at false rest p s e (fault.Unexpected p.at) (sym (ap (λ l. fault_by l p.at) says), none_at))
+    refused_by (Mark t) says = subst (λ m. IsRefusedAt m (fault.Unexpected p.at)) is (refused_at false rest p s e (fault.Unexpected p.at) (sym (ap (λ l. fault_by l p.at) says), none_at))
+    refused_by Finish says = subst (λ m. IsRefusedAt m (fault.Unexpected p.at)) is (refused_at false rest p s e (fault.Unexpected p.at) (sym (ap (λ l. fault_by l p.at) says), none_at))
 
   pub refused : (rest : List Piece) (f : ParseFault) → (view 64).stops false ps rest → option_map fault_at (next rest) ≡ Some f → IsRefused bytes f
   refused [] f s e = absurd (cc)
@@ -165,4 +165,66 @@ module _ (bytes : List ℕ) (ps : List Piece) (is : ps ≡ pieces bytes) where
   refused_too_deep (p ∷ rest) at s e =
       let k = place true (p ∷ rest) p s refl in
       let same : at ≡ p.at = sym (ap (λ o. unwrap_or o at) e) in
-      subst (λ m. IsRefusedAt m (fault.TooDeep at)) is (refused_at true (p ∷ rest) p s refl (fault.TooDeep at) (too_deep ps (p ∷ rest) k s (place_is true (p ∷ rest) p s refl), same))
+      subst (λ m. IsRefusedAt m (fault.TooDeep at)) is (refused_at true (p ∷ rest) p s refl (fault.TooDeep at) (same, view_stops_at 64 ps (p ∷ rest) s, too_deep ps (p ∷ rest) k s (place_is true (p ∷ rest) p s refl)))
+
+-- fewer pieces begin a view too
+fewer : (ps us : List Piece) (m n : ℕ) → m ≤ n → take n us ≡ take n ps → take m us ≡ take m ps
+fewer ps us zero n le e = refl
+fewer ps us (suc m) zero le e = absurd (omega arith)
+fewer [] [] (suc m) (suc n) le e = refl
+fewer [] (u ∷ us) (suc m) (suc n) le e = absurd (cc)
+fewer (p ∷ ps) [] (suc m) (suc n) le e = absurd (cc)
+fewer (p ∷ ps) (u ∷ us) (suc m) (suc n) le e =
+    let first : u ≡ p = cc in
+    let rest : take n us ≡ take n ps = cc in
+    (λ i. first i ∷ fewer ps us m n (omega arith) rest i)
+
+begin_fewer : (levels : ℕ) (ps : List Piece) (m n : ℕ) → m ≤ n → Begin levels ps n → Begin levels ps m
+begin_fewer levels ps m n le b = (b.0, b.1, fewer ps b.0 m n le b.2, b.3)
+
+-- no place before is the first bad one
+not_before : (ps : List Piece) (k j : ℕ) → FirstBad ps k → FirstBad ps j → j ≤ k
+not_before ps k j f g = ⊎_elim (λ (lt : k < j). absurd (f.not_with (begin_fewer 64 ps (suc k) j (omega arith) g.before))) (λ (le : j ≤ k). le) (cases_lt k j)
+
+-- too deep, or the fault of the piece
+WhichFault : List Piece → ℕ → Piece → ParseFault → Type 0
+WhichFault ps k p f = ((f ≡ fault.TooDeep p.at) × Begin 65 ps (suc k)) ⊎ ((f ≡ fault_at p) × ((levels : ℕ) → Begin levels ps (suc k) → ⊥))
+
+which : (ps : List Piece) (k : ℕ) (p : Piece) (f : ParseFault) → IsFaultAt ps k p f → WhichFault ps k p f
+unfolding WhichFault
+which ps k p (fault.TooDeep at) h = inl (ap (λ n. fault.TooDeep n) h.0, h.2)
+which ps k p (fault.BadByte at) h = inr h
+which ps k p (fault.OpenQuote at) h = inr h
+which ps k p (fault.Unexpected at) h = inr h
+which ps k p fault.NoMemory h = inr h
+
+same_fault : (ps : List Piece) (k : ℕ) (p : Piece) (f g : ParseFault) → WhichFault ps k p f → WhichFault ps k p g → f ≡ g
+unfolding WhichFault
+same_fault ps k p f g (inl a) (inl b) = a.0 ∙ sym b.0
+same_fault ps k p f g (inl a) (inr b) = absurd (b.1 65 a.1)
+same_fault ps k p f g (inr a) (inl b) = absurd (a.1 65 b.1)
+same_fault ps k p f g (inr a) (inr b) = a.0 ∙ sym b.0
+
+one_refusal_at : (ps : List Piece) (f g : ParseFault) → IsRefusedAt ps f → IsRefusedAt ps g → f ≡ g
+one_refusal_at ps f g (k, p, at, first, is) (j, q, at', first', is') =
+    let same : j ≡ k = omega (arith, not_before ps k j first first', not_before ps j k first' first) in
+    let piece : q ≡ p = ap (λ o. unwrap_or o q) (sym at' ∙ ap (slice_get ps) same ∙ at) in
+    let is'' = subst (λ r. IsFaultAt ps k r g) piece (subst (λ n. IsFaultAt ps n q g) same is') in
+    same_fault ps k p f g (which ps k p f is) (which ps k p g is'')
+
+at_pieces : (bytes : List ℕ) (f : ParseFault) → f ≢ fault.NoMemory → IsRefused bytes f → IsRefusedAt (pieces bytes) f
+at_pieces bytes fault.NoMemory ne h = absurd (ne refl)
+at_pieces bytes (fault.TooDeep at) ne h = h
+at_pieces bytes (fault.BadByte at) ne h = h
+at_pieces bytes (fault.OpenQuote at) ne h = h
+at_pieces bytes (fault.Unexpected at) ne h = h
+
+-- a text is refused in one way only
+pub one_refusal : (bytes : List ℕ) (f g : ParseFault) → f ≢ fault.NoMemory → g ≢ fault.NoMemory → IsRefused bytes f → IsRefused bytes g → f ≡ g
+one_refusal bytes f g nf ng hf hg = one_refusal_at (pieces bytes) f g (at_pieces bytes f nf hf) (at_pieces bytes g ng hg)
+
+-- a text that is read is not refused
+pub read_not_refused : (bytes : List ℕ) (t : Tree) (f : ParseFault) → f ≢ fault.NoMemory → IsRead bytes t → IsRefused bytes f → ⊥
+read_not_refused bytes t f nf r h =
+    let at = at_pieces bytes f nf h in
+    at.3.not_with (pieces bytes, t, refl, r)

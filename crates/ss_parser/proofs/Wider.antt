@@ -1,7 +1,7 @@
 -- A phrase that may be nested deeper reads what the narrower one reads, stops where that stops unless it is for the depth, and goes past where it is.
 use Rattle.std.proofs.Common.{◌≡◌, Bool, true, false, List, [], ◌∷◌, ◌++◌, Option, Some, ◌⊎◌, refl, sym, ◌∙◌, ap, subst, inl, inr, append_assoc}
 use Rattle.std.specs.Prelude.{MatchBool}
-use Rattle.ss_parser.specs.Phrases.{Phrase, next, passes, token, token_reads, token_stops, gives, ◌>>=◌, by_next, Listed, last, more, ListStops, here, later, listed}
+use Rattle.ss_parser.specs.Phrases.{Phrase, next, passes, token, token_reads, token_stops, gives, ◌>>=◌, by_next, Listed, last, more, ListStops, here, later, listed, limit}
 use Rattle.ss_parser.proofs.PhraseLaws.{Laws, Front, always, after_list, no_comma, next_append}
 
 -- with one more token than before rest a phrase can go on to its end
@@ -48,6 +48,35 @@ module _ {L A : Type 0} (comma : L → Bool) (p : Phrase L A) (hp : IsShallow p)
 
   pub listed_shallow : IsShallow (listed comma p)
   listed_shallow = list_not_deep
+
+-- what a phrase stops at for its depth passes
+abbrev pub StopsAt : {L A : Type 0} → (L → Bool) → Phrase L A → Type 0
+StopsAt {L} test p = (ts rest : List L) → p.stops true ts rest → passes test (next rest) ≡ true
+
+pub shallow_stops : {L A : Type 0} (test : L → Bool) (p : Phrase L A) → IsShallow p → StopsAt test p
+shallow_stops test p h ts rest s = absurd (h ts rest s)
+
+pub then_stops_at : {L A B : Type 0} (test : L → Bool) (p : Phrase L A) (f : A → Phrase L B) → StopsAt test p → ((a : A) → StopsAt test (f a)) → StopsAt test (p >>= f)
+then_stops_at test p f hp hf ts rest (inl s) = hp ts rest s
+then_stops_at test p f hp hf ts rest (inr (a, mid, r, s)) = hf a mid rest s
+
+either_stops : {L A : Type 0} (b : Bool) (test : L → Bool) (p q : Phrase L A) (ts rest : List L) → StopsAt test p → StopsAt test q → MatchBool b (p.stops true ts rest) (q.stops true ts rest) → passes test (next rest) ≡ true
+either_stops true test p q ts rest hp hq s = hp ts rest s
+either_stops false test p q ts rest hp hq s = hq ts rest s
+
+pub by_next_stops_at : {L A : Type 0} (test first : L → Bool) (p q : Phrase L A) → StopsAt test p → StopsAt test q → StopsAt test (by_next first p q)
+by_next_stops_at test first p q hp hq ts rest s = either_stops (passes first (next ts)) test p q ts rest hp hq s
+
+module _ {L A : Type 0} (test comma : L → Bool) (p : Phrase L A) (hp : StopsAt test p) where
+  list_stops_at : (ts rest : List L) → ListStops comma p true ts rest → passes test (next rest) ≡ true
+  list_stops_at ts rest (here s) = hp ts rest s
+  list_stops_at ts rest (later {us = us} r goes s) = list_stops_at us rest s
+
+  pub listed_stops_at : StopsAt test (listed comma p)
+  listed_stops_at = list_stops_at
+
+pub limit_stops_at : {L : Type 0} (A : Type 0) (test : L → Bool) → StopsAt test (limit {L = L} {A = A} test)
+limit_stops_at A test ts rest s = subst (λ m. passes test (next m) ≡ true) s.0 s.1
 
 -- such a phrase is as wide as it is
 pub shallow_wider : {L A : Type 0} (p : Phrase L A) (ok : Option L → Bool) → IsShallow p → Wider p p ok

@@ -1,10 +1,11 @@
 -- What a view text is read as, and where it is refused.
-use Rattle.std.specs.Prelude.{◌≡◌, ◌≢◌, ℕ, suc, List, [], take, slice_get, Some, Result, Ok, Err, ⊤}
+use Rattle.std.specs.Prelude.{◌≡◌, ℕ, suc, List, [], take, slice_get, Some, Result, Ok, Err, IsTrue, ⊤}
 use Rattle.view_def.specs.declared.written.ViewText.{ViewText}
 use Rattle.view_def.specs.Tree.{Tree, tree_of}
 use Rattle.ss_lexer.specs.Lexemes.{Lexeme, Bad_byte, Open_quote, Piece, pieces}
 use Rattle.ss_parser.specs.declared.fault.ParseFault.{ParseFault}
 use Rattle.ss_parser.specs.declared.fault.ParseFault.TheVariants as fault
+use Rattle.ss_parser.specs.Comparing.{opens}
 use Rattle.ss_parser.specs.Views.{view}
 
 -- these pieces are a view with this tree, with at most so many of NOT and "(" open at once
@@ -24,16 +25,7 @@ pub record FirstBad (ps : List Piece) (k : ℕ) : Type 0 where
   pub before : Begin 64 ps k
   pub not_with : Begin 64 ps (suc k) → ⊥
 
--- which fault it is: that of the text where one stands there; else too deep, where a view that has one more open goes on so;
--- else unexpected, however many may be open
-abbrev pub IsFaultAt : List Piece → ℕ → Piece → ParseFault → Type 0
-IsFaultAt ps k p (fault.BadByte at) = (p.says ≡ Bad_byte) × (at ≡ p.at)
-IsFaultAt ps k p (fault.OpenQuote at) = (p.says ≡ Open_quote) × (at ≡ p.at)
-IsFaultAt ps k p (fault.Unexpected at) = (p.says ≢ Bad_byte) × (p.says ≢ Open_quote) × ((levels : ℕ) → Begin levels ps (suc k) → ⊥) × (at ≡ p.at)
-IsFaultAt ps k p (fault.TooDeep at) = Begin 65 ps (suc k) × (at ≡ p.at)
-IsFaultAt ps k p fault.NoMemory = ⊤
-
--- the fault of a piece that no view goes on with: that of the text where it says one, or that it is not expected
+-- the fault of a piece with which no view goes on: that of the text where it says one, or that it is not expected
 abbrev pub fault_by : Lexeme → ℕ → ParseFault
 fault_by Bad_byte at = fault.BadByte at
 fault_by Open_quote at = fault.OpenQuote at
@@ -42,17 +34,20 @@ fault_by l at = fault.Unexpected at
 abbrev pub fault_at : Piece → ParseFault
 fault_at p = fault_by p.says p.at
 
--- a fault stands at the first piece with which these begin no view
+-- a NOT or "(" is too deep, where a view that may have one more open goes on with it; another fault is that of the piece,
+-- with which no view goes on, however many it may have open
+abbrev pub IsFaultAt : List Piece → ℕ → Piece → ParseFault → Type 0
+IsFaultAt ps k p (fault.TooDeep at) = (at ≡ p.at) × IsTrue (opens p) × Begin 65 ps (suc k)
+IsFaultAt ps k p f = (f ≡ fault_at p) × ((levels : ℕ) → Begin levels ps (suc k) → ⊥)
+
+-- the fault stands at the first piece with which these begin no view
 abbrev pub IsRefusedAt : List Piece → ParseFault → Type 0
 IsRefusedAt ps f = (k : ℕ) × (p : Piece) × (slice_get ps k ≡ Some p) × FirstBad ps k × IsFaultAt ps k p f
 
 -- the earliest refusal in the text; want of memory is none
 abbrev pub IsRefused : List ℕ → ParseFault → Type 0
-IsRefused bytes (fault.BadByte at) = IsRefusedAt (pieces bytes) (fault.BadByte at)
-IsRefused bytes (fault.OpenQuote at) = IsRefusedAt (pieces bytes) (fault.OpenQuote at)
-IsRefused bytes (fault.Unexpected at) = IsRefusedAt (pieces bytes) (fault.Unexpected at)
-IsRefused bytes (fault.TooDeep at) = IsRefusedAt (pieces bytes) (fault.TooDeep at)
 IsRefused bytes fault.NoMemory = ⊤
+IsRefused bytes f = IsRefusedAt (pieces bytes) f
 
 -- what is answered where a view is read: its tree, or want of memory
 abbrev pub IsReadAs : Tree → Result ViewText ParseFault → Type 0
