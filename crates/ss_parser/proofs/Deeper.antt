@@ -1,5 +1,5 @@
 -- Views whose conditions may have one more open.
-use Rattle.std.proofs.Common.{◌≡◌, ℕ, zero, suc, ◌+◌, ◌-◌, ◌≤◌, Bool, true, false, ◌||◌, List, [], ◌∷◌, ◌++◌, Option, Some, None, ◌⊎◌, inl, inr, refl, sym, ◌∙◌, ap, subst, arith, append_assoc, true≢false}
+use Rattle.std.proofs.Common.{◌≡◌, ℕ, zero, suc, Bool, true, false, ◌||◌, List, [], ◌∷◌, ◌++◌, Option, Some, None, inl, refl, sym, ap, subst, append_assoc, true≢false}
 use Rattle.std.specs.Prelude.{codes, MatchBool, if◌then◌else◌}
 use Rattle.ss_text.specs.Texts.{Text}
 use Rattle.view_def.specs.declared.written.Name.{Name}
@@ -7,17 +7,16 @@ use Rattle.view_def.specs.declared.written.RawTerm.{RawTerm}
 use Rattle.view_def.specs.declared.written.RawTerm.TheVariants as term
 use Rattle.view_def.specs.declared.written.RawRange.{RawRange}
 use Rattle.view_def.specs.declared.written.RawRange.TheVariants as range
-use Rattle.view_def.specs.declared.written.RawDecl.{RawDecl}
 use Rattle.view_def.specs.RawConditions.{Raw, NotRaw, CompareRaw}
 use Rattle.ss_lexer.specs.Lexemes.{Lexeme, Piece}
-use Rattle.ss_parser.specs.Phrases.{Phrase, next, passes, token, gives, ◌>>=◌, by_next, listed, limit}
+use Rattle.ss_parser.specs.Phrases.{Phrase, next, passes, gives, ◌>>=◌, by_next, listed, limit}
 use Rattle.ss_parser.specs.Terms.{one, just, key, sign, is_key, is_sign, an_ident, ident, a_name, name, some, a_literal, literal, dotted, ident_term, is_ident, a_term}
 use Rattle.ss_parser.specs.Declarations.{decl_of, var, arrow_var, column_var, cell_var, in_relation, in_database, behind_name, named, decl}
-use Rattle.ss_parser.specs.Comparing.{an_operator, operator, comparison, any_of, all_of, all, any, negation, group, starts_term, opens, inside, nested, unit}
+use Rattle.ss_parser.specs.Comparing.{an_operator, operator, comparison, any_of, all_of, all, any, negation, group, starts_term, opens, inside, unit}
 use Rattle.ss_parser.specs.Views.{Head, head_of, columns, target, header, selection, declarations, is_finish, finish, closed, end, filtered, unfiltered, ending, tree_with, view}
 use Rattle.ss_parser.proofs.PhraseLaws.{Laws, always, mapped_laws, then_laws}
-use Rattle.ss_parser.proofs.Wider.{Wider, GoesPast, less_wide, IsShallow, token_shallow, gives_shallow, then_shallow, by_next_shallow, listed_shallow, shallow_wider, StopsAt, shallow_stops, then_stops_at, by_next_stops_at, listed_stops_at, limit_stops_at, token_wider, then_wider, mapped_wider, list_wider, by_next_wider}
-use Rattle.ss_parser.proofs.ViewLaws.{word, the_key, the_sign, after_term, after_all, after_any, after_comma, just_laws, all_laws, any_laws, close_laws, unit_laws, end_laws, header_laws, selection_laws, declarations_laws, filtered_laws, ending_laws}
+use Rattle.ss_parser.proofs.Wider.{Wider, GoesPast, less_wide, IsShallow, token_shallow, gives_shallow, then_shallow, by_next_shallow, listed_shallow, shallow_wider, StopsAt, shallow_stops, then_stops_at, by_next_stops_at, listed_stops_at, limit_stops_at, then_wider, mapped_wider, list_wider, by_next_wider}
+use Rattle.ss_parser.proofs.ViewLaws.{word, the_key, the_sign, after_term, after_all, after_any, after_comma, just_laws, all_laws, any_laws, close_laws, unit_laws, end_laws, header_laws, selection_laws, declarations_laws, ending_laws}
 
 -- nothing outside of conditions is nested
 just_shallow : (test : Piece → Bool) → IsShallow (just test)

@@ -1,5 +1,5 @@
 -- What the exits of a function owe.
-use Rattle.std.proofs.Common.{List, Result, Ok, Err, Bool, true, false, inl, inr}
+use Rattle.std.proofs.Common.{List, Result, Ok, Err, Bool, true, false, inr}
 use Rattle.ss_lexer.specs.Lexemes.{Piece}
 use Rattle.ss_parser.specs.declared.fault.Stop.{Stop}
 use Rattle.ss_parser.specs.declared.fault.Stop.TheVariants.{Unexpected, TooDeep, NoMemory}

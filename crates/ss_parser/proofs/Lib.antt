@@ -1,4 +1,3 @@
-mod Rows
 pub mod PhraseLaws
 pub mod Wider
 pub mod ListLoops

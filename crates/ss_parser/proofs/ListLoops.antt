@@ -1,8 +1,8 @@
 -- A loop over phrases between commas.
-use Rattle.std.proofs.Common.{◌≡◌, ◌+◌, ◌<◌, Bool, true, false, List, [], ◌∷◌, ◌++◌, length, map, Option, refl, sym, ◌∙◌, ap, subst, arith, append_assoc, length-append}
+use Rattle.std.proofs.Common.{◌≡◌, ◌<◌, Bool, false, List, [], ◌∷◌, ◌++◌, length, map, Option, sym, ◌∙◌, ap, subst, arith, append_assoc, length-append}
 use Rattle.std.proofs.lemmas.List.{map-append}
 use Rattle.ss_lexer.specs.Lexemes.{Piece}
-use Rattle.ss_parser.specs.Phrases.{Phrase, next, passes, Listed, last, more, ListStops, here, later}
+use Rattle.ss_parser.specs.Phrases.{Phrase, next, passes, Listed, last, more, ListStops, later}
 use Rattle.ss_parser.specs.Parses.{Passes}
 use Rattle.ss_parser.proofs.PhraseLaws.{Laws}
 

@@ -1,5 +1,5 @@
 -- What holds of each phrase, and that it holds of phrases made from others.
-use Rattle.std.proofs.Common.{◌≡◌, Bool, true, false, not, ◌&&◌, List, [], ◌∷◌, ◌++◌, Option, Some, None, ◌⊎◌, refl, sym, ◌∙◌, ap, subst, inl, inr, ⊎_elim, append_assoc, unwrap_or, cond, true≢false, drop}
+use Rattle.std.proofs.Common.{◌≡◌, Bool, true, false, List, [], ◌∷◌, ◌++◌, Option, Some, None, ◌⊎◌, refl, sym, ◌∙◌, ap, subst, inl, inr, ⊎_elim, append_assoc, unwrap_or, cond, true≢false, drop}
 use Rattle.std.specs.Prelude.{MatchBool}
 use Rattle.ss_parser.specs.Phrases.{Phrase, next, passes, token, token_reads, token_stops, gives, ◌>>=◌, by_next, Listed, last, more, ListStops, here, later, listed, limit}
 

@@ -1,5 +1,5 @@
 -- The pieces ahead, as a reader moves on.
-use Rattle.std.proofs.Common.{◌≡◌, ◌≢◌, ℕ, Bool, true, false, ◌&&◌, ◌||◌, not, List, [], ◌∷◌, length, drop, map, Option, Some, None, Ok, Err, refl, sym, ap, ◌∙◌, subst, cond, unwrap_or}
+use Rattle.std.proofs.Common.{◌≡◌, ℕ, Bool, true, false, ◌&&◌, ◌||◌, not, List, [], ◌∷◌, length, drop, map, Some, Ok, Err, refl, sym, ap, ◌∙◌, subst, unwrap_or}
 use Rattle.std.specs.Prelude.{slice_get, slice_range}
 use Rattle.ss_lexer.specs.declared.token.Kind.{Kind}
 use Rattle.ss_lexer.specs.declared.token.Kind.TheVariants as kind
@@ -9,7 +9,7 @@ use Rattle.ss_lexer.specs.Sound.{is_finish, is_last, is_inside, are_sound}
 use Rattle.ss_lexer.specs.Lexemes.{Piece, lexeme_of, piece_in, pieces}
 use Rattle.ss_lexer.proofs.Spans.{sound_tokens}
 use Rattle.ss_parser.specs.Phrases.{next, passes}
-use Rattle.ss_parser.specs.Ahead.{further, pieces_ahead, is_held, ends, is_end}
+use Rattle.ss_parser.specs.Ahead.{pieces_ahead, is_held, ends, is_end}
 
 and_parts : (a b : Bool) → (a && b) ≡ true → (a ≡ true) × (b ≡ true)
 and_parts true b h = (refl, h)

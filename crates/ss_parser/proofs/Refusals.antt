@@ -1,17 +1,15 @@
 -- Where a view is refused, and that a text has one tree.
-use Rattle.std.proofs.Common.{◌≡◌, ◌≢◌, ℕ, zero, suc, ◌+◌, ◌-◌, ◌<◌, ◌≤◌, Bool, true, false, List, [], ◌∷◌, ◌++◌, length, take, drop, Option, Some, None, ◌⊎◌, ⊎_elim, refl, sym, ◌∙◌, ap, subst, inl, inr, arith, length-append, unwrap_or}
+use Rattle.std.proofs.Common.{◌≡◌, ◌≢◌, ℕ, zero, suc, ◌+◌, ◌-◌, ◌<◌, ◌≤◌, Bool, true, false, List, [], ◌∷◌, ◌++◌, length, take, drop, Some, ◌⊎◌, ⊎_elim, refl, sym, ◌∙◌, ap, subst, inl, inr, arith, length-append, unwrap_or}
 use Rattle.std.specs.Prelude.{slice_get, option_map}
 use Rattle.std.proofs.lemmas.Bool.{cases_lt}
-use Rattle.std.proofs.Math.Seq.{take-append_seam, take-append-add, take-length}
+use Rattle.std.proofs.Math.Seq.{take-append_seam, take-append-add}
 use Rattle.view_def.specs.Tree.{Tree}
 use Rattle.ss_lexer.specs.Lexemes.{Lexeme, Ident, Key, Quoted, Literal, Mark, Finish, Bad_byte, Open_quote, Piece, pieces}
-use Rattle.ss_parser.specs.Phrases.{Phrase, next}
+use Rattle.ss_parser.specs.Phrases.{next}
 use Rattle.ss_parser.specs.Views.{view}
 use Rattle.ss_parser.specs.declared.fault.ParseFault.{ParseFault}
 use Rattle.ss_parser.specs.declared.fault.ParseFault.TheVariants as fault
 use Rattle.ss_parser.specs.Refused.{AreView, Begin, FirstBad, IsRead, IsFaultAt, IsRefusedAt, IsRefused, fault_by, fault_at}
-use Rattle.ss_parser.proofs.PhraseLaws.{Laws, Stuck}
-use Rattle.ss_parser.proofs.Wider.{Wider, GoesPast}
 use Rattle.ss_parser.proofs.ViewLaws.{view_laws}
 use Rattle.ss_parser.proofs.Deeper.{view_wider, view_stops_at}
 

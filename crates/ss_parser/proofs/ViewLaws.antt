@@ -1,22 +1,19 @@
 -- The laws of the grammar of a view text.
-use Rattle.std.proofs.Common.{◌≡◌, ◌-◌, ◌<◌, arith, ℕ, zero, suc, Bool, true, false, List, [], Option, Some, None, refl, ap, cond}
+use Rattle.std.proofs.Common.{◌≡◌, ◌-◌, ◌<◌, arith, ℕ, zero, suc, Bool, true, false, [], Option, Some, None, refl, ap}
 use Rattle.std.specs.Prelude.{if◌then◌else◌, codes}
 use Rattle.ss_text.specs.Texts.{Text}
 use Rattle.view_def.specs.declared.written.Name.{Name}
 use Rattle.view_def.specs.declared.written.Op.TheVariants as op
-use Rattle.view_def.specs.declared.written.RawTerm.{RawTerm}
 use Rattle.view_def.specs.declared.written.RawTerm.TheVariants as term
 use Rattle.view_def.specs.declared.written.RawRange.{RawRange}
 use Rattle.view_def.specs.declared.written.RawRange.TheVariants as range
-use Rattle.view_def.specs.declared.written.RawDecl.{RawDecl}
 use Rattle.view_def.specs.RawConditions.{Raw, NotRaw, CompareRaw}
-use Rattle.view_def.specs.Tree.{Tree}
-use Rattle.ss_lexer.specs.Lexemes.{Lexeme, Ident, Key, Quoted, Literal, Mark, Finish, Piece}
-use Rattle.ss_parser.specs.Phrases.{Phrase, token, gives, ◌>>=◌, by_next, listed, limit}
-use Rattle.ss_parser.specs.Terms.{one, just, key, sign, is_key, is_sign, an_ident, ident, a_name, name, some, a_literal, literal, dotted, ident_term, is_ident, a_term}
+use Rattle.ss_lexer.specs.Lexemes.{Lexeme, Ident, Key, Literal, Mark, Finish, Piece}
+use Rattle.ss_parser.specs.Phrases.{Phrase, gives, ◌>>=◌, by_next, listed, limit}
+use Rattle.ss_parser.specs.Terms.{just, key, sign, is_key, is_sign, an_ident, ident, a_name, name, some, a_literal, literal, dotted, ident_term, is_ident, a_term}
 use Rattle.ss_parser.specs.Declarations.{decl_of, var, arrow_var, column_var, cell_var, in_relation, in_database, behind_name, named, decl}
 use Rattle.ss_parser.specs.Comparing.{an_operator, operator, comparison, any_of, all_of, all, any, negation, group, starts_term, opens, inside, nested, unit}
-use Rattle.ss_parser.specs.Views.{Head, head_of, columns, target, header, selection, declarations, is_finish, finish, closed, end, filtered, unfiltered, ending, tree_with, view}
+use Rattle.ss_parser.specs.Views.{head_of, columns, target, header, selection, declarations, is_finish, finish, closed, end, filtered, unfiltered, ending, tree_with, view}
 use Rattle.ss_parser.proofs.PhraseLaws.{Laws, always, after_list, token_laws, then_laws, list_laws, mapped_laws, by_next_laws, limited_laws, maybe_laws, narrower}
 
 -- a piece to begin with, at no place that matters

@@ -1,8 +1,8 @@
 -- A phrase that may be nested deeper reads what the narrower one reads, stops where that stops unless it is for the depth, and goes past where it is.
-use Rattle.std.proofs.Common.{◌≡◌, Bool, true, false, List, [], ◌∷◌, ◌++◌, Option, Some, ◌⊎◌, refl, sym, ◌∙◌, ap, subst, inl, inr, append_assoc}
+use Rattle.std.proofs.Common.{◌≡◌, Bool, true, false, List, [], ◌∷◌, ◌++◌, Option, Some, refl, sym, ◌∙◌, ap, subst, inl, inr, append_assoc}
 use Rattle.std.specs.Prelude.{MatchBool}
-use Rattle.ss_parser.specs.Phrases.{Phrase, next, passes, token, token_reads, token_stops, gives, ◌>>=◌, by_next, Listed, last, more, ListStops, here, later, listed, limit}
-use Rattle.ss_parser.proofs.PhraseLaws.{Laws, Front, always, after_list, no_comma, next_append}
+use Rattle.ss_parser.specs.Phrases.{Phrase, next, passes, token, gives, ◌>>=◌, by_next, Listed, last, more, ListStops, here, later, listed, limit}
+use Rattle.ss_parser.proofs.PhraseLaws.{Laws, always, after_list, no_comma, next_append}
 
 -- with one more token than before rest a phrase can go on to its end
 pub record GoesPast {L A : Type 0} (p : Phrase L A) (ok : Option L → Bool) (ts rest : List L) : Type 0 where

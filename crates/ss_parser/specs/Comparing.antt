@@ -4,7 +4,7 @@ use Rattle.ss_text.specs.Texts.{Text, text_eq}
 use Rattle.view_def.specs.declared.written.Op.{Op}
 use Rattle.view_def.specs.declared.written.Op.TheVariants as op
 use Rattle.view_def.specs.RawConditions.{Raw, AnyRaw, AllRaw, NotRaw, CompareRaw, raws}
-use Rattle.ss_lexer.specs.Lexemes.{Lexeme, Ident, Key, Literal, Mark, Piece}
+use Rattle.ss_lexer.specs.Lexemes.{Lexeme, Ident, Literal, Mark, Piece}
 use Rattle.ss_parser.specs.Phrases.{Phrase, gives, ◌>>=◌, by_next, listed, limit}
 use Rattle.ss_parser.specs.Terms.{one, key, sign, is_key, is_sign, a_term}
 

@@ -1,10 +1,10 @@
 -- The grammar of names and terms.
-use Rattle.std.specs.Prelude.{Bool, true, false, List, Option, Some, None, option_map, if◌then◌else◌, codes}
+use Rattle.std.specs.Prelude.{Bool, true, false, List, Option, Some, None, if◌then◌else◌, codes}
 use Rattle.ss_text.specs.Texts.{Text, text_eq}
 use Rattle.view_def.specs.declared.written.Name.{Name}
 use Rattle.view_def.specs.declared.written.RawTerm.{RawTerm}
 use Rattle.view_def.specs.declared.written.RawTerm.TheVariants as term
-use Rattle.ss_lexer.specs.Lexemes.{Lexeme, Ident, Key, Quoted, Literal, Mark, Finish, Piece}
+use Rattle.ss_lexer.specs.Lexemes.{Lexeme, Ident, Key, Quoted, Literal, Mark, Piece}
 use Rattle.ss_parser.specs.Phrases.{Phrase, token, gives, ◌>>=◌, by_next, listed}
 
 -- a piece that says one of these

@@ -69,7 +69,12 @@ impl Reader<'_> {
     }
 
     // What goes on a relation.
-    fn in_relation(&mut self, alloc: Global, database: Name, relation: Name) -> Result<RawDecl, Stop>
+    fn in_relation(
+        &mut self,
+        alloc: Global,
+        database: Name,
+        relation: Name,
+    ) -> Result<RawDecl, Stop>
         ensures { Parses (λ d. d) (in_relation_phrase database relation) self.old self.new result }
     {
         if self.is_sign(b"->") {

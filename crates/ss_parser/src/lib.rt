@@ -11,6 +11,8 @@ mod keyword;
 mod operator;
 mod reader;
 mod term;
+#[cfg(test)]
+mod tests;
 mod unquote;
 mod view;
 

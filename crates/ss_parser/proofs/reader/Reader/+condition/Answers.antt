@@ -1,4 +1,4 @@
-use Rattle.std.proofs.Common.{arith, map, List, refl, sym, subst, inl, inr}
+use Rattle.std.proofs.Common.{arith, map, refl, sym, subst, inl, inr}
 use Rattle.std.specs.Prelude.{codes}
 use Rattle.std.proofs.lemmas.Result.{err_from_is_err_and}
 use Rattle.view_def.specs.RawConditions.{Raw, raw_of}
