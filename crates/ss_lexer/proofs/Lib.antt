@@ -1,0 +1,4 @@
+mod Rows
+pub mod LengthLemmas
+pub mod Spans
+pub mod TokenLemmas

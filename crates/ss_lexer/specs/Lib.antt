@@ -1,0 +1,4 @@
+pub mod Spelling
+pub mod Tokens
+pub mod Sound
+pub mod Lexemes

@@ -1,0 +1,10 @@
+pub mod Keywords
+pub mod Phrases
+pub mod Terms
+pub mod Declarations
+pub mod Comparing
+pub mod Views
+pub mod Refused
+pub mod Heads
+pub mod Parses
+pub mod Ahead

@@ -1,0 +1,20 @@
+//! Reads a view text.
+//!
+//! Its contract: `parse` answers the tree that the grammar relates to the bytes, or the earliest refusal in the text. It
+//! knows nothing of declared variables, and of no relation.
+#![tactic(auto)]
+
+mod condition;
+mod declaration;
+mod fault;
+mod keyword;
+mod operator;
+mod reader;
+mod term;
+#[cfg(test)]
+mod tests;
+mod unquote;
+mod view;
+
+pub use fault::ParseFault;
+pub use view::parse;
