@@ -1,0 +1,4 @@
+pub mod Elements
+pub mod Terms
+pub mod Valuations
+pub mod Held

@@ -1,0 +1,16 @@
+//! The plain meaning of a view.
+#![tactic(auto)]
+
+mod column;
+mod element;
+mod value;
+
+ghost use Rattle.std.specs.Prelude.{◌≡◌};
+ghost use Rattle.schema_model.specs.Catalogue.{CatalogueValue};
+ghost use Rattle.view_def.specs.Query.{Query};
+ghost use Rattle.valuation_meaning.specs.Valuations.{valuations};
+
+/// Cites the definitions, so that they are checked.
+pub fn cites()
+    ensures { (c : CatalogueValue) (q : Query) → valuations c q ≡ valuations c q }
+{}
