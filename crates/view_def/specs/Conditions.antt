@@ -1,7 +1,10 @@
--- Conditions as plain data.
+-- Conditions as plain data, by a fold.
+use Rattle.std.specs.Prelude.{List, [], ◌∷◌}
 use Rattle.view_def.specs.declared.written.Op.{Op}
 use Rattle.view_def.specs.declared.typed.Term.{Term}
-use Rattle.view_def.specs.declared.typed.Cond.{Cond, Any', All', Not', Compare, Row_of-Cond, end_of-Cond, more_of-Cond}
+use Rattle.view_def.specs.declared.typed.Cond.{Cond, fold-Cond}
+use Rattle.view_def.specs.declared.typed.Cond.TheOpen.{Cond-F}
+use Rattle.view_def.specs.declared.typed.Cond.TheOpen as open_cond
 
 mutual
   pub data Condition : Type 0 where
@@ -14,13 +17,16 @@ mutual
     none : Conditions
     more : Condition → Conditions → Conditions
 
-abbrev mutual
-  pub condition_of : Cond → Condition
-  condition_of (Any' shape cs) = AnyOf (conditions_of cs)
-  condition_of (All' shape cs) = AllOf (conditions_of cs)
-  condition_of (Not' p c) = NotOf (condition_of c)
-  condition_of (Compare s op t) = Compares s op t
+abbrev pub conditions_of : List Condition → Conditions
+conditions_of [] = none
+conditions_of (x ∷ xs) = more x (conditions_of xs)
 
-  pub conditions_of : {m : _} → Row_of-Cond m → Conditions
-  conditions_of end_of-Cond = none
-  conditions_of (more_of-Cond c cs) = more (condition_of c) (conditions_of cs)
+-- one layer
+abbrev pub layer : Cond-F Condition → Condition
+layer (open_cond.Any v) = AnyOf (conditions_of v.items)
+layer (open_cond.All v) = AllOf (conditions_of v.items)
+layer (open_cond.Not b) = NotOf b.value
+layer (open_cond.Compare s op t) = Compares s op t
+
+abbrev pub condition_of : Cond → Condition
+condition_of c = fold-Cond Condition layer c
