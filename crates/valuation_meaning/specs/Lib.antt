@@ -2,3 +2,4 @@ pub mod Elements
 pub mod Terms
 pub mod Valuations
 pub mod Held
+pub mod Truth

@@ -1,5 +1,6 @@
 -- The values of terms, and the truth of conditions.
-use Rattle.std.specs.Prelude.{ℕ, Bool, true, false, not, ◌&&◌, ◌||◌, List, [], ◌∷◌, ◌++◌, ℤ, int_lt, int_le, Option, Some, None}
+use Rattle.std.specs.Prelude.{ℕ, Bool, true, false, not, ◌&&◌, ◌||◌, List, [], ◌∷◌, ◌++◌, ℤ, int_lt, int_le, Option, Some, None, is_some, if◌then◌else◌}
+use Rattle.std.specs.List.{list_all}
 use Rattle.ss_text.specs.Texts.{Text, text_eq}
 use Rattle.ss_text.specs.Whole.{whole_of}
 use Rattle.view_def.specs.declared.written.Op.{Op}
@@ -35,6 +36,10 @@ abbrev pub compares_values : Op → Option Text → Option Text → Bool
 compares_values op None t = false
 compares_values op (Some s) None = false
 compares_values op (Some s) (Some t) = compares op s t
+
+-- whether each of these terms is defined
+abbrev pub are_defined : Valuation → List Term → Bool
+are_defined v ts = list_all (λ t. is_some (value_of v t)) ts
 
 abbrev mutual
   -- the terms of a condition, in every branch

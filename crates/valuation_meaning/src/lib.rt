@@ -3,6 +3,7 @@
 
 mod column;
 mod element;
+mod truth;
 mod value;
 
 ghost use Rattle.std.specs.Prelude.{◌≡◌};
