@@ -3,3 +3,4 @@ pub mod Terms
 pub mod Valuations
 pub mod Held
 pub mod Truth
+pub mod Meaning

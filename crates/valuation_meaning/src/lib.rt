@@ -9,9 +9,9 @@ mod value;
 ghost use Rattle.std.specs.Prelude.{◌≡◌};
 ghost use Rattle.schema_model.specs.Catalogue.{CatalogueValue};
 ghost use Rattle.view_def.specs.Query.{Query};
-ghost use Rattle.valuation_meaning.specs.Valuations.{valuations};
+ghost use Rattle.valuation_meaning.specs.Meaning.{facts, meaning};
 
 /// Cites the definitions, so that they are checked.
 pub fn cites()
-    ensures { (c : CatalogueValue) (q : Query) → valuations c q ≡ valuations c q }
+    ensures { (c : CatalogueValue) (q : Query) → (facts c q ≡ facts c q) × (meaning c q ≡ meaning c q) }
 {}
