@@ -1,1 +1,3 @@
 mod WorkedRows
+pub mod FactLemmas
+pub mod CountLemmas

@@ -4,3 +4,5 @@ pub mod Valuations
 pub mod Held
 pub mod Truth
 pub mod Meaning
+pub mod FactOrder
+pub mod Borrowed

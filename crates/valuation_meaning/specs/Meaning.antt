@@ -1,6 +1,6 @@
 -- The facts of a view, and its tables.
 use Rattle.std.specs.Prelude.{◌≡◌, ⊤, List, [], map, Option, Some, None, unwrap_or}
-use Rattle.ss_text.specs.Texts.{Text}
+use Rattle.ss_text.specs.Texts.{Text, Row}
 use Rattle.schema_model.specs.Catalogue.{CatalogueValue}
 use Rattle.view_def.specs.declared.typed.Place.{Place}
 use Rattle.view_def.specs.declared.typed.Place.TheVariants as place
@@ -19,6 +19,10 @@ use Rattle.valuation_meaning.specs.Valuations.{valuations}
 abbrev pub given : Option Text → Text
 given o = unwrap_or o []
 
+-- the values of terms
+abbrev pub values_of : Valuation → List Term → Row
+values_of v ts = map (λ t. given (value_of v t)) ts
+
 -- the column label and the value, where the view has a variable column
 abbrev pub cell_of : Valuation → Option Place → Option Term → Option (Text × Text)
 cell_of v (Some p) (Some t) = Some (given (place_text v p), given (value_of v t))
@@ -29,7 +33,7 @@ cell_of v None t = None
 abbrev pub fact_of : Query → Valuation → Fact
 fact_of q v = record {
   label = given (place_text v q.label);
-  key = map (λ t. given (value_of v t)) q.keys;
+  key = values_of v q.keys;
   cell = cell_of v q.column q.value;
 }
 

@@ -3,6 +3,8 @@
 
 mod column;
 mod element;
+mod fact;
+mod listing;
 mod truth;
 mod value;
 
