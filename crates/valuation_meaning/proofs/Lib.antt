@@ -1,3 +1,4 @@
 mod WorkedRows
 pub mod FactLemmas
 pub mod CountLemmas
+pub mod LookupLemmas

@@ -5,6 +5,7 @@ mod column;
 mod element;
 mod fact;
 mod listing;
+mod lookup;
 mod truth;
 mod value;
 
