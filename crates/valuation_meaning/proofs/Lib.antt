@@ -2,3 +2,4 @@ mod WorkedRows
 pub mod FactLemmas
 pub mod CountLemmas
 pub mod LookupLemmas
+pub mod RowsLeft

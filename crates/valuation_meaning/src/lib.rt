@@ -6,6 +6,7 @@ mod element;
 mod fact;
 mod listing;
 mod lookup;
+mod ranges;
 mod truth;
 mod value;
 
