@@ -3,3 +3,4 @@ pub mod FactLemmas
 pub mod CountLemmas
 pub mod LookupLemmas
 pub mod RowsLeft
+pub mod ListingLemmas

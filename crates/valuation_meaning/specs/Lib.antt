@@ -6,3 +6,4 @@ pub mod Truth
 pub mod Meaning
 pub mod FactOrder
 pub mod Borrowed
+pub mod Listing

@@ -1,20 +1,23 @@
 //! The facts of a view, listed one for each valuation.
-ghost use Rattle.std.specs.Prelude.{◌≡◌, ◌&&◌, [], map, option_map, option_to_list, IfOk, if◌then◌else◌};
+ghost use Rattle.std.specs.Prelude.{◌≡◌, ◌&&◌, [], ◌++◌, drop, map, option_copied, option_map, option_to_list, length, slice_get, vec_len, ◌<◌, IfOk, OnOk, OnSome, if◌then◌else◌};
 ghost use Rattle.view_def.specs.Conditions.{condition_of};
 ghost use Rattle.view_def.specs.Query.{query_of};
 ghost use Rattle.valuation_meaning.specs.Borrowed.{texts_of, cell_value};
 ghost use Rattle.valuation_meaning.specs.Terms.{are_defined};
 ghost use Rattle.valuation_meaning.specs.Valuations.{counts, meets, terms_of_filter};
-ghost use Rattle.valuation_meaning.specs.Meaning.{given, values_of, cell_of, fact_of};
+ghost use Rattle.valuation_meaning.specs.Meaning.{given, values_of, cell_of, fact_of, facts};
 ghost use Rattle.valuation_meaning.specs.Elements.{place_text};
+ghost use Rattle.valuation_meaning.specs.Listing.{facts_after};
 
 use crate::element::Element;
 use crate::fact::Fact;
+use crate::ranges::elements;
 use crate::truth::truth;
 use crate::value::{place_text, value_of};
+use schema_model::Catalogue;
 use ss_text::{NoMemory, Text};
 use std::alloc::Global;
-use view_def::{Cond, Place, Term, View};
+use view_def::{Cond, Place, Range, Term, View};
 
 /// The text of a place that has one.
 fn text_of<'a>(valuation: &[Element<'a>], place: &'a Place, empty: &'a Text) -> &'a Text
@@ -84,4 +87,68 @@ fn fact_of<'a>(alloc: Global, view: &'a View, empty: &'a Text, valuation: &[Elem
     };
     let label = text_of(valuation, &view.label, empty);
     Ok(Some(Fact::of(label, key, cell)))
+}
+
+/// The declaration at a place.
+fn declaration(view: &View, place: usize) -> Option<&Range>
+    ensures declaration { option_copied result ≡ slice_get view.now.decls.items place }
+    ensures there { OnSome result (place < vec_len view.now.decls) }
+{
+    view.decls.get(place)
+}
+
+/// Where the facts of a view are read from, and an empty text.
+#[derive(Drop)]
+struct Source<'a> {
+    catalogue: &'a Catalogue,
+    view: &'a View,
+    empty: &'a Text,
+}
+
+impl<'a> Source<'a> {
+    /// Adds the fact of a valuation, where the valuation counts.
+    fn add_fact(&self, alloc: Global, valuation: &[Element<'a>], facts: &mut Vec<Fact<'a>>) -> Result<(), NoMemory>
+        requires { self.now.empty.now ≡ [] }
+        ensures { OnOk result (facts.new.items ≡ facts.old.items ++ facts_after self.now.catalogue.now (query_of self.now.view.now) valuation.now []) }
+    {
+        if let Some(fact) = fact_of(alloc, self.view, self.empty, valuation)? {
+            facts.push(fact)?;
+        }
+        Ok(())
+    }
+
+    /// Adds the facts of the valuations that begin with these elements.
+    fn add_facts(&self, alloc: Global, valuation: &mut Vec<Element<'a>>, facts: &mut Vec<Fact<'a>>) -> Result<(), NoMemory>
+        requires { self.now.empty.now ≡ [] }
+        ensures facts { let query = query_of self.now.view.now in
+            let begun = valuation.old.items in
+            OnOk result (facts.new.items ≡ facts.old.items ++ facts_after self.now.catalogue.now query begun (drop (length begun) query.decls)) }
+        ensures same { OnOk result (valuation.new.items ≡ valuation.old.items) }
+    {
+        let Some(range) = declaration(self.view, valuation.len()) else {
+            return self.add_fact(alloc, valuation, facts);
+        };
+        for element in elements(alloc, self.catalogue, valuation, range)? {
+            valuation.push(element)?;
+            self.add_facts(alloc, valuation, facts)?;
+            valuation.pop();
+        }
+        Ok(())
+    }
+}
+
+/// The facts of a view, one for each valuation.
+pub(crate) fn facts<'a>(alloc: Global, catalogue: &'a Catalogue, view: &'a View, empty: &'a Text) -> Result<Vec<Fact<'a>>, NoMemory>
+    requires { empty.now ≡ [] }
+    ensures { IfOk result (λ fs. fs.items ≡ facts catalogue.now (query_of view.now)) }
+{
+    let source = Source {
+        catalogue,
+        view,
+        empty,
+    };
+    let mut valuation = Vec::with_capacity(alloc, view.decls.len())?;
+    let mut facts = Vec::new(alloc);
+    source.add_facts(alloc, &mut valuation, &mut facts)?;
+    Ok(facts)
 }
