@@ -3,3 +3,4 @@ pub mod AscendingLemmas
 pub mod PlaceLemmas
 pub mod KeyLemmas
 pub mod SetLemmas
+pub mod GroupLemmas
