@@ -1,11 +1,15 @@
 //! A fact of a view, borrowed from the catalogue and the view.
-ghost use Rattle.std.specs.Prelude.{◌≡◌, refl};
+ghost use Rattle.std.specs.Prelude.{◌≡◌, refl, option_copied, IfOk};
+ghost use Rattle.std.specs.List.{prefix_len};
+ghost use Rattle.ss_text.specs.Texts.{text_eq, row_eq};
+ghost use Rattle.flow_law.specs.Facts.{column_of, value_in};
 ghost use Rattle.std.specs.Ordering.{eq_by_cmp, as_partial_cmp};
 ghost use Rattle.std.specs.Cmp.{partial_equiv_from_equiv, partial_order_from_agreeing_total, eq_by_cmp_equiv};
 ghost use Rattle.valuation_meaning.specs.Borrowed.{fact_value};
 ghost use Rattle.valuation_meaning.specs.FactOrder.{fact_cmp, fact_total};
 
-use ss_text::Text;
+use ss_text::{NoMemory, Row, Text};
+use std::alloc::Global;
 use std::cmp::Ordering;
 use std::marker::Model;
 
@@ -34,6 +38,61 @@ impl<'a> Fact<'a> {
     {
         Fact { label, key, cell }
     }
+
+    /// Its table label.
+    pub(crate) fn label(&self) -> &'a Text
+        ensures { result.now ≡ self.now.label }
+    {
+        self.label
+    }
+
+    /// Its column label.
+    pub(crate) fn column(&self) -> Option<&'a Text>
+        ensures { option_copied result ≡ column_of self.now }
+    {
+        let (column, _) = self.cell?;
+        Some(column)
+    }
+
+    /// Its value, where it names this column.
+    pub(crate) fn value(&self, column: &Text) -> Option<&'a Text>
+        ensures { option_copied result ≡ value_in column.now self.now }
+    {
+        let (named, value) = self.cell?;
+        if column == named { Some(value) } else { None }
+    }
+
+    /// A copy of its key.
+    pub(crate) fn copy_key(&self, alloc: Global) -> Result<Row, NoMemory>
+        ensures { IfOk result (λ key. key ≡ self.now.key) }
+    {
+        let mut cells = Vec::with_capacity(alloc, self.key.len())?;
+        for text in &self.key {
+            cells.push(text.copy()?)?;
+        }
+        Ok(Row::of(cells))
+    }
+
+    /// Whether it has the key of another.
+    pub(crate) fn has_key_of(&self, other: &Fact<'_>) -> bool
+        ensures { result ≡ row_eq self.now.key other.now.key }
+    {
+        self.key == other.key
+    }
+}
+
+/// How many facts at the front have this label.
+pub(crate) fn label_count(facts: &[Fact<'_>], label: &Text) -> usize
+    ensures { result ≡ prefix_len (λ f. text_eq label.now f.label) facts.now }
+{
+    facts.iter().take_while(|fact| label == fact.label()).count()
+}
+
+/// How many facts at the front have the key of this one.
+pub(crate) fn key_count(facts: &[Fact<'_>], first: &Fact<'_>) -> usize
+    ensures { result ≡ prefix_len (λ f. row_eq first.now.key f.key) facts.now }
+{
+    facts.iter().take_while(|fact| first.has_key_of(fact)).count()
 }
 
 impl PartialEq for Fact<'_> {

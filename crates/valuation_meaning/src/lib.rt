@@ -4,9 +4,11 @@
 mod column;
 mod element;
 mod fact;
+mod label;
 mod listing;
 mod lookup;
 mod ranges;
+mod tables;
 mod truth;
 mod value;
 

@@ -1,5 +1,5 @@
 use Rattle.std.proofs.Common.{◌∙◌, sym}
-use Rattle.valuation_meaning.proofs.FactLemmas.{by_label, by_key, by_cell}
+use Rattle.valuation_meaning.proofs.FactLemmas.{by_key, by_cell}
 use Rattle.valuation_meaning.proofs.fact.FactOrd.cmp.Goals as goal
 
 pub returns-in-Equal-cmp : goal.returns-in-Equal-cmp
