@@ -1,14 +1,14 @@
 -- Lists that rise by a key: the elements of one key stand together, and the first group can be taken off.
-use Rattle.std.proofs.Common.{◌≡◌, ℕ, zero, suc, ◌+◌, Bool, true, false, cond, List, [], ◌∷◌, ◌++◌, map, take, drop, refl, sym, ap, subst, ◌∙◌, one-add}
-use Rattle.std.specs.Prelude.{filter}
+use Rattle.std.proofs.Common.{◌≡◌, ◌<◌, ◌≤◌, ℕ, zero, suc, ◌+◌, Bool, true, false, cond, List, [], ◌∷◌, ◌++◌, map, take, drop, refl, sym, ap, subst, ◌∙◌, one-add, length, get_or, arith, Option, Some, None}
+use Rattle.std.specs.Prelude.{filter, not}
 use Rattle.std.specs.declared.cmp.Ordering.{Ordering}
 use Rattle.std.specs.declared.cmp.Ordering.TheVariants.{Less, Equal, Greater}
-use Rattle.std.specs.List.{AllByRecursion, prefix_len}
-use Rattle.std.specs.List.Sorted.{IsStrictlySortedBy}
+use Rattle.std.specs.List.{AllByRecursion, AllWithin, prefix_len}
+use Rattle.std.specs.List.Sorted.{IsStrictlySortedBy, IsPartitionedBy}
 use Rattle.std.specs.Cmp.{IsTotalOrder}
 use Rattle.std.specs.Ordering.{is_gt, is_eq, on, then_cmp, ordering_then, ordering_reverse}
-use Rattle.std.proofs.lemmas.Cmp.{tied_itself}
-use Rattle.ss_text.specs.Ascending.{by_order, with_element, ascending}
+use Rattle.std.proofs.lemmas.Cmp.{tied_itself, alike_right}
+use Rattle.ss_text.specs.Ascending.{by_order, with_element, ascending, lesser, least}
 use Rattle.ss_text.proofs.KeyLemmas.{IsKeyOrder, equal_itself, equal_is, less_differs}
 
 -- what holds of each element
@@ -244,3 +244,71 @@ module _ {A K : Type 0} {R : K → K → Ordering} {E : K → K → Bool} (o : I
         (ap (λ gs. h (key x) (take (suc more) (x ∷ xs)) ∷ gs)
         (map_agree (λ (k : K). h k (filter (λ (y : A). E k (key y)) (x ∷ xs))) (λ (k : K). h k (filter (λ (y : A). E k (key y)) (drop more xs))) (ascending R (map key (drop more xs)))
         (all_weaker (λ (j : K). R (key x) j ≡ Less) _ (λ j f. ap (h j) (all.others j f)) (ascending R (map key (drop more xs))) later)))
+
+-- what a partition point says, part by part
+module _ {A : Type 0} (P : A → Type 0) where
+  pub all_taken : (xs : List A) (n : ℕ) → AllWithin P xs 0 n → n ≤ length xs → AllByRecursion P (take n xs)
+  all_taken xs zero h le = tt
+  all_taken [] (suc n) h le = absurd (omega arith)
+  all_taken (x ∷ xs) (suc n) h le = (h 0 x (omega arith) (omega arith), all_taken xs n (λ k d low high. h (suc k) d (omega arith) (omega arith)) (omega arith))
+
+  pub all_dropped : (xs : List A) (n : ℕ) → AllWithin P xs n (length xs) → AllByRecursion P (drop n xs)
+  all_dropped [] zero h = tt
+  all_dropped [] (suc n) h = tt
+  all_dropped (x ∷ xs) zero h = (h 0 x (omega arith) (omega arith), all_dropped xs zero (λ k d low high. h (suc k) d (omega arith) (omega arith)))
+  all_dropped (x ∷ xs) (suc n) h = all_dropped xs n (λ k d low high. h (suc k) d (omega arith) (omega arith))
+
+-- a list whose keys ascend strictly, up to a limit
+module _ {A K : Type 0} {R : K → K → Ordering} (o : IsTotalOrder R) (key : A → K) (limit : K) where
+  earlier_within : (x y : K) → R x y ≡ Less → not (is_gt (R y limit)) ≡ true → not (is_gt (R x limit)) ≡ true
+  earlier_within x y e h = chained (R y limit) refl h
+    where
+      chained : (r : Ordering) → R y limit ≡ r → not (is_gt r) ≡ true → not (is_gt (R x limit)) ≡ true
+      chained Less f g = rw (o.trans x y limit e f) refl
+      chained Equal f g =
+          let below : R x limit ≡ Less = sym (alike_right o y limit x f) ∙ e in
+          rw below refl
+      chained Greater f g = absurd (cc)
+
+  less_at : (k : K) (xs : List A) (j : ℕ) (d : A) → AllByRecursion (λ (y : K). R k y ≡ Less) (map key xs) → j < length xs → R k (key (get_or xs j d)) ≡ Less
+  less_at k [] j d h lt = absurd (omega arith)
+  less_at k (x ∷ xs) zero d h lt = h.0
+  less_at k (x ∷ xs) (suc j) d h lt = less_at k xs j d h.1 (omega arith)
+
+  -- no key that is within the limit comes after one that is past it
+  pub partitioned : (xs : List A) → IsStrictlySortedBy R (map key xs) → IsPartitionedBy (λ (x : A). not (is_gt (R (key x) limit))) xs
+  unfolding IsStrictlySortedBy
+  partitioned [] s i j d le lt h = absurd (omega arith)
+  partitioned (x ∷ xs) s zero zero d le lt h = h
+  partitioned (x ∷ xs) s zero (suc j) d le lt h = earlier_within (key x) (key (get_or xs j d)) (less_at (key x) xs j d s.0 (omega arith)) h
+  partitioned (x ∷ xs) s (suc i) zero d le lt h = absurd (omega arith)
+  partitioned (x ∷ xs) s (suc i) (suc j) d le lt h = partitioned xs s.1 i j d (omega arith) (omega arith) h
+
+-- the least of a list whose first is less than all others
+module _ {A : Type 0} (R : A → A → Ordering) (x : A) where
+  IfThere : Option A → Type 0
+  IfThere None = Unit {0}
+  IfThere (Some y) = R x y ≡ Less
+
+  lesser_has : (y : A) (l : Option A) → R x y ≡ Less → IfThere l → IfThere (lesser R y l)
+  unfolding IfThere
+  lesser_has y None e h = e
+  lesser_has y (Some z) e h = by_case (R y z)
+    where
+      by_case : (r : Ordering) → IfThere (by_order r (Some y) (Some y) (Some z))
+      by_case Less = e
+      by_case Equal = e
+      by_case Greater = h
+
+  least_has : (ys : List A) → AllByRecursion (λ (y : A). R x y ≡ Less) ys → IfThere (least R ys)
+  unfolding IfThere
+  least_has [] h = tt
+  least_has (y ∷ ys) h = lesser_has y (least R ys) h.0 (least_has ys h.1)
+
+  by_least : (l : Option A) → IfThere l → lesser R x l ≡ Some x
+  unfolding IfThere
+  by_least None h = refl
+  by_least (Some y) h = rw h refl
+
+  pub least_of_first : (xs : List A) → AllByRecursion (λ (y : A). R x y ≡ Less) xs → least R (x ∷ xs) ≡ Some x
+  least_of_first xs h = by_least (least R xs) (least_has xs h)
