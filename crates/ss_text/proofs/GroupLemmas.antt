@@ -43,6 +43,17 @@ module _ {A : Type 0} (C : A → A → Ordering) where
   strict_front [] ys h = tt
   strict_front (x ∷ xs) ys h = (all_front (λ (y : A). C x y ≡ Less) xs ys h.0, strict_front xs ys h.1)
 
+-- by a key, and the keys themselves
+module _ {A K : Type 0} (R : K → K → Ordering) (key : A → K) where
+  all_keys : (P : K → Type 0) (xs : List A) → AllByRecursion (λ (x : A). P (key x)) xs → AllByRecursion P (map key xs)
+  all_keys P [] h = tt
+  all_keys P (x ∷ xs) h = (h.0, all_keys P xs h.1)
+
+  pub strict_keys : (xs : List A) → IsStrictlySortedBy (on key R) xs → IsStrictlySortedBy R (map key xs)
+  unfolding IsStrictlySortedBy
+  strict_keys [] h = tt
+  strict_keys (x ∷ xs) h = (all_keys (λ (k : K). R (key x) k ≡ Less) xs h.0, strict_keys xs h.1)
+
 -- what `ascending` gives ascends strictly
 module _ {A : Type 0} {R : A → A → Ordering} (o : IsTotalOrder R) where
   pub all_with : (P : A → Type 0) (x : A) (ys : List A) → P x → AllByRecursion P ys → AllByRecursion P (with_element R x ys)
@@ -174,10 +185,6 @@ module _ {A K : Type 0} {R : K → K → Ordering} {E : K → K → Bool} (o : I
   none_of k [] h = refl
   none_of k (y ∷ ys) h = rw (o.ties k (key y), h.0) (none_of k ys h.1)
 
-  all_mapped : (P : K → Type 0) (ys : List A) → AllByRecursion (λ (y : A). P (key y)) ys → AllByRecursion P (map key ys)
-  all_mapped P [] h = tt
-  all_mapped P (y ∷ ys) h = (h.0, all_mapped P ys h.1)
-
   -- the first n elements are those of k, and all others have greater keys
   record IsSplit (k : K) (ys : List A) (n : ℕ) : Type 0 where
     taken : filter (λ (y : A). E k (key y)) ys ≡ take n ys
@@ -198,7 +205,7 @@ module _ {A K : Type 0} {R : K → K → Ordering} {E : K → K → Bool} (o : I
     taken = none_of k ys all;
     past = all;
     others = λ j f. refl;
-    keys = with_least o.total k (ascending R (map key ys)) (all_ascending o.total (λ (j : K). R k j ≡ Less) (map key ys) (all_mapped (λ (j : K). R k j ≡ Less) ys all));
+    keys = with_least o.total k (ascending R (map key ys)) (all_ascending o.total (λ (j : K). R k j ≡ Less) (map key ys) (all_keys R key (λ (j : K). R k j ≡ Less) ys all));
   }
 
   split : (k : K) (ys : List A) → AllByRecursion (λ (y : A). is_gt (R k (key y)) ≡ false) ys → Rises ys → IsSplit k ys (prefix_len (λ (y : A). E k (key y)) ys)
@@ -239,7 +246,7 @@ module _ {A K : Type 0} {R : K → K → Ordering} {E : K → K → Bool} (o : I
         → grouped h (x ∷ xs) ≡ h (key x) (take n (x ∷ xs)) ∷ grouped h (drop n (x ∷ xs))
     first_group h n e =
         let later : AllByRecursion (λ (j : K). R (key x) j ≡ Less) (ascending R (map key (drop more xs))) =
-          all_ascending o.total (λ (j : K). R (key x) j ≡ Less) (map key (drop more xs)) (all_mapped (λ (j : K). R (key x) j ≡ Less) (drop more xs) behind.past) in
+          all_ascending o.total (λ (j : K). R (key x) j ≡ Less) (map key (drop more xs)) (all_keys R key (λ (j : K). R (key x) j ≡ Less) (drop more xs) behind.past) in
         rw (e, count_is, behind.keys, all.taken)
         (ap (λ gs. h (key x) (take (suc more) (x ∷ xs)) ∷ gs)
         (map_agree (λ (k : K). h k (filter (λ (y : A). E k (key y)) (x ∷ xs))) (λ (k : K). h k (filter (λ (y : A). E k (key y)) (drop more xs))) (ascending R (map key (drop more xs)))

@@ -4,3 +4,4 @@ pub mod CountLemmas
 pub mod LookupLemmas
 pub mod RowsLeft
 pub mod ListingLemmas
+pub mod ValueLemmas

@@ -7,3 +7,4 @@ pub mod Meaning
 pub mod FactOrder
 pub mod Borrowed
 pub mod Listing
+pub mod Cells

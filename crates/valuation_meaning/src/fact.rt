@@ -6,6 +6,7 @@ ghost use Rattle.flow_law.specs.Facts.{column_of, value_in};
 ghost use Rattle.std.specs.Ordering.{eq_by_cmp, as_partial_cmp};
 ghost use Rattle.std.specs.Cmp.{partial_equiv_from_equiv, partial_order_from_agreeing_total, eq_by_cmp_equiv};
 ghost use Rattle.valuation_meaning.specs.Borrowed.{fact_value};
+ghost use Rattle.valuation_meaning.specs.Cells.{is_past};
 ghost use Rattle.valuation_meaning.specs.FactOrder.{fact_cmp, fact_total};
 
 use ss_text::{NoMemory, Row, Text};
@@ -60,6 +61,20 @@ impl<'a> Fact<'a> {
     {
         let (named, value) = self.cell?;
         if column == named { Some(value) } else { None }
+    }
+
+    /// Whether its cell stands behind the empty value of this column.
+    pub(crate) fn is_past(&self, column: &Text) -> bool
+        ensures { result ≡ is_past column.now self.now }
+    {
+        let Some((named, value)) = self.cell else {
+            return false;
+        };
+        match named.cmp(column) {
+            Ordering::Less => false,
+            Ordering::Equal => !value.as_slice().is_empty(),
+            Ordering::Greater => true,
+        }
     }
 
     /// A copy of its key.

@@ -1,8 +1,12 @@
 //! The tables of facts that are in order.
-ghost use Rattle.std.specs.Prelude.{◌≡◌, IfOk, filter_map};
+ghost use Rattle.std.specs.Prelude.{◌≡◌, IfOk, filter_map, option_copied};
+ghost use Rattle.std.specs.List.Sorted.{IsStrictlySortedBy};
+ghost use Rattle.std.specs.Ordering.{on};
 ghost use Rattle.ss_text.specs.Texts.{text_cmp};
-ghost use Rattle.ss_text.specs.Ascending.{ascending};
+ghost use Rattle.ss_text.specs.Ascending.{ascending, least};
 ghost use Rattle.flow_law.specs.Facts.{column_of};
+ghost use Rattle.valuation_meaning.specs.FactOrder.{cell_cmp};
+ghost use Rattle.valuation_meaning.specs.Cells.{values_for};
 
 use crate::fact::Fact;
 use crate::label::Label;
@@ -32,4 +36,13 @@ fn copies(alloc: Global, labels: &[Label<'_>]) -> Result<Vec<Text>, NoMemory>
         texts.push(label.text().copy()?)?;
     }
     Ok(texts)
+}
+
+/// The least value of a column that is not empty, among facts whose cells ascend.
+fn value<'a>(facts: &[Fact<'a>], column: &Text) -> Option<&'a Text>
+    requires { IsStrictlySortedBy (on (λ f. f.cell) cell_cmp) facts.now }
+    ensures { option_copied result ≡ least text_cmp (values_for facts.now column.now) }
+{
+    let place = facts.partition_point(|fact| !fact.is_past(column));
+    facts.get(place)?.value(column)
 }
