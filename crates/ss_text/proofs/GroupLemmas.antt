@@ -1,6 +1,6 @@
 -- Lists that rise by a key: the elements of one key stand together, and the first group can be taken off.
 use Rattle.std.proofs.Common.{◌≡◌, ◌<◌, ◌≤◌, ℕ, zero, suc, ◌+◌, Bool, true, false, cond, List, [], ◌∷◌, ◌++◌, map, take, drop, refl, sym, ap, subst, ◌∙◌, one-add, length, get_or, arith, Option, Some, None}
-use Rattle.std.specs.Prelude.{filter, not}
+use Rattle.std.specs.Prelude.{filter, not, slice_get}
 use Rattle.std.specs.declared.cmp.Ordering.{Ordering}
 use Rattle.std.specs.declared.cmp.Ordering.TheVariants.{Less, Equal, Greater}
 use Rattle.std.specs.List.{AllByRecursion, AllWithin, prefix_len}
@@ -251,6 +251,26 @@ module _ {A K : Type 0} {R : K → K → Ordering} {E : K → K → Bool} (o : I
         (ap (λ gs. h (key x) (take (suc more) (x ∷ xs)) ∷ gs)
         (map_agree (λ (k : K). h k (filter (λ (y : A). E k (key y)) (x ∷ xs))) (λ (k : K). h k (filter (λ (y : A). E k (key y)) (drop more xs))) (ascending R (map key (drop more xs)))
         (all_weaker (λ (j : K). R (key x) j ≡ Less) _ (λ j f. ap (h j) (all.others j f)) (ascending R (map key (drop more xs))) later)))
+
+  -- the same of a list whose first element is x
+  module _ (xs : List A) (x : A) (n : ℕ) (s : Rises xs) (first : Some x ≡ slice_get xs 0) (count : n ≡ prefix_len (λ (y : A). E (key x) (key y)) xs) where
+    pub next_taken : filter (λ (y : A). E (key x) (key y)) xs ≡ take n xs
+    next_taken = from_first xs s first count
+      where
+        from_first : (ys : List A) → Rises ys → Some x ≡ slice_get ys 0 → n ≡ prefix_len (λ (y : A). E (key x) (key y)) ys → filter (λ (y : A). E (key x) (key y)) ys ≡ take n ys
+        from_first [] r f e = absurd (cc)
+        from_first (y ∷ ys) r f e =
+            let same : y ≡ x = cc in
+            subst (λ (z : A). n ≡ prefix_len (λ (w : A). E (key z) (key w)) (y ∷ ys) → filter (λ (w : A). E (key z) (key w)) (y ∷ ys) ≡ take n (y ∷ ys)) same (first_taken y ys r n) e
+
+    pub next_group : {B : Type 0} (h : K → List A → B) → grouped h xs ≡ h (key x) (take n xs) ∷ grouped h (drop n xs)
+    next_group h = from_first xs s first count
+      where
+        from_first : (ys : List A) → Rises ys → Some x ≡ slice_get ys 0 → n ≡ prefix_len (λ (y : A). E (key x) (key y)) ys → grouped h ys ≡ h (key x) (take n ys) ∷ grouped h (drop n ys)
+        from_first [] r f e = absurd (cc)
+        from_first (y ∷ ys) r f e =
+            let same : y ≡ x = cc in
+            subst (λ (z : A). n ≡ prefix_len (λ (w : A). E (key z) (key w)) (y ∷ ys) → grouped h (y ∷ ys) ≡ h (key z) (take n (y ∷ ys)) ∷ grouped h (drop n (y ∷ ys))) same (first_group y ys r h n) e
 
 -- what a partition point says, part by part
 module _ {A : Type 0} (P : A → Type 0) where
