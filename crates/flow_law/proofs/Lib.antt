@@ -2,3 +2,4 @@ mod WorkedRows
 pub mod TableLemmas
 pub mod RowLemmas
 pub mod LabelLemmas
+pub mod FillLemmas

@@ -1,8 +1,9 @@
 //! A table: dynamic columns, and rows in ascending order of their keys.
-ghost use Rattle.std.specs.Prelude.{◌≡◌, ◌<◌, [], false, length, slice_index_or, is_ok, IsTrue, IfOk, IfErr, OnOk, OnErr};
+ghost use Rattle.std.specs.Prelude.{◌≡◌, ◌<◌, [], ◌∷◌, ◌++◌, false, length, slice_index_or, is_ok, IsTrue, IfOk, IfErr, OnOk, OnErr};
 ghost use Rattle.ss_text.specs.Texts.{text_cmp, row_cmp, is_in};
 ghost use Rattle.ss_text.specs.Keys.{IsPlaceOf, IsPlaceFor};
-ghost use Rattle.flow_law.specs.Tables.{empty_table, row_at, key_of};
+ghost use Rattle.std.specs.List.Sorted.{IsStrictlySortedBy};
+ghost use Rattle.flow_law.specs.Tables.{table_value, empty_table, row_keys, row_at, key_of, with_last_row};
 ghost use Rattle.flow_law.specs.InOrder.{IsTable};
 ghost use Rattle.flow_law.specs.Lines.{has_row, has_column, fits_table, table_after, without_row, with_row, without_column, with_column, with_cell};
 
@@ -42,6 +43,29 @@ impl Table {
             columns: Vec::new(alloc),
             rows: Vec::new(alloc),
         }
+    }
+
+    /// The table with these columns, which ascend, and without rows.
+    pub fn of_columns(columns: Vec<Text>) -> Table
+        requires { IsStrictlySortedBy text_cmp columns.items }
+        ensures { result ≡ table_value columns.items [] }
+    {
+        let alloc = *columns.allocator();
+        Table {
+            columns,
+            rows: Vec::new(alloc),
+        }
+    }
+
+    /// Adds a row after all others, with a cell for each column. After `NoMemory` the table is as before.
+    pub fn put_row(&mut self, key: Row, cells: Vec<Text>) -> Result<(), NoMemory>
+        requires order { IsStrictlySortedBy row_cmp (row_keys self.old ++ key ∷ []) }
+        requires fits { length cells.items ≡ length self.old.columns }
+        ensures ok { OnOk result (self.new ≡ with_last_row key cells.items self.old) }
+        ensures err { OnErr result (self.new ≡ self.old) }
+    {
+        self.rows.push(KeyedRow { key, cells })?;
+        Ok(())
     }
 
     /// The dynamic columns, in ascending order.

@@ -1,8 +1,9 @@
 //! Tables by their labels.
-ghost use Rattle.std.specs.Prelude.{◌≡◌, ◌<◌, [], false, length, is_ok, IsTrue, IfOk, IfErr, IfSome, IfNone, OnOk, OnErr, slice_index_or};
+ghost use Rattle.std.specs.Prelude.{◌≡◌, ◌<◌, [], ◌∷◌, ◌++◌, false, length, is_ok, IsTrue, IfOk, IfErr, IfSome, IfNone, OnOk, OnErr, slice_index_or};
 ghost use Rattle.ss_text.specs.Texts.{text_cmp};
 ghost use Rattle.ss_text.specs.Keys.{IsPlaceOf, IsPlaceFor};
-ghost use Rattle.flow_law.specs.Tables.{label_in, tables_at};
+ghost use Rattle.std.specs.List.Sorted.{IsStrictlySortedBy};
+ghost use Rattle.flow_law.specs.Tables.{labels_of, label_in, tables_at};
 ghost use Rattle.flow_law.specs.InOrder.{IsTable, AreTables};
 ghost use Rattle.flow_law.specs.Lines.{has_table, fits_label, fits_line, label_of, table_after, at_table, without_table, with_table, after_line};
 
@@ -37,6 +38,17 @@ impl Tables {
         Tables {
             tables: Vec::new(alloc),
         }
+    }
+
+    /// Adds a table after all others. After `NoMemory` the tables are as before.
+    pub fn put_table(&mut self, label: Text, table: Table) -> Result<(), NoMemory>
+        requires order { IsStrictlySortedBy text_cmp (labels_of self.old ++ label ∷ []) }
+        requires table { IsTable table }
+        ensures ok { OnOk result (self.new ≡ self.old ++ (label, table) ∷ []) }
+        ensures err { OnErr result (self.new ≡ self.old) }
+    {
+        self.tables.push((label, table))?;
+        Ok(())
     }
 
     /// Whether the table, the row and the column that a line needs are there, and those that it adds are not.

@@ -2,3 +2,5 @@ pub mod Digits
 pub mod AscendingLemmas
 pub mod PlaceLemmas
 pub mod KeyLemmas
+pub mod SetLemmas
+pub mod GroupLemmas

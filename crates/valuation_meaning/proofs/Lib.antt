@@ -1,0 +1,7 @@
+mod WorkedRows
+pub mod FactLemmas
+pub mod CountLemmas
+pub mod LookupLemmas
+pub mod RowsLeft
+pub mod ListingLemmas
+pub mod ValueLemmas

@@ -1,0 +1,154 @@
+//! The facts of a view, listed one for each valuation.
+ghost use Rattle.std.specs.Prelude.{◌≡◌, ◌&&◌, [], ◌++◌, drop, map, option_copied, option_map, option_to_list, length, slice_get, vec_len, ◌<◌, IfOk, OnOk, OnSome, if◌then◌else◌};
+ghost use Rattle.view_def.specs.Conditions.{condition_of};
+ghost use Rattle.view_def.specs.Query.{query_of};
+ghost use Rattle.valuation_meaning.specs.Borrowed.{texts_of, cell_value};
+ghost use Rattle.valuation_meaning.specs.Terms.{are_defined};
+ghost use Rattle.valuation_meaning.specs.Valuations.{counts, meets, terms_of_filter};
+ghost use Rattle.valuation_meaning.specs.Meaning.{given, values_of, cell_of, fact_of, facts};
+ghost use Rattle.valuation_meaning.specs.Elements.{place_text};
+ghost use Rattle.valuation_meaning.specs.Listing.{facts_after};
+
+use crate::element::Element;
+use crate::fact::Fact;
+use crate::ranges::elements;
+use crate::truth::truth;
+use crate::value::{place_text, value_of};
+use schema_model::Catalogue;
+use ss_text::{NoMemory, Text};
+use std::alloc::Global;
+use view_def::{Cond, Place, Range, Term, View};
+
+/// The text of a place that has one.
+fn text_of<'a>(valuation: &[Element<'a>], place: &'a Place, empty: &'a Text) -> &'a Text
+    requires { empty.now ≡ [] }
+    ensures { result.now ≡ given (place_text valuation.now place.now) }
+{
+    place_text(valuation, place).unwrap_or(empty)
+}
+
+/// The values of terms, where each of them is defined.
+fn values_of<'a>(alloc: Global, valuation: &[Element<'a>], terms: &'a [Term]) -> Result<Option<Vec<&'a Text>>, NoMemory>
+    ensures { IfOk result (λ ts. option_map (λ ts. texts_of ts.items) ts
+        ≡ (if are_defined valuation.now terms.now then Some (values_of valuation.now terms.now) else None)) }
+{
+    let mut values = Vec::with_capacity(alloc, terms.len())?;
+    for term in terms {
+        let Some(value) = value_of(valuation, term) else {
+            return Ok(None);
+        };
+        values.push(value)?;
+    }
+    Ok(Some(values))
+}
+
+/// Whether a condition is true and every term in it defined. No condition is true.
+fn holds(valuation: &[Element<'_>], filter: &Option<Cond>) -> bool
+    ensures { let filter = option_map condition_of filter.now in
+        result ≡ (are_defined valuation.now (terms_of_filter filter) && meets valuation.now filter) }
+{
+    match filter {
+        None => true,
+        Some(condition) => truth(valuation, condition).unwrap_or(false),
+    }
+}
+
+/// The column label and the value, where the view has a variable column and its term is defined.
+fn cell_of<'a>(valuation: &[Element<'a>], column: &'a Option<Place>, value: &'a Option<Term>, empty: &'a Text) -> Option<Option<(&'a Text, &'a Text)>>
+    requires { empty.now ≡ [] }
+    ensures { option_map cell_value result
+        ≡ (if are_defined valuation.now (option_to_list value.now) then Some (cell_of valuation.now column.now value.now) else None) }
+{
+    let Some(value) = value else {
+        return Some(None);
+    };
+    let value = value_of(valuation, value)?;
+    let Some(column) = column else {
+        return Some(None);
+    };
+    let column = text_of(valuation, column, empty);
+    Some(Some((column, value)))
+}
+
+/// The fact of a valuation, where the valuation counts.
+fn fact_of<'a>(alloc: Global, view: &'a View, empty: &'a Text, valuation: &[Element<'a>]) -> Result<Option<Fact<'a>>, NoMemory>
+    requires { empty.now ≡ [] }
+    ensures { let query = query_of view.now in
+        IfOk result (λ fact. fact ≡ (if counts query valuation.now then Some (fact_of query valuation.now) else None)) }
+{
+    if !holds(valuation, &view.filter) {
+        return Ok(None);
+    }
+    let Some(cell) = cell_of(valuation, &view.column, &view.value, empty) else {
+        return Ok(None);
+    };
+    let Some(key) = values_of(alloc, valuation, &view.keys)? else {
+        return Ok(None);
+    };
+    let label = text_of(valuation, &view.label, empty);
+    Ok(Some(Fact::of(label, key, cell)))
+}
+
+/// The declaration at a place.
+fn declaration(view: &View, place: usize) -> Option<&Range>
+    ensures declaration { option_copied result ≡ slice_get view.now.decls.items place }
+    ensures there { OnSome result (place < vec_len view.now.decls) }
+{
+    view.decls.get(place)
+}
+
+/// Where the facts of a view are read from, and an empty text.
+#[derive(Drop)]
+struct Source<'a> {
+    catalogue: &'a Catalogue,
+    view: &'a View,
+    empty: &'a Text,
+}
+
+impl<'a> Source<'a> {
+    /// Adds the fact of a valuation, where the valuation counts.
+    fn add_fact(&self, alloc: Global, valuation: &[Element<'a>], facts: &mut Vec<Fact<'a>>) -> Result<(), NoMemory>
+        requires { self.now.empty.now ≡ [] }
+        ensures { OnOk result (facts.new.items ≡ facts.old.items ++ facts_after self.now.catalogue.now (query_of self.now.view.now) valuation.now []) }
+    {
+        if let Some(fact) = fact_of(alloc, self.view, self.empty, valuation)? {
+            facts.push(fact)?;
+        }
+        Ok(())
+    }
+
+    /// Adds the facts of the valuations that begin with these elements.
+    fn add_facts(&self, alloc: Global, valuation: &mut Vec<Element<'a>>, facts: &mut Vec<Fact<'a>>) -> Result<(), NoMemory>
+        requires { self.now.empty.now ≡ [] }
+        ensures facts { let query = query_of self.now.view.now in
+            let begun = valuation.old.items in
+            OnOk result (facts.new.items ≡ facts.old.items ++ facts_after self.now.catalogue.now query begun (drop (length begun) query.decls)) }
+        ensures same { OnOk result (valuation.new.items ≡ valuation.old.items) }
+    {
+        let Some(range) = declaration(self.view, valuation.len()) else {
+            return self.add_fact(alloc, valuation, facts);
+        };
+        for element in elements(alloc, self.catalogue, valuation, range)? {
+            valuation.push(element)?;
+            self.add_facts(alloc, valuation, facts)?;
+            valuation.pop();
+        }
+        Ok(())
+    }
+}
+
+/// The facts of a view, one for each valuation.
+pub(crate) fn facts<'a>(alloc: Global, catalogue: &'a Catalogue, view: &'a View, empty: &'a Text) -> Result<Vec<Fact<'a>>, NoMemory>
+    requires { empty.now ≡ [] }
+    ensures { IfOk result (λ fs. fs.items ≡ facts catalogue.now (query_of view.now)) }
+{
+    let source = Source {
+        catalogue,
+        view,
+        empty,
+    };
+    let mut valuation = Vec::with_capacity(alloc, view.decls.len())?;
+    let mut facts = Vec::new(alloc);
+    source.add_facts(alloc, &mut valuation, &mut facts)?;
+    Ok(facts)
+}
