@@ -15,6 +15,8 @@ mod place;
 mod put;
 mod read;
 mod relation;
+#[cfg(test)]
+mod tests;
 mod write;
 
 pub use fault::LoadFault;
