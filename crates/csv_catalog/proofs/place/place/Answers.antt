@@ -1,4 +1,4 @@
-use Rattle.std.proofs.Common.{◌≡◌, ◌<◌, ◌+◌, ◌-◌, ◌∙◌, sym, length, arith}
+use Rattle.std.proofs.Common.{◌≡◌, ◌<◌, ◌+◌, ◌-◌, sym, length, arith}
 use Rattle.csv_catalog.specs.Loaded.{by_name}
 use Rattle.csv_catalog.proofs.PlaceLemmas.{total_by_name, sorted_by_name, among_less, among_equal, among_greater, among_none}
 use Rattle.csv_catalog.proofs.place.place.Goals as goal
