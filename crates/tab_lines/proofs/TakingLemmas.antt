@@ -18,6 +18,7 @@ pub record Going (start now : LinesState) (rest later : Option (List ℕ)) : Typ
   pub left : now.left ≡ start.left ++ part
   pub soon : IsTakenLine start.left part
   pub ended : start.ended ≡ true → now.ended ≡ true
+  pub end : start.ended ≡ false → now.ended ≡ true → (bytes : List ℕ) → later ≡ Some bytes → bytes ≡ []
   pub same : (bytes more : List ℕ) → rest ≡ Some bytes → later ≡ Some more → ahead start bytes ≡ ahead now more
 
 before_none : (rest : Option (List ℕ)) → rest ≡ before [] rest
@@ -35,6 +36,7 @@ going_none s rest = record {
   left = sym (append-nil s.left);
   soon = inl refl;
   ended = λ h. h;
+  end = λ going ended bytes is. absurd (cc);
   same = λ bytes more is later. ap (ahead s) (told bytes more (sym is ∙ later));
 }
 
@@ -74,6 +76,7 @@ going_more start now new rest mid later g ready p = record {
   left = p.left ∙ (ap (λ (l : List ℕ). l ++ p.piece) g.left ∙ append_assoc start.left g.part p.piece);
   soon = inr (g.part, p.piece, refl, subst (λ (l : List ℕ). has_feed l ≡ false) g.left (needs now ready).no_line, p.few);
   ended = λ h. let was : now.ended ≡ true = g.ended h in let needed = (needs now ready).no_end in absurd (cc);
+  end = λ going ended bytes is. (both_none p.piece bytes (p.end ended (p.piece ++ bytes) (p.moved ∙ ap (before p.piece) is))).1;
   same = λ bytes more is is_later.
       let is_mid : mid ≡ Some (p.piece ++ more) = p.moved ∙ ap (before p.piece) is_later in
       g.same bytes (p.piece ++ more) is is_mid ∙ piece_ahead now new p.piece more (needs now ready).no_end p.left (λ ended. p.end ended (p.piece ++ more) is_mid);
@@ -86,6 +89,7 @@ going_reads r start now new rest later g h count ended = record {
   counted = count ∙ g.counted;
   soon = g.soon;
   ended = λ h. ended ∙ g.ended h;
+  end = λ going h. g.end going (sym ended ∙ h);
   answers = subst (λ (l : List ℕ). Answers r l new) g.left h;
 }
 

@@ -17,6 +17,11 @@ pub record LinesState : Type 0 where
 abbrev pub most_taken : ℕ
 most_taken = 4294967296
 
+-- no more bytes were taken, and fewer before a read answered 0
+pub record IsWithinLimit (s : LinesState) : Type 0 where
+  pub taken : s.taken ≤ most_taken
+  pub ended : s.ended ≡ true → s.taken < most_taken
+
 -- whether the next answer needs no read
 abbrev pub is_ready : LinesState → Bool
 is_ready s = has_feed s.left || s.ended || s.taken == most_taken
@@ -60,6 +65,7 @@ pub record Reads (r : Result Next ReadStop) (old new : LinesState) (rest later :
   pub counted : new.taken ≡ old.taken + length part
   pub soon : IsTakenLine old.left part
   pub ended : old.ended ≡ true → new.ended ≡ true
+  pub end : old.ended ≡ false → new.ended ≡ true → (bytes : List ℕ) → later ≡ Some bytes → bytes ≡ []
   pub answers : Answers r (old.left ++ part) new
 
 -- an answer among the lines that were ahead, and those that are ahead after it

@@ -56,7 +56,7 @@ pub struct Lines {
 }
 
 impl Model for Lines {
-    ghost use Rattle.std.specs.Prelude.{◌≡◌, ◌≤◌, ◌++◌, false};
+    ghost use Rattle.std.specs.Prelude.{◌≡◌, ◌<◌, ◌≤◌, ◌++◌, true, false};
     ghost use Rattle.tab_lines.specs.Lines.{has_feed};
     ghost use Rattle.tab_lines.specs.Taking.{LinesState, most_taken};
 
@@ -67,11 +67,12 @@ impl Model for Lines {
     ghost invariant = { λ s. record {
       no_feed : has_feed s.held.items ≡ false;
       taken : s.taken ≤ most_taken;
+      ended : s.ended ≡ true → s.taken < most_taken;
     } };
 }
 
 impl Lines {
-    ghost use Rattle.tab_lines.specs.Taking.{Answers, Reads, TakesPiece, IsNextOf, is_ready, ahead, most_taken};
+    ghost use Rattle.tab_lines.specs.Taking.{Answers, Reads, TakesPiece, IsNextOf, IsWithinLimit, is_ready, ahead, most_taken};
 
     /// A reader that took nothing yet.
     pub fn new(alloc: Global) -> Result<Lines, NoMemory>
@@ -102,7 +103,7 @@ impl Lines {
         ensures reads { Reads result self.old self.new (S.rest source.old) (S.rest source.new) }
         ensures next { (bytes later : List ℕ) → S.rest source.old ≡ Some bytes → S.rest source.new ≡ Some later → IsNextOf (lines_of (ahead self.old bytes)) (lines_of (ahead self.new later)) result }
         ensures idle { is_ready self.old ≡ true → source.new ≡ source.old }
-        ensures most { self.new.taken ≤ most_taken }
+        ensures most { IsWithinLimit self.new }
         ensures failed { IsErrOf result ReadStop.ReadFault → Rose (S.faults source.old) (S.faults source.new) }
         ensures steady { S.faults source.old ≤ S.faults source.new }
     {
@@ -120,7 +121,7 @@ impl Lines {
         ensures count { self.new.taken ≡ self.old.taken }
         ensures ended { self.new.ended ≡ self.old.ended }
         ensures err { IfErr result (λ stop. Answers (Err stop) self.old.left self.new) }
-        ensures most { self.new.taken ≤ most_taken }
+        ensures most { IsWithinLimit self.new }
         ensures no_read { ¬ (IsErrOf result ReadStop.ReadFault) }
     {
         if let Some(line) = self.whole_line()? {
@@ -140,7 +141,7 @@ impl Lines {
         ensures found { IfOk result (λ found. MatchOption found ((has_feed self.old.left ≡ false) × (self.new ≡ self.old)) (λ line. (has_feed line ≡ false) × (self.old.left ≡ line ++ 10 ∷ self.new.left))) }
         ensures count { self.new.taken ≡ self.old.taken }
         ensures ended { self.new.ended ≡ self.old.ended }
-        ensures most { self.new.taken ≤ most_taken }
+        ensures most { IsWithinLimit self.new }
         ensures err { OnErr result (self.new ≡ self.old) }
     {
         let Some((front, _)) = split_once(self.window.bytes(), b'\n') else {
@@ -161,7 +162,7 @@ impl Lines {
         ensures ok { IfOk result (λ next. Answers (Ok next) self.old.left self.new) }
         ensures count { self.new.taken ≡ self.old.taken }
         ensures ended { self.new.ended ≡ self.old.ended }
-        ensures most { self.new.taken ≤ most_taken }
+        ensures most { IsWithinLimit self.new }
         ensures err { OnErr result (self.new ≡ self.old) }
     {
         let rest = self.window.bytes().len();
@@ -179,7 +180,7 @@ impl Lines {
         requires { is_ready self.old ≡ false }
         ensures took { OnOk result (TakesPiece self.old self.new (S.rest source.old) (S.rest source.new)) }
         ensures stays { OnErr result ((self.new ≡ self.old) × (S.rest source.new ≡ S.rest source.old)) }
-        ensures most { self.new.taken ≤ most_taken }
+        ensures most { IsWithinLimit self.new }
         ensures no_long { ¬ (IsErrOf result ReadStop.TooLong) }
         ensures failed { IsErrOf result ReadStop.ReadFault → Rose (S.faults source.old) (S.faults source.new) }
         ensures steady { S.faults source.old ≤ S.faults source.new }
