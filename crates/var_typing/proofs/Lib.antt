@@ -1,2 +1,4 @@
+pub mod DeclarationLemmas
 pub mod FoldLemmas
 mod TypingExamples
+pub mod WalkLemmas

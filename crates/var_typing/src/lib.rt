@@ -4,6 +4,7 @@
 //! numbers and terms. It knows nothing of tokens, of catalogues or of what a view means.
 #![tactic(auto)]
 
+mod declarations;
 mod fault;
 mod folds;
 mod scope;
