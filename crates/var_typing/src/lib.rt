@@ -7,6 +7,7 @@
 mod declarations;
 mod fault;
 mod folds;
+mod header;
 mod scope;
 
 ghost use Rattle.std.specs.Prelude.{◌≡◌};

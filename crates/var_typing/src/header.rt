@@ -1,0 +1,133 @@
+//! The header of a view: its database, its table label and its columns.
+ghost use Rattle.std.specs.Prelude.{◌≡◌, ◌≤◌, ◌++◌, ◌∷◌, [], length, is_some, Some, None, OnOk};
+ghost use Rattle.std.specs.List.{list_any};
+ghost use Rattle.ss_text.specs.Texts.{text_eq};
+ghost use Rattle.view_def.specs.Tree.{tree_of};
+ghost use Rattle.var_typing.specs.Header.{name_label_fault, database_fault, label_fault, columns_fault, column_places, column_after, count_fault, header_parts, parts_of, with_column};
+ghost use Rattle.view_def.specs.declared.typed.Place.TheVariants as place;
+ghost use Rattle.var_typing.specs.declared.fault.TypeFault.TheVariants.{TwoVariableColumns, ColumnTwice};
+ghost use Rattle.var_typing.specs.Refusals.{where_true, Answers, Passes};
+ghost use Rattle.var_typing.specs.Scope.{variable_named, place_named};
+
+use crate::TypeFault;
+use crate::scope::Scope;
+use ss_text::{Text, table_label_legal};
+use std::alloc::Global;
+use view_def::{Name, Place, ViewText};
+
+/// What the columns stand for: the constants in order, and the place among the columns of the one variable.
+#[derive(Drop)]
+pub(crate) struct Header {
+    pub constants: Vec<Text>,
+    pub spot: Option<usize>,
+    pub column: Option<Place>,
+}
+
+// A name that is no variable.
+fn legal_label(name: &Text) -> Result<Text, TypeFault>
+    ensures { Answers (λ t. t) (name_label_fault name.now) name.now result }
+{
+    let name = name.copy()?;
+    if table_label_legal(&name) {
+        Ok(name)
+    } else {
+        Err(TypeFault::BadLabel { name })
+    }
+}
+
+/// The view database.
+pub(crate) fn type_database(scope: &Scope<'_>, name: &Name) -> Result<Text, TypeFault>
+    ensures { Answers (λ t. t) (database_fault name.now.text (variable_named scope.now.decls.now name.now)) name.now.text result }
+{
+    match scope.variable(name) {
+        None => legal_label(&name.text),
+        Some(_) => Err(TypeFault::WrongKind {
+            name: name.text.copy()?,
+        }),
+    }
+}
+
+/// The table label.
+pub(crate) fn type_label(scope: &Scope<'_>, name: &Name) -> Result<Place, TypeFault>
+    requires { length scope.now.decls.now ≤ 8 }
+    ensures { let ds = scope.now.decls.now in Answers (λ p. p) (label_fault ds name.now.text (variable_named ds name.now)) (place_named ds name.now) result }
+{
+    match scope.variable(name) {
+        None => Ok(Place::Fixed(legal_label(&name.text)?)),
+        Some(k) => Ok(Place::Var(scope.with_text(k, &name.text)?)),
+    }
+}
+
+/// The columns.
+pub(crate) fn type_columns(alloc: Global, scope: &Scope<'_>, columns: &[Name]) -> Result<Header, TypeFault>
+    requires { length scope.now.decls.now ≤ 8 }
+    ensures { let ds = scope.now.decls.now in Answers header_parts (columns_fault ds columns.now) (parts_of (column_places ds columns.now)) result }
+{
+    let mut header = Header {
+        constants: Vec::new(alloc),
+        spot: None,
+        column: None,
+    };
+    for (place, name) in columns.iter().enumerate() {
+        header.add(scope, place, name)?;
+    }
+    if header.constants.is_empty() {
+        return Err(TypeFault::NoConstantColumn);
+    }
+    Ok(header)
+}
+
+impl Header {
+    // One more column.
+    fn add(&mut self, scope: &Scope<'_>, spot: usize, name: &Name) -> Result<(), TypeFault>
+        requires { length scope.now.decls.now ≤ 8 }
+        ensures passes { let ds = scope.now.decls.now in Passes (column_after ds self.old.constants.items (is_some self.old.spot) name.now.text (variable_named ds name.now)) result }
+        ensures added { OnOk result (header_parts self.new ≡ with_column spot (place_named scope.now.decls.now name.now) (header_parts self.old)) }
+    {
+        match scope.variable(name) {
+            None => add_constant(&mut self.constants, &name.text),
+            Some(k) => {
+                let variable = scope.with_text(k, &name.text)?;
+                self.add_variable(spot, variable, &name.text)
+            }
+        }
+    }
+
+    fn add_variable(&mut self, spot: usize, variable: u32, name: &Text) -> Result<(), TypeFault>
+        ensures passes { Passes (where_true (is_some self.old.spot) (TwoVariableColumns name.now)) result }
+        ensures added { OnOk result (header_parts self.new ≡ with_column spot (place.Var variable) (header_parts self.old)) }
+    {
+        if self.spot.is_some() {
+            return Err(TypeFault::TwoVariableColumns {
+                var: name.copy()?,
+            });
+        }
+        self.spot = Some(spot);
+        self.column = Some(Place::Var(variable));
+        Ok(())
+    }
+}
+
+fn add_constant(constants: &mut Vec<Text>, name: &Text) -> Result<(), TypeFault>
+    ensures passes { Passes (where_true (list_any (λ c. text_eq c name.now) constants.old.items) (ColumnTwice name.now)) result }
+    ensures added { OnOk result (constants.new.items ≡ constants.old.items ++ name.now ∷ []) }
+{
+    let name = name.copy()?;
+    if constants.contains(&name) {
+        return Err(TypeFault::ColumnTwice { name });
+    }
+    constants.push(name)?;
+    Ok(())
+}
+
+/// As many terms as columns.
+pub(crate) fn check_count(view: &ViewText) -> Result<(), TypeFault>
+    ensures { Passes (count_fault (tree_of view.now)) result }
+{
+    let columns = view.columns.len();
+    let terms = view.select.len();
+    if columns != terms {
+        return Err(TypeFault::CountDiffers { columns, terms });
+    }
+    Ok(())
+}
