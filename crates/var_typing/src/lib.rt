@@ -4,11 +4,13 @@
 //! numbers and terms. It knows nothing of tokens, of catalogues or of what a view means.
 #![tactic(auto)]
 
+mod conditions;
 mod declarations;
 mod fault;
 mod folds;
 mod header;
 mod scope;
+mod terms;
 
 ghost use Rattle.std.specs.Prelude.{◌≡◌};
 ghost use Rattle.var_typing.specs.Typed.{typed};
