@@ -10,8 +10,8 @@ use Rattle.view_def.specs.declared.typed.Place.{Place}
 use Rattle.view_def.specs.declared.typed.Place.TheVariants as place
 use Rattle.var_typing.specs.declared.fault.TypeFault.{TypeFault}
 use Rattle.var_typing.specs.declared.fault.TypeFault.TheVariants as fault
-use Rattle.var_typing.specs.declared.header.Header.{Header}
-use Rattle.var_typing.specs.Header.{is_variable, constant_text, column_places, constants_of, column_after, column_fault, columns_fault, Parts, parts_of, header_parts, with_column}
+use Rattle.var_typing.specs.declared.header.Columns.{Columns}
+use Rattle.var_typing.specs.Header.{is_variable, constant_text, column_places, constants_of, column_after, column_fault, columns_fault, Parts, parts_of, column_parts, with_column}
 use Rattle.var_typing.specs.Refusals.{in_turn, where_true}
 use Rattle.var_typing.specs.Scope.{is_tuple, variable_named, place_named, variable_or}
 use Rattle.var_typing.proofs.PositionLemmas.{is_some-position, position_failing, position_first, find_failing, find_first}
@@ -24,9 +24,9 @@ parts_last places (place.Fixed t) h =
 parts_last places (place.Var k) h =
     rw (filter_map-append constant_text places (place.Var k ∷ []), position_first is_variable (place.Var k) refl places (h refl), find_first is_variable (place.Var k) refl places (h refl), append-nil (constants_of places)) refl
 
-module _ (ds : List RawDecl) (columns : List Name) (i : ℕ) (n : Name) (h : Header) (lt : i < length columns) (at : n ≡ get_or columns i n)
+module _ (ds : List RawDecl) (columns : List Name) (i : ℕ) (n : Name) (h : Columns) (lt : i < length columns) (at : n ≡ get_or columns i n)
     (left : in_turn (column_fault ds) (take i columns) (drop i columns) ≡ in_turn (column_fault ds) [] columns)
-    (parts : header_parts h ≡ parts_of (column_places ds (take i columns))) where
+    (parts : column_parts h ≡ parts_of (column_places ds (take i columns))) where
   varies : is_some h.spot ≡ list_any is_variable (column_places ds (take i columns))
   varies = ap (λ (p : Parts). is_some p.1) parts ∙ is_some-position is_variable (column_places ds (take i columns))
 
@@ -48,8 +48,8 @@ module _ (ds : List RawDecl) (columns : List Name) (i : ℕ) (n : Name) (h : Hea
   none_before None e is = absurd (cc)
   none_before (Some k) e is = not_true (is_some h.spot) _ (none_right (where_true (is_tuple ds k) (fault.WrongKind n.text)) _ e)
 
-  pub column_added : (after : Header) → column_after ds h.constants.items (is_some h.spot) n.text (variable_named ds n) ≡ None
-      → header_parts after ≡ with_column i (place_named ds n) (header_parts h) → header_parts after ≡ parts_of (column_places ds (take (i + 1) columns))
+  pub column_added : (after : Columns) → column_after ds h.constants.items (is_some h.spot) n.text (variable_named ds n) ≡ None
+      → column_parts after ≡ with_column i (place_named ds n) (column_parts h) → column_parts after ≡ parts_of (column_places ds (take (i + 1) columns))
   column_added after e added =
       added ∙ ap (with_column i (place_named ds n)) parts
       ∙ ap (λ k. with_column k (place_named ds n) (parts_of (column_places ds (take i columns)))) (sym many)

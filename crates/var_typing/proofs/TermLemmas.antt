@@ -116,3 +116,15 @@ module _ (ds : List RawDecl) (folds after : List Fold) (cs : List RawCond) (i : 
   pub member_typed : (old : List Cond) (x : Cond) → map condition_of old ≡ map (λ (e : RawCond). typed_condition ds (raw_of e)) (take i cs) → condition_of x ≡ typed_condition ds (raw_of c)
       → map condition_of (old ++ x ∷ []) ≡ map (λ (e : RawCond). typed_condition ds (raw_of e)) (take (i + 1) cs)
   member_typed old x h k = map_last condition_of old x ∙ map_pushed (λ (e : RawCond). typed_condition ds (raw_of e)) cs i c (map condition_of old) (condition_of x) lt at h k
+
+-- terms and more terms; a scope has these declarations, and a slice these terms
+module _ (ds es : List RawDecl) (e : ds ≡ es) (folds after : List Fold) (ts ss us : List RawTerm) (t : ts ≡ ss) where
+  parts : terms_fault es folds (ss ++ us) ≡ (terms_fault ds folds ts or_else terms_fault ds (folds ++ flat_map (term_folds ds) ts) us)
+  parts = ap (λ (d : List RawDecl). terms_fault d folds (ss ++ us)) (sym e) ∙ ap (λ (s : List RawTerm). terms_fault ds folds (s ++ us)) (sym t) ∙ terms_fault-append ds folds ts us
+
+  pub first_refused : (f : TypeFault) → (f ≢ fault.NoMemory → terms_fault ds folds ts ≡ Some f) → f ≢ fault.NoMemory → terms_fault es folds (ss ++ us) ≡ Some f
+  first_refused f h n = parts ∙ at_some (terms_fault ds folds ts) (terms_fault ds (folds ++ flat_map (term_folds ds) ts) us) f (h n)
+
+  pub then_more : terms_fault ds folds ts ≡ None → SameOthers (folds ++ flat_map (term_folds ds) ts) after → terms_fault es folds (ss ++ us) ≡ terms_fault ds after us
+  then_more h same =
+      parts ∙ after_none (terms_fault ds folds ts) (terms_fault ds (folds ++ flat_map (term_folds ds) ts) us) h ∙ terms_same ds (folds ++ flat_map (term_folds ds) ts) after same us

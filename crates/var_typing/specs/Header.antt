@@ -10,6 +10,7 @@ use Rattle.view_def.specs.declared.typed.Place.TheVariants as place
 use Rattle.view_def.specs.Tree.{Tree}
 use Rattle.var_typing.specs.declared.fault.TypeFault.{TypeFault}
 use Rattle.var_typing.specs.declared.fault.TypeFault.TheVariants.{WrongKind, BadLabel, TwoVariableColumns, ColumnTwice, NoConstantColumn, CountDiffers}
+use Rattle.var_typing.specs.declared.header.Columns.{Columns}
 use Rattle.var_typing.specs.declared.header.Header.{Header}
 use Rattle.var_typing.specs.Refusals.{where_true, ◌or_else◌, in_turn}
 use Rattle.var_typing.specs.Scope.{is_tuple, variable_named, place_named}
@@ -74,17 +75,24 @@ header_fault t =
     or_else label_fault t.decls t.label.text (variable_named t.decls t.label)
     or_else columns_fault t.decls t.columns
 
--- the parts of a header: its constants, the place of its variable, and the variable
+-- what columns stand for: their constants, the place of its variable, and the variable
 abbrev pub Parts : Type 0
 Parts = Row × Option ℕ × Option Place
 
 abbrev pub parts_of : List Place → Parts
 parts_of places = (constants_of places, position is_variable places, find is_variable places)
 
-abbrev pub header_parts : Header → Parts
-header_parts h = (h.constants.items, h.spot, h.column)
+abbrev pub column_parts : Columns → Parts
+column_parts h = (h.constants.items, h.spot, h.column)
 
 -- with one more column at this place
 abbrev pub with_column : ℕ → Place → Parts → Parts
 with_column spot (place.Fixed t) parts = (parts.0 ++ t ∷ [], parts.1, parts.2)
 with_column spot (place.Var k) parts = (parts.0, Some spot, Some (place.Var k))
+
+-- the view database, the table label and the columns
+abbrev pub header_of : Tree → Text × Place × Parts
+header_of t = (t.view_db.text, place_named t.decls t.label, parts_of (column_places t.decls t.columns))
+
+abbrev pub header_parts : Header → Text × Place × Parts
+header_parts h = (h.view_db, h.label, column_parts h.columns)

@@ -3,10 +3,10 @@ ghost use Rattle.std.specs.Prelude.{◌≡◌, ◌≤◌, ◌++◌, ◌∷◌, [
 ghost use Rattle.std.specs.List.{list_any};
 ghost use Rattle.ss_text.specs.Texts.{text_eq};
 ghost use Rattle.view_def.specs.Tree.{tree_of};
-ghost use Rattle.var_typing.specs.Header.{name_label_fault, database_fault, label_fault, columns_fault, column_places, column_after, count_fault, header_parts, parts_of, with_column};
+ghost use Rattle.var_typing.specs.Header.{name_label_fault, database_fault, label_fault, columns_fault, column_places, column_after, count_fault, header_fault, header_of, header_parts, column_parts, parts_of, with_column};
 ghost use Rattle.view_def.specs.declared.typed.Place.TheVariants as place;
 ghost use Rattle.var_typing.specs.declared.fault.TypeFault.TheVariants.{TwoVariableColumns, ColumnTwice};
-ghost use Rattle.var_typing.specs.Refusals.{where_true, Answers, Passes};
+ghost use Rattle.var_typing.specs.Refusals.{where_true, ◌or_else◌, Answers, Passes};
 ghost use Rattle.var_typing.specs.Scope.{variable_named, place_named};
 
 use crate::TypeFault;
@@ -17,10 +17,35 @@ use view_def::{Name, Place, ViewText};
 
 /// What the columns stand for: the constants in order, and the place among the columns of the one variable.
 #[derive(Drop)]
-pub(crate) struct Header {
+pub(crate) struct Columns {
     pub constants: Vec<Text>,
     pub spot: Option<usize>,
     pub column: Option<Place>,
+}
+
+/// The view database, the table label and the columns.
+#[derive(Drop)]
+pub(crate) struct Header {
+    pub view_db: Text,
+    pub label: Place,
+    pub columns: Columns,
+}
+
+/// The header of a view, which has as many terms as columns.
+pub(crate) fn type_header(alloc: Global, scope: &Scope<'_>, view: &ViewText) -> Result<Header, TypeFault>
+    requires whole { scope.now.decls.now ≡ view.now.decls.items }
+    requires few { length view.now.decls.items ≤ 8 }
+    ensures { let t = tree_of view.now in Answers header_parts (header_fault t or_else count_fault t) (header_of t) result }
+{
+    let view_db = type_database(scope, &view.view_db)?;
+    let label = type_label(scope, &view.label)?;
+    let columns = type_columns(alloc, scope, &view.columns)?;
+    check_count(view)?;
+    Ok(Header {
+        view_db,
+        label,
+        columns,
+    })
 }
 
 // A name that is no variable.
@@ -35,8 +60,7 @@ fn legal_label(name: &Text) -> Result<Text, TypeFault>
     }
 }
 
-/// The view database.
-pub(crate) fn type_database(scope: &Scope<'_>, name: &Name) -> Result<Text, TypeFault>
+fn type_database(scope: &Scope<'_>, name: &Name) -> Result<Text, TypeFault>
     ensures { Answers (λ t. t) (database_fault name.now.text (variable_named scope.now.decls.now name.now)) name.now.text result }
 {
     match scope.variable(name) {
@@ -47,8 +71,7 @@ pub(crate) fn type_database(scope: &Scope<'_>, name: &Name) -> Result<Text, Type
     }
 }
 
-/// The table label.
-pub(crate) fn type_label(scope: &Scope<'_>, name: &Name) -> Result<Place, TypeFault>
+fn type_label(scope: &Scope<'_>, name: &Name) -> Result<Place, TypeFault>
     requires { length scope.now.decls.now ≤ 8 }
     ensures { let ds = scope.now.decls.now in Answers (λ p. p) (label_fault ds name.now.text (variable_named ds name.now)) (place_named ds name.now) result }
 {
@@ -58,31 +81,30 @@ pub(crate) fn type_label(scope: &Scope<'_>, name: &Name) -> Result<Place, TypeFa
     }
 }
 
-/// The columns.
-pub(crate) fn type_columns(alloc: Global, scope: &Scope<'_>, columns: &[Name]) -> Result<Header, TypeFault>
+fn type_columns(alloc: Global, scope: &Scope<'_>, columns: &[Name]) -> Result<Columns, TypeFault>
     requires { length scope.now.decls.now ≤ 8 }
-    ensures { let ds = scope.now.decls.now in Answers header_parts (columns_fault ds columns.now) (parts_of (column_places ds columns.now)) result }
+    ensures { let ds = scope.now.decls.now in Answers column_parts (columns_fault ds columns.now) (parts_of (column_places ds columns.now)) result }
 {
-    let mut header = Header {
+    let mut typed = Columns {
         constants: Vec::new(alloc),
         spot: None,
         column: None,
     };
     for (place, name) in columns.iter().enumerate() {
-        header.add(scope, place, name)?;
+        typed.add(scope, place, name)?;
     }
-    if header.constants.is_empty() {
+    if typed.constants.is_empty() {
         return Err(TypeFault::NoConstantColumn);
     }
-    Ok(header)
+    Ok(typed)
 }
 
-impl Header {
+impl Columns {
     // One more column.
     fn add(&mut self, scope: &Scope<'_>, spot: usize, name: &Name) -> Result<(), TypeFault>
         requires { length scope.now.decls.now ≤ 8 }
         ensures passes { let ds = scope.now.decls.now in Passes (column_after ds self.old.constants.items (is_some self.old.spot) name.now.text (variable_named ds name.now)) result }
-        ensures added { OnOk result (header_parts self.new ≡ with_column spot (place_named scope.now.decls.now name.now) (header_parts self.old)) }
+        ensures added { OnOk result (column_parts self.new ≡ with_column spot (place_named scope.now.decls.now name.now) (column_parts self.old)) }
     {
         match scope.variable(name) {
             None => add_constant(&mut self.constants, &name.text),
@@ -95,7 +117,7 @@ impl Header {
 
     fn add_variable(&mut self, spot: usize, variable: u32, name: &Text) -> Result<(), TypeFault>
         ensures passes { Passes (where_true (is_some self.old.spot) (TwoVariableColumns name.now)) result }
-        ensures added { OnOk result (header_parts self.new ≡ with_column spot (place.Var variable) (header_parts self.old)) }
+        ensures added { OnOk result (column_parts self.new ≡ with_column spot (place.Var variable) (column_parts self.old)) }
     {
         if self.spot.is_some() {
             return Err(TypeFault::TwoVariableColumns {
@@ -120,8 +142,7 @@ fn add_constant(constants: &mut Vec<Text>, name: &Text) -> Result<(), TypeFault>
     Ok(())
 }
 
-/// As many terms as columns.
-pub(crate) fn check_count(view: &ViewText) -> Result<(), TypeFault>
+fn check_count(view: &ViewText) -> Result<(), TypeFault>
     ensures { Passes (count_fault (tree_of view.now)) result }
 {
     let columns = view.columns.len();

@@ -11,13 +11,7 @@ mod folds;
 mod header;
 mod scope;
 mod terms;
-
-ghost use Rattle.std.specs.Prelude.{◌≡◌};
-ghost use Rattle.var_typing.specs.Typed.{typed};
-ghost use Rattle.view_def.specs.Tree.{tree_of};
+mod view;
 
 pub use fault::TypeFault;
-
-pub fn cites(view: &view_def::ViewText)
-   ensures { typed (tree_of view.now) ≡ typed (tree_of view.now) }
-{}
+pub use view::type_view;

@@ -1,0 +1,93 @@
+//! A whole view.
+ghost use Rattle.std.specs.Prelude.{◌≡◌, ◌≢◌, ◌++◌, ◌<◌, length, slice_get, option_and_then, vec_len, Ok, Err, IfOk, IfErr};
+ghost use Rattle.std.specs.Option.{ForSome};
+ghost use Rattle.view_def.specs.Query.{query_of};
+ghost use Rattle.view_def.specs.Tree.{tree_of};
+ghost use Rattle.var_typing.specs.declared.fault.TypeFault.TheVariants.{NoMemory};
+ghost use Rattle.var_typing.specs.Header.{header_parts};
+ghost use Rattle.var_typing.specs.Refusals.{Answers};
+ghost use Rattle.var_typing.specs.Terms.{terms_fault, terms_in_filter};
+ghost use Rattle.var_typing.specs.Typed.{without, body_of, body_parts, query_with, typed};
+
+use crate::TypeFault;
+use crate::conditions::type_filter;
+use crate::declarations::type_declarations;
+use crate::folds::Fold;
+use crate::header::{Header, type_header};
+use crate::scope::Scope;
+use crate::terms::type_terms;
+use ss_text::Row;
+use std::alloc::Global;
+use view_def::{Cond, Range, Term, View, ViewText};
+
+// The terms of SELECT, and the condition.
+#[derive(Drop)]
+struct Body {
+    terms: Vec<Term>,
+    filter: Option<Cond>,
+}
+
+/// The typed view, or the first refusal on the walk over declarations, header, numbers and terms.
+pub fn type_view(alloc: Global, view: &ViewText) -> Result<View, TypeFault>
+    ensures view { IfOk result (λ v. typed (tree_of view.now) ≡ Ok (query_of v)) }
+    ensures refused { IfErr result (λ f. f ≢ NoMemory → typed (tree_of view.now) ≡ Err f) }
+{
+    let decls = view.decls.as_slice();
+    let mut folds = Vec::new(alloc);
+    let ranges = type_declarations(alloc, decls, &mut folds)?;
+    let scope = Scope {
+        decls,
+        sight: decls.len(),
+    };
+    let header = type_header(alloc, &scope, view)?;
+    let body = type_body(alloc, &scope, &mut folds, view)?;
+    Ok(view_of(header, ranges, body))
+}
+
+fn type_body(alloc: Global, scope: &Scope<'_>, folds: &mut Vec<Fold>, view: &ViewText) -> Result<Body, TypeFault>
+    requires whole { scope.now.decls.now ≡ view.now.decls.items }
+    requires all { scope.now.sight ≡ length scope.now.decls.now }
+    ensures { let t = tree_of view.now in Answers body_parts (terms_fault t.decls folds.old.items (t.select ++ terms_in_filter t.condition)) (body_of t) result }
+{
+    let terms = type_terms(alloc, scope, folds, &view.select)?;
+    let filter = type_filter(alloc, scope, folds, &view.filter)?;
+    Ok(Body { terms, filter })
+}
+
+fn view_of(header: Header, decls: Vec<Range>, body: Body) -> View
+    requires { ForSome header.columns.spot (λ k. k < vec_len body.terms) }
+    ensures { query_of result ≡ query_with (header_parts header) decls.items (body_parts body) }
+{
+    let Header {
+        view_db,
+        label,
+        columns,
+    } = header;
+    let (keys, value) = split_terms(body.terms, columns.spot);
+    View {
+        view_db,
+        label,
+        constants: Row::of(columns.constants),
+        keys,
+        spot: columns.spot,
+        column: columns.column,
+        value,
+        decls,
+        filter: body.filter,
+    }
+}
+
+// The keys, and the value of the variable column.
+fn split_terms(mut terms: Vec<Term>, spot: Option<usize>) -> (Vec<Term>, Option<Term>)
+    requires { ForSome spot (λ k. k < vec_len terms) }
+    ensures keys { result.0.items ≡ without spot terms.items }
+    ensures value { result.1 ≡ option_and_then (slice_get terms.items) spot }
+{
+    match spot {
+        None => (terms, None),
+        Some(k) => {
+            let value = terms.remove(k);
+            (terms, Some(value))
+        }
+    }
+}
