@@ -1,8 +1,12 @@
 pub mod DeclarationLemmas
 pub mod FoldLemmas
 pub mod HeaderLemmas
+pub mod Members
 pub mod PositionLemmas
+pub mod ProfileDeclarations
+pub mod ProfileHeader
+pub mod ProfileScope
 pub mod TermLemmas
 pub mod TypedLemmas
-mod TypingExamples
 pub mod WalkLemmas
+mod TypingExamples

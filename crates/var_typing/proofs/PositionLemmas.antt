@@ -16,6 +16,14 @@ module _ {A : Type 0} (p : A → Bool) where
   pub is_some-position : (xs : List A) → is_some (position p xs) ≡ list_any p xs
   is_some-position xs = ap is_some (position_from-zero p xs) ∙ is_some_from 0 xs
 
+  pub is_some-find : (xs : List A) → is_some (find p xs) ≡ list_any p xs
+  is_some-find [] = refl
+  is_some-find (x ∷ xs) = by_first (p x) (is_some-find xs)
+    where
+      by_first : (b : Bool) → is_some (find p xs) ≡ list_any p xs → is_some (cond b (Some x) (find p xs)) ≡ (b || list_any p xs)
+      by_first true h = refl
+      by_first false h = h
+
   module _ (y : A) (fails : p y ≡ false) where
     from_failing : (i : ℕ) (xs : List A) → position_from p i (xs ++ y ∷ []) ≡ position_from p i xs
     from_failing i [] = ap (λ b. cond b (Some i) None) fails
