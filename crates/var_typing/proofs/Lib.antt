@@ -1,12 +1,14 @@
-pub mod DeclarationLemmas
-pub mod FoldLemmas
-pub mod HeaderLemmas
-pub mod Members
-pub mod PositionLemmas
-pub mod ProfileDeclarations
-pub mod ProfileHeader
-pub mod ProfileScope
-pub mod TermLemmas
-pub mod TypedLemmas
-pub mod WalkLemmas
+mod DeclarationLemmas
+mod FoldLemmas
+mod HeaderLemmas
+mod Members
+mod PositionLemmas
+mod ProfileDeclarations
+mod ProfileHeader
+mod ProfileScope
+mod ProfileTerms
+mod ProfileTheorem
+mod TermLemmas
+mod TypedLemmas
+mod WalkLemmas
 mod TypingExamples

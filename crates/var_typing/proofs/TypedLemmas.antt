@@ -78,7 +78,7 @@ module _ (t : Tree) (ds : List RawDecl) (e : ds ≡ t.decls) where
           ∙ ap (λ (x : Text × Place × Parts). query_with x ranges (body_parts b)) (sym hs))
 
 -- as many terms as columns
-counts : (t : Tree) → count_fault t ≡ None → length t.columns ≡ length t.select
+pub counts : (t : Tree) → count_fault t ≡ None → length t.columns ≡ length t.select
 counts t h = same_count (length t.columns) (length t.select) (not_true (not (nat_eq (length t.columns) (length t.select))) _ h)
   where
     same_count : (a b : ℕ) → not (nat_eq a b) ≡ false → a ≡ b

@@ -1,8 +1,10 @@
 //! A whole view.
 ghost use Rattle.std.specs.Prelude.{◌≡◌, ◌≢◌, ◌++◌, ◌<◌, length, slice_get, option_and_then, vec_len, Ok, Err, IfOk, IfErr};
 ghost use Rattle.std.specs.Option.{ForSome};
+ghost use Rattle.view_def.specs.Profile.{IsViewOfProfile};
 ghost use Rattle.view_def.specs.Query.{query_of};
 ghost use Rattle.view_def.specs.Tree.{tree_of};
+ghost use Rattle.view_def.specs.Written.{IsWritten};
 ghost use Rattle.var_typing.specs.declared.fault.TypeFault.TheVariants.{NoMemory};
 ghost use Rattle.var_typing.specs.Header.{header_parts};
 ghost use Rattle.var_typing.specs.Refusals.{Answers};
@@ -27,9 +29,14 @@ struct Body {
     filter: Option<Cond>,
 }
 
-/// The typed view, or the first refusal on the walk over declarations, header, numbers and terms.
+/// The typed view of a definition, or its first refusal: on the declarations from left to right, on the header, on the
+/// numbers of columns and terms, and on the terms of SELECT and of the condition from left to right.
+///
+/// A name that is not quoted and that some declaration declares is that variable. A quoted name is always a constant.
+/// A variable is named by the place of its declaration, from 0. What a parse gives is typed as a view of the profile.
 pub fn type_view(alloc: Global, view: &ViewText) -> Result<View, TypeFault>
     ensures view { IfOk result (λ v. typed (tree_of view.now) ≡ Ok (query_of v)) }
+    ensures profile { IfOk result (λ v. IsWritten (tree_of view.now) → IsViewOfProfile (query_of v)) }
     ensures refused { IfErr result (λ f. f ≢ NoMemory → typed (tree_of view.now) ≡ Err f) }
 {
     let decls = view.decls.as_slice();

@@ -1,8 +1,9 @@
 use Rattle.std.proofs.Common.{◌≡◌, ◌<◌, ◌∙◌, ap, sym, arith, length, vec_len}
 use Rattle.std.specs.Prelude.{Ok}
 use Rattle.std.proofs.lemmas.Result.{err_from_is_err_and}
-use Rattle.view_def.specs.Query.{Query}
+use Rattle.view_def.specs.Query.{Query, query_of}
 use Rattle.view_def.specs.Tree.{tree_of}
+use Rattle.var_typing.proofs.ProfileTheorem.{profile}
 use Rattle.var_typing.proofs.TypedLemmas.{declarations_refused, header_refused, body_refused, view_typed, spot_within}
 use Rattle.var_typing.proofs.view.type_view.Goals as goal
 
@@ -26,8 +27,14 @@ view_of-requires c = λ k is.
     let within : k < length c.in_ok-body.body.terms.items = spot_within (tree_of c.args.view.now) c.in_ok-header.header c.in_ok-body.body c.in_ok-header.ensures.0 c.in_ok-header.ensures.1 c.in_ok-body.ensures.1 k is in
     omega (arith, c.in_ok-body.body.terms.ok.0)
 
-pub returns-clause-view : goal.returns-clause-view
-returns-clause-view c =
+is_typed : goal.returns-clause-view
+is_typed c =
     view_typed (tree_of c.args.view.now) c.as_slice-decls.result.now c.as_slice-decls.ensures.value c.in_ok-ranges.ensures.answer.0 c.type_declarations.new.folds.items c.in_ok-ranges.ensures.taken c.in_ok-header.ensures.0
     c.in_ok-header.header c.in_ok-ranges.ranges.items c.in_ok-body.body c.in_ok-body.ensures.0 c.in_ok-header.ensures.1 c.in_ok-ranges.ensures.answer.1 c.in_ok-body.ensures.1
     ∙ ap (λ (q : Query). Ok q) (sym c.view_of.ensures)
+
+pub returns-clause-view : goal.returns-clause-view
+returns-clause-view c = is_typed c
+
+pub returns-clause-profile : goal.returns-clause-profile
+returns-clause-profile c = profile (tree_of c.args.view.now) (query_of c.view_of.result) (is_typed c)
