@@ -30,25 +30,25 @@ module _ (ds : List RawDecl) (columns : List Name) (i : ℕ) (n : Name) (h : Col
   varies : is_some h.spot ≡ list_any is_variable (column_places ds (take i columns))
   varies = ap (λ (p : Parts). is_some p.1) parts ∙ is_some-position is_variable (column_places ds (take i columns))
 
-  here : column_fault ds (take i columns) n ≡ column_after ds h.constants.items (is_some h.spot) n.text (variable_named ds n)
+  here : column_fault ds (take i columns) n ≡ column_after ds h.constants.keys (is_some h.spot) n.text (variable_named ds n)
   here =
       ap (λ b. column_after ds (constants_of (column_places ds (take i columns))) b n.text (variable_named ds n)) (sym varies)
       ∙ ap (λ (p : Parts). column_after ds p.0 (is_some h.spot) n.text (variable_named ds n)) (sym parts)
 
-  pub column_passed : column_after ds h.constants.items (is_some h.spot) n.text (variable_named ds n) ≡ None
+  pub column_passed : column_after ds h.constants.keys (is_some h.spot) n.text (variable_named ds n) ≡ None
       → in_turn (column_fault ds) (take (i + 1) columns) (drop (i + 1) columns) ≡ in_turn (column_fault ds) [] columns
   column_passed e = in_turn_passed (column_fault ds) columns i n lt at (in_turn (column_fault ds) [] columns) left (here ∙ e)
 
-  pub column_refused : (f : TypeFault) → (f ≢ fault.NoMemory → column_after ds h.constants.items (is_some h.spot) n.text (variable_named ds n) ≡ Some f)
+  pub column_refused : (f : TypeFault) → (f ≢ fault.NoMemory → column_after ds h.constants.keys (is_some h.spot) n.text (variable_named ds n) ≡ Some f)
       → f ≢ fault.NoMemory → columns_fault ds columns ≡ Some f
   column_refused f e m = at_some (in_turn (column_fault ds) [] columns) _ f (in_turn_refused (column_fault ds) columns i n lt at (in_turn (column_fault ds) [] columns) left f (here ∙ e m))
 
   -- a variable column passes where no variable stands before
-  none_before : (v : Option ℕ) → column_after ds h.constants.items (is_some h.spot) n.text v ≡ None → is_variable (variable_or n.text v) ≡ true → is_some h.spot ≡ false
+  none_before : (v : Option ℕ) → column_after ds h.constants.keys (is_some h.spot) n.text v ≡ None → is_variable (variable_or n.text v) ≡ true → is_some h.spot ≡ false
   none_before None e is = absurd (cc)
   none_before (Some k) e is = not_true (is_some h.spot) _ (none_right (where_true (is_tuple ds k) (fault.WrongKind n.text)) _ e)
 
-  pub column_added : (after : Columns) → column_after ds h.constants.items (is_some h.spot) n.text (variable_named ds n) ≡ None
+  pub column_added : (after : Columns) → column_after ds h.constants.keys (is_some h.spot) n.text (variable_named ds n) ≡ None
       → column_parts after ≡ with_column i (place_named ds n) (column_parts h) → column_parts after ≡ parts_of (column_places ds (take (i + 1) columns))
   column_added after e added =
       added ∙ ap (with_column i (place_named ds n)) parts

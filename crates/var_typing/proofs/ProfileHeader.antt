@@ -3,6 +3,7 @@ use Rattle.std.proofs.Common.{◌≡◌, ◌<◌, ◌≤◌, ◌+◌, ◌∷◌,
 use Rattle.std.specs.Prelude.{bytes_eq, position, option_and_then, slice_get, remove, ◌&&◌, ◌||◌}
 use Rattle.std.specs.List.{list_all, list_any, find, IsDistinct, AllByRecursion}
 use Rattle.std.specs.Option.{ForSome}
+use Rattle.std.specs.Cmp.Lexicographic.{nat_list_eq_equiv}
 use Rattle.std.proofs.lemmas.List.{length-map}
 use Rattle.std.proofs.lemmas.List.Edits.{length-remove}
 use Rattle.std.proofs.lemmas.List.Elements.{filter_map-append}
@@ -10,7 +11,7 @@ use Rattle.std.proofs.lemmas.List.Folds.{list_any-append}
 use Rattle.std.proofs.lemmas.List.Quantifiers.{position-Some}
 use Rattle.std.proofs.lemmas.Map.Keys.{IsDistinct-cons, IsDistinct-head, IsDistinct-tail}
 use Rattle.std.proofs.lemmas.Option.{slice_get-get_or}
-use Rattle.ss_text.specs.Texts.{Text, Row, text_eq}
+use Rattle.ss_text.specs.Texts.{Text, Row, text_eq, is_in}
 use Rattle.ss_text.specs.Label.{is_table_label}
 use Rattle.ss_text.proofs.PlaceLemmas.{map_last, each_last}
 use Rattle.view_def.specs.Profile.{is_label_over, is_column_over, has_text}
@@ -46,10 +47,10 @@ module _ (ds : List RawDecl) where
   label_over n h = label_of n.text (variable_named ds n) (variable_within ds n) h
 
 -- one more text that is not there yet
-distinct_last : (xs : Row) (t : Text) → IsDistinct bytes_eq xs → list_any (λ c. text_eq c t) xs ≡ false → IsDistinct bytes_eq (xs ++ t ∷ [])
+distinct_last : (xs : Row) (t : Text) → IsDistinct bytes_eq xs → is_in t xs ≡ false → IsDistinct bytes_eq (xs ++ t ∷ [])
 distinct_last [] t d h = IsDistinct-cons bytes_eq t [] tt d
 distinct_last (x ∷ xs) t d h =
-    IsDistinct-cons bytes_eq x (xs ++ t ∷ []) (each_last (λ y. bytes_eq x y ≡ false) xs t (IsDistinct-head bytes_eq x xs d) (or_left (text_eq x t) _ h)) (distinct_last xs t (IsDistinct-tail bytes_eq x xs d) (or_right (text_eq x t) _ h))
+    IsDistinct-cons bytes_eq x (xs ++ t ∷ []) (each_last (λ y. bytes_eq x y ≡ false) xs t (IsDistinct-head bytes_eq x xs d) (nat_list_eq_equiv.symm x t ∙ or_left (text_eq t x) _ h)) (distinct_last xs t (IsDistinct-tail bytes_eq x xs d) (or_right (text_eq t x) _ h))
   where
     or_left : (a b : Bool) → (a || b) ≡ false → a ≡ false
     or_left true b h = absurd (cc)

@@ -1,7 +1,7 @@
 -- The header of a view.
 use Rattle.std.specs.Prelude.{ℕ, Bool, true, false, not, List, [], ◌∷◌, ◌++◌, length, map, Option, Some, None, nat_eq, position}
 use Rattle.std.specs.List.{list_any, filter_map, find}
-use Rattle.ss_text.specs.Texts.{Text, Row, text_eq}
+use Rattle.ss_text.specs.Texts.{Text, Row, is_in}
 use Rattle.ss_text.specs.Label.{is_table_label}
 use Rattle.view_def.specs.declared.written.Name.{Name}
 use Rattle.view_def.specs.declared.written.RawDecl.{RawDecl}
@@ -48,7 +48,7 @@ constants_of columns = filter_map constant_text columns
 -- a column x, where these constants stand before and perhaps a variable: at most one column is a variable, which is no
 -- tuple variable, and no constant stands twice
 abbrev pub column_after : List RawDecl → Row → Bool → Text → Option ℕ → Option TypeFault
-column_after ds constants varies x None = where_true (list_any (λ c. text_eq c x) constants) (ColumnTwice x)
+column_after ds constants varies x None = where_true (is_in x constants) (ColumnTwice x)
 column_after ds constants varies x (Some k) = where_true (is_tuple ds k) (WrongKind x) or_else where_true varies (TwoVariableColumns x)
 
 abbrev pub column_fault : List RawDecl → List Name → Name → Option TypeFault
@@ -83,7 +83,7 @@ abbrev pub parts_of : List Place → Parts
 parts_of places = (constants_of places, position is_variable places, find is_variable places)
 
 abbrev pub column_parts : Columns → Parts
-column_parts h = (h.constants.items, h.spot, h.column)
+column_parts h = (h.constants.keys, h.spot, h.column)
 
 -- with one more column at this place
 abbrev pub with_column : ℕ → Place → Parts → Parts

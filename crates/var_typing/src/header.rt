@@ -1,7 +1,6 @@
 //! The header of a view: its database, its table label and its columns.
 ghost use Rattle.std.specs.Prelude.{◌≡◌, ◌≤◌, ◌++◌, ◌∷◌, [], length, is_some, Some, None, OnOk};
-ghost use Rattle.std.specs.List.{list_any};
-ghost use Rattle.ss_text.specs.Texts.{text_eq};
+ghost use Rattle.ss_text.specs.Texts.{is_in};
 ghost use Rattle.view_def.specs.Tree.{tree_of};
 ghost use Rattle.var_typing.specs.Header.{name_label_fault, database_fault, label_fault, columns_fault, column_places, column_after, count_fault, header_fault, header_of, header_parts, column_parts, parts_of, with_column};
 ghost use Rattle.view_def.specs.declared.typed.Place.TheVariants as place;
@@ -11,6 +10,7 @@ ghost use Rattle.var_typing.specs.Scope.{variable_named, place_named};
 
 use crate::TypeFault;
 use crate::scope::Scope;
+use indexmap::IndexSet;
 use ss_text::{Text, table_label_legal};
 use std::alloc::Global;
 use view_def::{Name, Place, ViewText};
@@ -18,7 +18,7 @@ use view_def::{Name, Place, ViewText};
 /// What the columns stand for: the constants in order, and the place among the columns of the one variable.
 #[derive(Drop)]
 pub(crate) struct Columns {
-    pub constants: Vec<Text>,
+    pub constants: IndexSet<Text>,
     pub spot: Option<usize>,
     pub column: Option<Place>,
 }
@@ -86,7 +86,7 @@ fn type_columns(alloc: Global, scope: &Scope<'_>, columns: &[Name]) -> Result<Co
     ensures { let ds = scope.now.decls.now in Answers column_parts (columns_fault ds columns.now) (parts_of (column_places ds columns.now)) result }
 {
     let mut typed = Columns {
-        constants: Vec::new(alloc),
+        constants: IndexSet::new(alloc),
         spot: None,
         column: None,
     };
@@ -103,7 +103,7 @@ impl Columns {
     // One more column.
     fn add(&mut self, scope: &Scope<'_>, spot: usize, name: &Name) -> Result<(), TypeFault>
         requires { length scope.now.decls.now ≤ 8 }
-        ensures passes { let ds = scope.now.decls.now in Passes (column_after ds self.old.constants.items (is_some self.old.spot) name.now.text (variable_named ds name.now)) result }
+        ensures passes { let ds = scope.now.decls.now in Passes (column_after ds self.old.constants.keys (is_some self.old.spot) name.now.text (variable_named ds name.now)) result }
         ensures added { OnOk result (column_parts self.new ≡ with_column spot (place_named scope.now.decls.now name.now) (column_parts self.old)) }
     {
         match scope.variable(name) {
@@ -130,15 +130,15 @@ impl Columns {
     }
 }
 
-fn add_constant(constants: &mut Vec<Text>, name: &Text) -> Result<(), TypeFault>
-    ensures passes { Passes (where_true (list_any (λ c. text_eq c name.now) constants.old.items) (ColumnTwice name.now)) result }
-    ensures added { OnOk result (constants.new.items ≡ constants.old.items ++ name.now ∷ []) }
+fn add_constant(constants: &mut IndexSet<Text>, name: &Text) -> Result<(), TypeFault>
+    ensures passes { Passes (where_true (is_in name.now constants.old.keys) (ColumnTwice name.now)) result }
+    ensures added { OnOk result (constants.new.keys ≡ constants.old.keys ++ name.now ∷ []) }
 {
     let name = name.copy()?;
     if constants.contains(&name) {
         return Err(TypeFault::ColumnTwice { name });
     }
-    constants.push(name)?;
+    constants.insert(name)?;
     Ok(())
 }
 

@@ -5,7 +5,7 @@ ghost use Rattle.view_def.specs.Profile.{IsViewOfProfile};
 ghost use Rattle.view_def.specs.Query.{query_of};
 ghost use Rattle.view_def.specs.Tree.{tree_of};
 ghost use Rattle.view_def.specs.Written.{IsWritten};
-ghost use Rattle.var_typing.specs.declared.fault.TypeFault.TheVariants.{NoMemory};
+ghost use Rattle.var_typing.specs.declared.fault.TypeFault.TheVariants as fault;
 ghost use Rattle.var_typing.specs.Header.{header_parts};
 ghost use Rattle.var_typing.specs.Refusals.{Answers};
 ghost use Rattle.var_typing.specs.Terms.{terms_fault, terms_in_filter};
@@ -18,7 +18,8 @@ use crate::folds::Fold;
 use crate::header::{Header, type_header};
 use crate::scope::Scope;
 use crate::terms::type_terms;
-use ss_text::Row;
+use indexmap::IndexSet;
+use ss_text::{NoMemory, Row, Text};
 use std::alloc::Global;
 use view_def::{Cond, Range, Term, View, ViewText};
 
@@ -37,7 +38,7 @@ struct Body {
 pub fn type_view(alloc: Global, view: &ViewText) -> Result<View, TypeFault>
     ensures view { IfOk result (λ v. typed (tree_of view.now) ≡ Ok (query_of v)) }
     ensures profile { IfOk result (λ v. IsWritten (tree_of view.now) → IsViewOfProfile (query_of v)) }
-    ensures refused { IfErr result (λ f. f ≢ NoMemory → typed (tree_of view.now) ≡ Err f) }
+    ensures refused { IfErr result (λ f. f ≢ fault.NoMemory → typed (tree_of view.now) ≡ Err f) }
 {
     let decls = view.decls.as_slice();
     let mut folds = Vec::new(alloc);
@@ -48,7 +49,7 @@ pub fn type_view(alloc: Global, view: &ViewText) -> Result<View, TypeFault>
     };
     let header = type_header(alloc, &scope, view)?;
     let body = type_body(alloc, &scope, &mut folds, view)?;
-    Ok(view_of(header, ranges, body))
+    Ok(view_of(alloc, header, ranges, body)?)
 }
 
 fn type_body(alloc: Global, scope: &Scope<'_>, folds: &mut Vec<Fold>, view: &ViewText) -> Result<Body, TypeFault>
@@ -61,27 +62,35 @@ fn type_body(alloc: Global, scope: &Scope<'_>, folds: &mut Vec<Fold>, view: &Vie
     Ok(Body { terms, filter })
 }
 
-fn view_of(header: Header, decls: Vec<Range>, body: Body) -> View
+fn view_of(alloc: Global, header: Header, decls: Vec<Range>, body: Body) -> Result<View, NoMemory>
     requires { ForSome header.columns.spot (λ k. k < vec_len body.terms) }
-    ensures { query_of result ≡ query_with (header_parts header) decls.items (body_parts body) }
+    ensures { IfOk result (λ v. query_of v ≡ query_with (header_parts header) decls.items (body_parts body)) }
 {
     let Header {
         view_db,
         label,
         columns,
     } = header;
+    let constants = row_of(alloc, columns.constants)?;
     let (keys, value) = split_terms(body.terms, columns.spot);
-    View {
+    Ok(View {
         view_db,
         label,
-        constants: Row::of(columns.constants),
+        constants,
         keys,
         spot: columns.spot,
         column: columns.column,
         value,
         decls,
         filter: body.filter,
-    }
+    })
+}
+
+fn row_of(alloc: Global, constants: IndexSet<Text>) -> Result<Row, NoMemory>
+    ensures { IfOk result (λ row. row ≡ constants.keys) }
+{
+    let texts: Vec<Text> = constants.into_iter().collect(alloc)?;
+    Ok(Row::of(texts))
 }
 
 // The keys, and the value of the variable column.

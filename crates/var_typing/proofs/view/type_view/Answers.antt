@@ -31,10 +31,10 @@ is_typed : goal.returns-clause-view
 is_typed c =
     view_typed (tree_of c.args.view.now) c.as_slice-decls.result.now c.as_slice-decls.ensures.value c.in_ok-ranges.ensures.answer.0 c.type_declarations.new.folds.items c.in_ok-ranges.ensures.taken c.in_ok-header.ensures.0
     c.in_ok-header.header c.in_ok-ranges.ranges.items c.in_ok-body.body c.in_ok-body.ensures.0 c.in_ok-header.ensures.1 c.in_ok-ranges.ensures.answer.1 c.in_ok-body.ensures.1
-    ∙ ap (λ (q : Query). Ok q) (sym c.view_of.ensures)
+    ∙ ap (λ (q : Query). Ok q) (sym c.in_ok-view_of.ensures)
 
 pub returns-clause-view : goal.returns-clause-view
 returns-clause-view c = is_typed c
 
 pub returns-clause-profile : goal.returns-clause-profile
-returns-clause-profile c = profile (tree_of c.args.view.now) (query_of c.view_of.result) (is_typed c)
+returns-clause-profile c = profile (tree_of c.args.view.now) (query_of c.in_ok-view_of.field-0) (is_typed c)
