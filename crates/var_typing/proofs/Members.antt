@@ -56,6 +56,7 @@ module _ {A : Type 0} where
       parts : Among x (take k xs) ⊎ Among x (drop (suc k) xs) → Among x xs
       parts (inl i) = among_take x k xs i
       parts (inr j) = among_drop x (suc k) xs j
+
       from : Among x (remove xs k) ⊎ Among x (option_to_list (slice_get xs k)) → Among x xs
       from (inl i) = parts (among_append x (take k xs) (drop (suc k) xs) i)
       from (inr j) = among_get x k xs j

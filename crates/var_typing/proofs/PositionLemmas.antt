@@ -44,6 +44,7 @@ module _ {A : Type 0} (p : A → Bool) where
       where
         moved : (i + 1) + length xs ≡ i + suc (length xs)
         moved = omega arith
+
         by_first : (b : Bool) → (b || list_any p xs) ≡ false → (list_any p xs ≡ false → position_from p (i + 1) (xs ++ y ∷ []) ≡ Some ((i + 1) + length xs))
             → cond b (Some i) (position_from p (i + 1) (xs ++ y ∷ [])) ≡ Some (i + suc (length xs))
         by_first true r later = absurd (cc)

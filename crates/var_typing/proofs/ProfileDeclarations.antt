@@ -49,6 +49,7 @@ module _ (ds : List RawDecl) where
     where
       count : count_by ranges_over_rows (before ++ d ∷ []) ≡ count_by ranges_over_rows before + (0 + cond (ranges_over_rows d) 1 0)
       count = sum_by-append (λ (e : RawDecl). cond (ranges_over_rows e) 1 0) before (d ∷ [])
+
       by_kind : (b : Bool) → ranges_over_rows d ≡ b → count_by ranges_over_rows (before ++ d ∷ []) ≤ 4
       by_kind true e =
           let lt = rows_tests (length before) (count_by ranges_over_rows before) (ranges_over_rows d) (numbers before d h) e in

@@ -55,6 +55,7 @@ distinct_last (x ∷ xs) t d h =
     or_left : (a b : Bool) → (a || b) ≡ false → a ≡ false
     or_left true b h = absurd (cc)
     or_left false b h = refl
+
     or_right : (a b : Bool) → (a || b) ≡ false → b ≡ false
     or_right true b h = absurd (cc)
     or_right false b h = h
@@ -108,11 +109,11 @@ module _ (ds : List RawDecl) where
       record {
         distinct = subst (λ (l : Row). IsDistinct bytes_eq l) (sym constants) (distinct_last (constants_of places) x c.distinct (not_true _ (ColumnTwice x) h));
         count =
-          let n = ap length constants ∙ length-append (constants_of places) (x ∷ []) in
-          let m = length-append places (place.Fixed x ∷ []) in
-          let b = ap one_if varies in
-          let old = c.count in
-          omega arith;
+            let n = ap length constants ∙ length-append (constants_of places) (x ∷ []) in
+            let m = length-append places (place.Fixed x ∷ []) in
+            let b = ap one_if varies in
+            let old = c.count in
+            omega arith;
         texts = list_all_last (has_text (ranges_of ds ds)) places (place.Fixed x) c.texts refl;
       }
   one_more places x (Some k) within h c =
@@ -123,12 +124,12 @@ module _ (ds : List RawDecl) where
       record {
         distinct = subst (λ (l : Row). IsDistinct bytes_eq l) (sym constants) c.distinct;
         count =
-          let n = ap length constants in
-          let m = length-append places (place.Var k ∷ []) in
-          let b = ap one_if varies in
-          let a = ap one_if none_before in
-          let old = c.count in
-          omega arith;
+            let n = ap length constants in
+            let m = length-append places (place.Var k ∷ []) in
+            let b = ap one_if varies in
+            let a = ap one_if none_before in
+            let old = c.count in
+            omega arith;
         texts = list_all_last (has_text (ranges_of ds ds)) places (place.Var k) c.texts (text_variable ds k (within k refl) kind);
       }
 

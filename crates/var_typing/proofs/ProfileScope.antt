@@ -64,7 +64,7 @@ module _ (ds before rest : List RawDecl) (whole : ds ≡ before ++ rest) where
     text_here h =
         let (d, here, there) = at_front before rest k lt in
         let kind : lists_tuples d.range ≡ false =
-            ap (λ (o : Option RawDecl). option_map_or (λ (e : RawDecl). lists_tuples e.range) o false) (sym there ∙ ap (λ (l : List RawDecl). slice_get l k) (sym whole)) ∙ h in
+        ap (λ (o : Option RawDecl). option_map_or (λ (e : RawDecl). lists_tuples e.range) o false) (sym there ∙ ap (λ (l : List RawDecl). slice_get l k) (sym whole)) ∙ h in
         ap (λ (o : Option Range). option_map_or (λ r. not (profile.lists_tuples r)) o false) (slice_get-map (λ (e : RawDecl). typed_range ds e.range) before k ∙ ap (option_map (λ (e : RawDecl). typed_range ds e.range)) here)
         ∙ ap not (same_kind ds d.range ∙ kind)
 

@@ -42,6 +42,7 @@ among_terms t x h = subst (λ (l : List Term). Among x l) (sym (map-append (type
   where
     q : Query
     q = query_from t
+
     cases : Among x (q.keys ++ option_to_list q.value) ⊎ Among x (terms_of_filter q.condition) → Among x (map (typed_term t.decls) t.select ++ map (typed_term t.decls) (terms_in_filter t.condition))
     cases (inl i) = among_left x (map (typed_term t.decls) t.select) _ (among_split x (position is_variable (column_places t.decls t.columns)) (map (typed_term t.decls) t.select) i)
     cases (inr j) = among_right x (map (typed_term t.decls) t.select) _ (subst (λ (l : List Term). Among x l) (filter_terms t.decls t.condition) j)
@@ -78,7 +79,7 @@ of_profile t h w =
       terms = among_all (is_term_over (ranges_of ds ds)) (terms_of_view (query_from t)) (λ x i. terms_over ds (alias_folds ds ds) (t.select ++ terms_in_filter t.condition) body x (among_terms t x i));
       condition = filter_joined ds t.condition ∙ w.condition;
       one_fold = λ k u v i j.
-        one_variable ds declared (t.select ++ terms_in_filter t.condition) body (terms_of_view (query_from t)) (among_terms t) k u v (among_contains (k, u) _ i) (among_contains (k, v) _ j);
+          one_variable ds declared (t.select ++ terms_in_filter t.condition) body (terms_of_view (query_from t)) (among_terms t) k u v (among_contains (k, u) _ i) (among_contains (k, v) _ j);
     }
 
 -- a written view that is typed is a view of the profile

@@ -14,7 +14,12 @@ use std::alloc::Global;
 use view_def::{Cond, Op, RawCond, RawTerm};
 
 /// The condition of a view, where it has one.
-pub(crate) fn type_filter(alloc: Global, scope: &Scope<'_>, folds: &mut Vec<Fold>, filter: &Option<RawCond>) -> Result<Option<Cond>, TypeFault>
+pub(crate) fn type_filter(
+    alloc: Global,
+    scope: &Scope<'_>,
+    folds: &mut Vec<Fold>,
+    filter: &Option<RawCond>,
+) -> Result<Option<Cond>, TypeFault>
     requires { scope.now.sight ≡ length scope.now.decls.now }
     ensures { let ds = scope.now.decls.now in let c = option_map raw_of filter.now in Answers (option_map condition_of) (terms_fault ds folds.old.items (terms_in_filter c)) (option_map (typed_condition ds) c) result }
 {
@@ -25,7 +30,12 @@ pub(crate) fn type_filter(alloc: Global, scope: &Scope<'_>, folds: &mut Vec<Fold
 }
 
 #[cycle(condition)]
-fn type_condition(alloc: Global, scope: &Scope<'_>, folds: &mut Vec<Fold>, condition: &RawCond) -> Result<Cond, TypeFault>
+fn type_condition(
+    alloc: Global,
+    scope: &Scope<'_>,
+    folds: &mut Vec<Fold>,
+    condition: &RawCond,
+) -> Result<Cond, TypeFault>
     requires { scope.now.sight ≡ length scope.now.decls.now }
     ensures answer { let ds = scope.now.decls.now in let c = raw_of condition.now in Answers condition_of (terms_fault ds folds.old.items (terms_in c)) (typed_condition ds c) result }
     ensures taken { OnOk result (SameOthers (folds.old.items ++ flat_map (term_folds scope.now.decls.now) (terms_in (raw_of condition.now))) folds.new.items) }
@@ -42,7 +52,12 @@ fn type_condition(alloc: Global, scope: &Scope<'_>, folds: &mut Vec<Fold>, condi
 }
 
 #[cycle(condition)]
-fn type_members(alloc: Global, scope: &Scope<'_>, folds: &mut Vec<Fold>, members: &[RawCond]) -> Result<Vec<Cond>, TypeFault>
+fn type_members(
+    alloc: Global,
+    scope: &Scope<'_>,
+    folds: &mut Vec<Fold>,
+    members: &[RawCond],
+) -> Result<Vec<Cond>, TypeFault>
     requires { scope.now.sight ≡ length scope.now.decls.now }
     ensures answer { let ds = scope.now.decls.now in let cs = raws (map raw_of members.now) in Answers (λ v. conditions_of (map condition_of v.items)) (terms_fault ds folds.old.items (terms_in_each cs)) (typed_conditions ds cs) result }
     ensures taken { OnOk result (SameOthers (folds.old.items ++ flat_map (term_folds scope.now.decls.now) (terms_in_each (raws (map raw_of members.now)))) folds.new.items) }
@@ -67,7 +82,13 @@ fn all_of(members: Vec<Cond>) -> Cond
     Cond::All(members)
 }
 
-fn type_comparison(scope: &Scope<'_>, folds: &mut Vec<Fold>, left: &RawTerm, op: Op, right: &RawTerm) -> Result<Cond, TypeFault>
+fn type_comparison(
+    scope: &Scope<'_>,
+    folds: &mut Vec<Fold>,
+    left: &RawTerm,
+    op: Op,
+    right: &RawTerm,
+) -> Result<Cond, TypeFault>
     requires { scope.now.sight ≡ length scope.now.decls.now }
     ensures answer { let ds = scope.now.decls.now in Answers condition_of (terms_fault ds folds.old.items (left.now ∷ right.now ∷ [])) (Compares (typed_term ds left.now) op (typed_term ds right.now)) result }
     ensures taken { OnOk result (SameOthers (folds.old.items ++ flat_map (term_folds scope.now.decls.now) (left.now ∷ right.now ∷ [])) folds.new.items) }

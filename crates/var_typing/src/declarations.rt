@@ -16,7 +16,11 @@ const MOST: usize = 8;
 const MOST_OVER_ROWS: usize = 4;
 
 /// The ranges of all declarations, and the folds of the aliases among them.
-pub(crate) fn type_declarations(alloc: Global, decls: &[RawDecl], folds: &mut Vec<Fold>) -> Result<Vec<Range>, TypeFault>
+pub(crate) fn type_declarations(
+    alloc: Global,
+    decls: &[RawDecl],
+    folds: &mut Vec<Fold>,
+) -> Result<Vec<Range>, TypeFault>
     requires { folds.old.items ≡ [] }
     ensures answer { let ds = decls.now in Answers (λ v. v.items) (declarations_fault ds) (map (λ (d : RawDecl). typed_range ds d.range) ds) result }
     ensures few { OnOk result (length decls.now ≤ 8) }
@@ -31,7 +35,12 @@ pub(crate) fn type_declarations(alloc: Global, decls: &[RawDecl], folds: &mut Ve
 }
 
 // A declaration after these.
-fn type_declaration(decls: &[RawDecl], before: &[RawDecl], decl: &RawDecl, folds: &mut Vec<Fold>) -> Result<Range, TypeFault>
+fn type_declaration(
+    decls: &[RawDecl],
+    before: &[RawDecl],
+    decl: &RawDecl,
+    folds: &mut Vec<Fold>,
+) -> Result<Range, TypeFault>
     ensures answer { Answers (λ r. r) (declaration_after decls.now folds.old.items before.now decl.now) (typed_range decls.now decl.now.range) result }
     ensures few { OnOk result (length before.now < 8) }
     ensures taken { OnOk result (SameOthers (folds.old.items ++ range_folds decls.now decl.now.range) folds.new.items) }
@@ -49,14 +58,19 @@ fn type_declaration(decls: &[RawDecl], before: &[RawDecl], decl: &RawDecl, folds
 fn ranges_over_rows(decl: &RawDecl) -> bool
     ensures { result ≡ ranges_over_rows decl.now }
 {
-    matches!(decl.range, RawRange::Tuples(_, _) | RawRange::Values(_, _, _))
+    matches!(
+        decl.range,
+        RawRange::Tuples(_, _) | RawRange::Values(_, _, _)
+    )
 }
 
 fn check_number(before: &[RawDecl], decl: &RawDecl) -> Result<(), TypeFault>
     ensures passes { Passes (too_many before.now decl.now) result }
     ensures few { OnOk result (length before.now < 8) }
 {
-    if before.len() >= MOST || (ranges_over_rows(decl) && count_over_rows(before) >= MOST_OVER_ROWS) {
+    if before.len() >= MOST
+        || (ranges_over_rows(decl) && count_over_rows(before) >= MOST_OVER_ROWS)
+    {
         return Err(TypeFault::TooMany {
             var: decl.var.copy()?,
         });
@@ -87,7 +101,11 @@ fn check_new(before: &[RawDecl], decl: &RawDecl) -> Result<(), TypeFault>
     Ok(())
 }
 
-fn type_range(scope: &Scope<'_>, folds: &mut Vec<Fold>, range: &RawRange) -> Result<Range, TypeFault>
+fn type_range(
+    scope: &Scope<'_>,
+    folds: &mut Vec<Fold>,
+    range: &RawRange,
+) -> Result<Range, TypeFault>
     ensures answer { let ds = scope.now.decls.now in Answers (λ r. r) (range_fault ds scope.now.sight folds.old.items range.now) (typed_range ds range.now) result }
     ensures taken { OnOk result (SameOthers (folds.old.items ++ range_folds scope.now.decls.now range.now) folds.new.items) }
 {

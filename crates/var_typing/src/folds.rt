@@ -30,7 +30,12 @@ impl Fold {
 }
 
 /// Takes up the attribute place of the tuple variable `x`, which is declared at the place `tuple`.
-pub(crate) fn take_fold(folds: &mut Vec<Fold>, x: &Text, tuple: u32, attribute: &Place) -> Result<(), TypeFault>
+pub(crate) fn take_fold(
+    folds: &mut Vec<Fold>,
+    x: &Text,
+    tuple: u32,
+    attribute: &Place,
+) -> Result<(), TypeFault>
     ensures answer { Passes (two_folds folds.old.items x.now (fold_at tuple attribute.now)) result }
     ensures taken { OnOk result (SameOthers (folds.old.items ++ fold_at tuple attribute.now) folds.new.items) }
 {

@@ -32,7 +32,11 @@ pub(crate) struct Header {
 }
 
 /// The header of a view, which has as many terms as columns.
-pub(crate) fn type_header(alloc: Global, scope: &Scope<'_>, view: &ViewText) -> Result<Header, TypeFault>
+pub(crate) fn type_header(
+    alloc: Global,
+    scope: &Scope<'_>,
+    view: &ViewText,
+) -> Result<Header, TypeFault>
     requires whole { scope.now.decls.now ≡ view.now.decls.items }
     requires few { length view.now.decls.items ≤ 8 }
     ensures { let t = tree_of view.now in Answers header_parts (header_fault t or_else count_fault t) (header_of t) result }
@@ -120,9 +124,7 @@ impl Columns {
         ensures added { OnOk result (column_parts self.new ≡ with_column spot (place.Var variable) (column_parts self.old)) }
     {
         if self.spot.is_some() {
-            return Err(TypeFault::TwoVariableColumns {
-                var: name.copy()?,
-            });
+            return Err(TypeFault::TwoVariableColumns { var: name.copy()? });
         }
         self.spot = Some(spot);
         self.column = Some(Place::Var(variable));

@@ -107,7 +107,12 @@ impl Scope<'_> {
     }
 
     /// A tuple variable with an attribute, after these folds.
-    pub fn attribute(&self, folds: &mut Vec<Fold>, x: &Text, attribute: &Name) -> Result<(u32, Place), TypeFault>
+    pub fn attribute(
+        &self,
+        folds: &mut Vec<Fold>,
+        x: &Text,
+        attribute: &Name,
+    ) -> Result<(u32, Place), TypeFault>
         ensures answer { let ds = self.now.decls.now in Answers (λ p. p) (attribute_fault ds self.now.sight folds.old.items x.now attribute.now) (variable_at ds x.now, place_named ds attribute.now) result }
         ensures taken { OnOk result (SameOthers (folds.old.items ++ fold_of self.now.decls.now x.now attribute.now) folds.new.items) }
     {

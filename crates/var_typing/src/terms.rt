@@ -24,7 +24,11 @@ fn type_lone(scope: &Scope<'_>, x: &Text) -> Result<u32, TypeFault>
 }
 
 /// A term, where all declarations are in sight.
-pub(crate) fn type_term(scope: &Scope<'_>, folds: &mut Vec<Fold>, term: &RawTerm) -> Result<Term, TypeFault>
+pub(crate) fn type_term(
+    scope: &Scope<'_>,
+    folds: &mut Vec<Fold>,
+    term: &RawTerm,
+) -> Result<Term, TypeFault>
     requires { scope.now.sight ≡ length scope.now.decls.now }
     ensures answer { let ds = scope.now.decls.now in Answers (λ t. t) (term_fault ds folds.old.items term.now) (typed_term ds term.now) result }
     ensures taken { OnOk result (SameOthers (folds.old.items ++ term_folds scope.now.decls.now term.now) folds.new.items) }
@@ -40,7 +44,12 @@ pub(crate) fn type_term(scope: &Scope<'_>, folds: &mut Vec<Fold>, term: &RawTerm
 }
 
 /// Terms from the left, where all declarations are in sight.
-pub(crate) fn type_terms(alloc: Global, scope: &Scope<'_>, folds: &mut Vec<Fold>, terms: &[RawTerm]) -> Result<Vec<Term>, TypeFault>
+pub(crate) fn type_terms(
+    alloc: Global,
+    scope: &Scope<'_>,
+    folds: &mut Vec<Fold>,
+    terms: &[RawTerm],
+) -> Result<Vec<Term>, TypeFault>
     requires { scope.now.sight ≡ length scope.now.decls.now }
     ensures answer { let ds = scope.now.decls.now in Answers (λ v. v.items) (terms_fault ds folds.old.items terms.now) (map (typed_term ds) terms.now) result }
     ensures taken { OnOk result (SameOthers (folds.old.items ++ flat_map (term_folds scope.now.decls.now) terms.now) folds.new.items) }

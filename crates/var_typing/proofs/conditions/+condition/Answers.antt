@@ -47,8 +47,7 @@ type_members-returns-clause-answer t c =
     let i = c.loop-member.invariant in
     let ds = c.args.scope.now.decls.now in
     let ms = c.args.members.now in
-    let over : length ms ≤ c.loop-member.member-index = omega arith in
-    (
+    let over : length ms ≤ c.loop-member.member-index = omega arith in (
       sym i.passed ∙ ap (λ (cs : List RawCond). terms_fault ds c.loop-member.folds.items (terms_in_each (raws (map raw_of cs)))) (drop_all c.loop-member.member-index ms over),
       ap conditions_of (i.typed ∙ ap (map (λ (e : RawCond). typed_condition ds (raw_of e))) (take_all c.loop-member.member-index ms over)) ∙ typed_members ds ms,
     )

@@ -29,6 +29,6 @@ returns c =
     let ds = c.args.scope.now.decls.now in
     let more = then_more ds v.decls.items c.requires.whole c.args.folds.now.items c.type_terms.new.folds.items c.deref.result.now v.select.items (terms_in_filter (option_map raw_of v.filter)) c.deref.ensures.value c.in_ok-terms.ensures.answer.0 c.in_ok-terms.ensures.taken in
     let terms : c.in_ok-terms.terms.items ≡ map (typed_term v.decls.items) v.select.items =
-        c.in_ok-terms.ensures.answer.1 ∙ ap (map (typed_term ds)) c.deref.ensures.value ∙ ap (λ (d : List RawDecl). map (typed_term d) v.select.items) c.requires.whole in
+    c.in_ok-terms.ensures.answer.1 ∙ ap (map (typed_term ds)) c.deref.ensures.value ∙ ap (λ (d : List RawDecl). map (typed_term d) v.select.items) c.requires.whole in
     let filter = c.in_ok-filter.ensures.1 ∙ ap (λ (d : List RawDecl). option_map (typed_condition d) (option_map raw_of v.filter)) c.requires.whole in
     (more ∙ c.in_ok-filter.ensures.0, ap (λ (l : List Term). (l, option_map condition_of c.in_ok-filter.filter)) terms ∙ ap (λ (o : Option Condition). (map (typed_term v.decls.items) v.select.items, o)) filter)
