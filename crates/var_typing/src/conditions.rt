@@ -21,7 +21,9 @@ pub(crate) fn type_filter(
     filter: &Option<RawCond>,
 ) -> Result<Option<Cond>, TypeFault>
     requires { scope.now.sight ≡ length scope.now.decls.now }
-    ensures { let ds = scope.now.decls.now in let c = option_map raw_of filter.now in Answers (option_map condition_of) (terms_fault ds folds.old.items (terms_in_filter c)) (option_map (typed_condition ds) c) result }
+    ensures { let ds = scope.now.decls.now in let c = option_map raw_of filter.now in
+        Answers (option_map condition_of) (terms_fault ds folds.old.items (terms_in_filter c))
+        (option_map (typed_condition ds) c) result }
 {
     match filter {
         None => Ok(None),
@@ -37,8 +39,10 @@ fn type_condition(
     condition: &RawCond,
 ) -> Result<Cond, TypeFault>
     requires { scope.now.sight ≡ length scope.now.decls.now }
-    ensures answer { let ds = scope.now.decls.now in let c = raw_of condition.now in Answers condition_of (terms_fault ds folds.old.items (terms_in c)) (typed_condition ds c) result }
-    ensures taken { OnOk result (SameOthers (folds.old.items ++ flat_map (term_folds scope.now.decls.now) (terms_in (raw_of condition.now))) folds.new.items) }
+    ensures answer { let ds = scope.now.decls.now in let c = raw_of condition.now in
+        Answers condition_of (terms_fault ds folds.old.items (terms_in c)) (typed_condition ds c) result }
+    ensures taken { let more = flat_map (term_folds scope.now.decls.now) (terms_in (raw_of condition.now)) in
+        OnOk result (SameOthers (folds.old.items ++ more) folds.new.items) }
 {
     match condition {
         RawCond::Any(members) => Ok(any_of(type_members(alloc, scope, folds, members)?)),
@@ -59,8 +63,11 @@ fn type_members(
     members: &[RawCond],
 ) -> Result<Vec<Cond>, TypeFault>
     requires { scope.now.sight ≡ length scope.now.decls.now }
-    ensures answer { let ds = scope.now.decls.now in let cs = raws (map raw_of members.now) in Answers (λ v. conditions_of (map condition_of v.items)) (terms_fault ds folds.old.items (terms_in_each cs)) (typed_conditions ds cs) result }
-    ensures taken { OnOk result (SameOthers (folds.old.items ++ flat_map (term_folds scope.now.decls.now) (terms_in_each (raws (map raw_of members.now)))) folds.new.items) }
+    ensures answer { let ds = scope.now.decls.now in let cs = raws (map raw_of members.now) in
+        Answers (λ v. conditions_of (map condition_of v.items)) (terms_fault ds folds.old.items (terms_in_each cs))
+        (typed_conditions ds cs) result }
+    ensures taken { let terms = terms_in_each (raws (map raw_of members.now)) in
+        OnOk result (SameOthers (folds.old.items ++ flat_map (term_folds scope.now.decls.now) terms) folds.new.items) }
 {
     let mut typed = Vec::new(alloc);
     for member in members {
@@ -90,8 +97,11 @@ fn type_comparison(
     right: &RawTerm,
 ) -> Result<Cond, TypeFault>
     requires { scope.now.sight ≡ length scope.now.decls.now }
-    ensures answer { let ds = scope.now.decls.now in Answers condition_of (terms_fault ds folds.old.items (left.now ∷ right.now ∷ [])) (Compares (typed_term ds left.now) op (typed_term ds right.now)) result }
-    ensures taken { OnOk result (SameOthers (folds.old.items ++ flat_map (term_folds scope.now.decls.now) (left.now ∷ right.now ∷ [])) folds.new.items) }
+    ensures answer { let ds = scope.now.decls.now in
+        Answers condition_of (terms_fault ds folds.old.items (left.now ∷ right.now ∷ []))
+        (Compares (typed_term ds left.now) op (typed_term ds right.now)) result }
+    ensures taken { let more = flat_map (term_folds scope.now.decls.now) (left.now ∷ right.now ∷ []) in
+        OnOk result (SameOthers (folds.old.items ++ more) folds.new.items) }
 {
     let left = type_term(scope, folds, left)?;
     let right = type_term(scope, folds, right)?;

@@ -22,7 +22,8 @@ pub(crate) fn type_declarations(
     folds: &mut Vec<Fold>,
 ) -> Result<Vec<Range>, TypeFault>
     requires { folds.old.items ≡ [] }
-    ensures answer { let ds = decls.now in Answers (λ v. v.items) (declarations_fault ds) (map (λ (d : RawDecl). typed_range ds d.range) ds) result }
+    ensures answer { let ds = decls.now in
+        Answers (λ v. v.items) (declarations_fault ds) (map (λ (d : RawDecl). typed_range ds d.range) ds) result }
     ensures few { OnOk result (length decls.now ≤ 8) }
     ensures taken { OnOk result (SameOthers (alias_folds decls.now decls.now) folds.new.items) }
 {
@@ -41,9 +42,11 @@ fn type_declaration(
     decl: &RawDecl,
     folds: &mut Vec<Fold>,
 ) -> Result<Range, TypeFault>
-    ensures answer { Answers (λ r. r) (declaration_after decls.now folds.old.items before.now decl.now) (typed_range decls.now decl.now.range) result }
+    ensures answer { let ds = decls.now in
+        Answers (λ r. r) (declaration_after ds folds.old.items before.now decl.now) (typed_range ds decl.now.range) result }
     ensures few { OnOk result (length before.now < 8) }
-    ensures taken { OnOk result (SameOthers (folds.old.items ++ range_folds decls.now decl.now.range) folds.new.items) }
+    ensures taken { OnOk result
+        (SameOthers (folds.old.items ++ range_folds decls.now decl.now.range) folds.new.items) }
 {
     check_number(before, decl)?;
     let scope = Scope {
@@ -106,8 +109,10 @@ fn type_range(
     folds: &mut Vec<Fold>,
     range: &RawRange,
 ) -> Result<Range, TypeFault>
-    ensures answer { let ds = scope.now.decls.now in Answers (λ r. r) (range_fault ds scope.now.sight folds.old.items range.now) (typed_range ds range.now) result }
-    ensures taken { OnOk result (SameOthers (folds.old.items ++ range_folds scope.now.decls.now range.now) folds.new.items) }
+    ensures answer { let ds = scope.now.decls.now in
+        Answers (λ r. r) (range_fault ds scope.now.sight folds.old.items range.now) (typed_range ds range.now) result }
+    ensures taken { OnOk result
+        (SameOthers (folds.old.items ++ range_folds scope.now.decls.now range.now) folds.new.items) }
 {
     match range {
         RawRange::Databases => Ok(Range::Databases),
@@ -125,8 +130,8 @@ fn type_range(
             let relation = scope.place(relation)?;
             Ok(Range::Values(db, relation, scope.place(attribute)?))
         }
-        RawRange::Alias(x, attribute) => {
-            let (tuple, place) = scope.attribute(folds, x, attribute)?;
+        RawRange::Alias(identifier, attribute) => {
+            let (tuple, place) = scope.attribute(folds, identifier, attribute)?;
             Ok(Range::Alias(tuple, place))
         }
     }

@@ -39,7 +39,8 @@ pub(crate) fn type_header(
 ) -> Result<Header, TypeFault>
     requires whole { scope.now.decls.now ≡ view.now.decls.items }
     requires few { length view.now.decls.items ≤ 8 }
-    ensures { let t = tree_of view.now in Answers header_parts (header_fault t or_else count_fault t) (header_of t) result }
+    ensures { let t = tree_of view.now in
+        Answers header_parts (header_fault t or_else count_fault t) (header_of t) result }
 {
     let view_db = type_database(scope, &view.view_db)?;
     let label = type_label(scope, &view.label)?;
@@ -65,7 +66,8 @@ fn legal_label(name: &Text) -> Result<Text, TypeFault>
 }
 
 fn type_database(scope: &Scope<'_>, name: &Name) -> Result<Text, TypeFault>
-    ensures { Answers (λ t. t) (database_fault name.now.text (variable_named scope.now.decls.now name.now)) name.now.text result }
+    ensures { let variable = variable_named scope.now.decls.now name.now in
+        Answers (λ t. t) (database_fault name.now.text variable) name.now.text result }
 {
     match scope.variable(name) {
         None => legal_label(&name.text),
@@ -77,17 +79,19 @@ fn type_database(scope: &Scope<'_>, name: &Name) -> Result<Text, TypeFault>
 
 fn type_label(scope: &Scope<'_>, name: &Name) -> Result<Place, TypeFault>
     requires { length scope.now.decls.now ≤ 8 }
-    ensures { let ds = scope.now.decls.now in Answers (λ p. p) (label_fault ds name.now.text (variable_named ds name.now)) (place_named ds name.now) result }
+    ensures { let ds = scope.now.decls.now in
+        Answers (λ p. p) (label_fault ds name.now.text (variable_named ds name.now)) (place_named ds name.now) result }
 {
     match scope.variable(name) {
         None => Ok(Place::Fixed(legal_label(&name.text)?)),
-        Some(k) => Ok(Place::Var(scope.with_text(k, &name.text)?)),
+        Some(place) => Ok(Place::Var(scope.text_variable(place, &name.text)?)),
     }
 }
 
 fn type_columns(alloc: Global, scope: &Scope<'_>, columns: &[Name]) -> Result<Columns, TypeFault>
     requires { length scope.now.decls.now ≤ 8 }
-    ensures { let ds = scope.now.decls.now in Answers column_parts (columns_fault ds columns.now) (parts_of (column_places ds columns.now)) result }
+    ensures { let ds = scope.now.decls.now in
+        Answers column_parts (columns_fault ds columns.now) (parts_of (column_places ds columns.now)) result }
 {
     let mut typed = Columns {
         constants: IndexSet::new(alloc),
@@ -107,13 +111,15 @@ impl Columns {
     // One more column.
     fn add(&mut self, scope: &Scope<'_>, spot: usize, name: &Name) -> Result<(), TypeFault>
         requires { length scope.now.decls.now ≤ 8 }
-        ensures passes { let ds = scope.now.decls.now in Passes (column_after ds self.old.constants.keys (is_some self.old.spot) name.now.text (variable_named ds name.now)) result }
-        ensures added { OnOk result (column_parts self.new ≡ with_column spot (place_named scope.now.decls.now name.now) (column_parts self.old)) }
+        ensures passes { let ds = scope.now.decls.now in let varies = is_some self.old.spot in
+            Passes (column_after ds self.old.constants.keys varies name.now.text (variable_named ds name.now)) result }
+        ensures added { let column = place_named scope.now.decls.now name.now in
+            OnOk result (column_parts self.new ≡ with_column spot column (column_parts self.old)) }
     {
         match scope.variable(name) {
             None => add_constant(&mut self.constants, &name.text),
-            Some(k) => {
-                let variable = scope.with_text(k, &name.text)?;
+            Some(place) => {
+                let variable = scope.text_variable(place, &name.text)?;
                 self.add_variable(spot, variable, &name.text)
             }
         }
@@ -121,7 +127,8 @@ impl Columns {
 
     fn add_variable(&mut self, spot: usize, variable: u32, name: &Text) -> Result<(), TypeFault>
         ensures passes { Passes (where_true (is_some self.old.spot) (TwoVariableColumns name.now)) result }
-        ensures added { OnOk result (column_parts self.new ≡ with_column spot (place.Var variable) (column_parts self.old)) }
+        ensures added { OnOk result
+            (column_parts self.new ≡ with_column spot (place.Var variable) (column_parts self.old)) }
     {
         if self.spot.is_some() {
             return Err(TypeFault::TwoVariableColumns { var: name.copy()? });

@@ -13,13 +13,16 @@ use std::alloc::Global;
 use view_def::{RawTerm, Term};
 
 // An identifier alone.
-fn type_lone(scope: &Scope<'_>, x: &Text) -> Result<u32, TypeFault>
+fn type_lone(scope: &Scope<'_>, identifier: &Text) -> Result<u32, TypeFault>
     requires { scope.now.sight ≡ length scope.now.decls.now }
-    ensures { let ds = scope.now.decls.now in Answers (λ k. k) (lone_fault ds x.now (declared_at ds x.now)) (variable_at ds x.now) result }
+    ensures { let ds = scope.now.decls.now in
+        Answers (λ k. k) (lone_fault ds identifier.now (declared_at ds identifier.now)) (variable_at ds identifier.now) result }
 {
-    match declared_at(scope.decls, x) {
-        None => Err(TypeFault::NotDeclared { name: x.copy()? }),
-        Some(k) => scope.with_text(k, x),
+    match declared_at(scope.decls, identifier) {
+        None => Err(TypeFault::NotDeclared {
+            name: identifier.copy()?,
+        }),
+        Some(place) => scope.text_variable(place, identifier),
     }
 }
 
@@ -30,13 +33,15 @@ pub(crate) fn type_term(
     term: &RawTerm,
 ) -> Result<Term, TypeFault>
     requires { scope.now.sight ≡ length scope.now.decls.now }
-    ensures answer { let ds = scope.now.decls.now in Answers (λ t. t) (term_fault ds folds.old.items term.now) (typed_term ds term.now) result }
-    ensures taken { OnOk result (SameOthers (folds.old.items ++ term_folds scope.now.decls.now term.now) folds.new.items) }
+    ensures answer { let ds = scope.now.decls.now in
+        Answers (λ t. t) (term_fault ds folds.old.items term.now) (typed_term ds term.now) result }
+    ensures taken { OnOk result
+        (SameOthers (folds.old.items ++ term_folds scope.now.decls.now term.now) folds.new.items) }
 {
     match term {
-        RawTerm::Lone(x) => Ok(Term::Var(type_lone(scope, x)?)),
-        RawTerm::Dot(x, attribute) => {
-            let (tuple, place) = scope.attribute(folds, x, attribute)?;
+        RawTerm::Lone(identifier) => Ok(Term::Var(type_lone(scope, identifier)?)),
+        RawTerm::Dot(identifier, attribute) => {
+            let (tuple, place) = scope.attribute(folds, identifier, attribute)?;
             Ok(Term::Cell(tuple, place))
         }
         RawTerm::Literal(text) => Ok(Term::Literal(text.copy()?)),
@@ -51,8 +56,10 @@ pub(crate) fn type_terms(
     terms: &[RawTerm],
 ) -> Result<Vec<Term>, TypeFault>
     requires { scope.now.sight ≡ length scope.now.decls.now }
-    ensures answer { let ds = scope.now.decls.now in Answers (λ v. v.items) (terms_fault ds folds.old.items terms.now) (map (typed_term ds) terms.now) result }
-    ensures taken { OnOk result (SameOthers (folds.old.items ++ flat_map (term_folds scope.now.decls.now) terms.now) folds.new.items) }
+    ensures answer { let ds = scope.now.decls.now in
+        Answers (λ v. v.items) (terms_fault ds folds.old.items terms.now) (map (typed_term ds) terms.now) result }
+    ensures taken { let more = flat_map (term_folds scope.now.decls.now) terms.now in
+        OnOk result (SameOthers (folds.old.items ++ more) folds.new.items) }
 {
     let mut typed = Vec::new(alloc);
     for term in terms {

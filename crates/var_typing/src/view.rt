@@ -60,7 +60,8 @@ fn type_body(
 ) -> Result<Body, TypeFault>
     requires whole { scope.now.decls.now ≡ view.now.decls.items }
     requires all { scope.now.sight ≡ length scope.now.decls.now }
-    ensures { let t = tree_of view.now in Answers body_parts (terms_fault t.decls folds.old.items (t.select ++ terms_in_filter t.condition)) (body_of t) result }
+    ensures { let t = tree_of view.now in
+        Answers body_parts (terms_fault t.decls folds.old.items (t.select ++ terms_in_filter t.condition)) (body_of t) result }
 {
     let terms = type_terms(alloc, scope, folds, &view.select)?;
     let filter = type_filter(alloc, scope, folds, &view.filter)?;
@@ -69,7 +70,8 @@ fn type_body(
 
 fn view_of(alloc: Global, header: Header, decls: Vec<Range>, body: Body) -> Result<View, NoMemory>
     requires { ForSome header.columns.spot (λ k. k < vec_len body.terms) }
-    ensures { IfOk result (λ v. query_of v ≡ query_with (header_parts header) decls.items (body_parts body)) }
+    ensures { IfOk result
+        (λ v. query_of v ≡ query_with (header_parts header) decls.items (body_parts body)) }
 {
     let Header {
         view_db,
