@@ -9,7 +9,7 @@ use Rattle.ss_lexer.specs.declared.token.Kind.{Kind}
 use Rattle.ss_lexer.specs.declared.token.Kind.TheVariants as kind
 use Rattle.ss_lexer.specs.Spelling.{is_blank, is_letter, in_word, goes_on, first_passes, word_len, quote_len}
 use Rattle.ss_lexer.specs.Tokens.{token, quotation, is_num, answer, tokens_from, tokens}
-use Rattle.ss_lexer.specs.Lexemes.{Lexeme, Quoted, Literal, word, undoubled, inner, lexeme_of, lexeme_in, lexemes}
+use Rattle.ss_lexer.specs.Lexemes.{Lexeme, Quoted, Literal, Finish, word, undoubled, inner, lexeme_of, lexeme_in, lexemes}
 use Rattle.ss_lexer.proofs.LengthLemmas.{other_first, double_first, same}
 use Rattle.ss_lexer.proofs.TokenLemmas.{front_token}
 
@@ -32,7 +32,7 @@ breaks r = first_passes is_break r
 pub record Lexes (needs : Bool) (w : List ℕ) (ls : List Lexeme) : Type 0 where
   pub at : (pre r : List ℕ) → (needs ≡ true → breaks r ≡ true) → says pre (w ++ r) ≡ ls ++ says (pre ++ w) r
 
-append_none : (xs : List ℕ) → xs ++ [] ≡ xs
+pub append_none : (xs : List ℕ) → xs ++ [] ≡ xs
 append_none [] = refl
 append_none (x ∷ xs) = ap (λ ys. x ∷ ys) (append_none xs)
 
@@ -240,3 +240,22 @@ pub literal_says : (t : Text) → Lexes true (in_quotes 39 t) (Literal t ∷ [])
 literal_says t =
     subst (λ m. Lexes true (in_quotes 39 t) (Literal m ∷ [])) (says_inner 39 t)
     (one_token true 39 (doubled 39 t ++ 39 ∷ []) kind.Str refl refl (λ at r k. literal_answer t r at (k refl)))
+
+-- a token that a space follows
+pub before_space : (x : ℕ) (w : List ℕ) (k : Kind) → is_blank x ≡ false → is_num k ≡ false → ((at : ℕ) (r : List ℕ) → answer false at (x ∷ (w ++ (32 ∷ r))) ≡ token at k (suc (length w))) → Lexes false ((x ∷ w) ++ 32 ∷ []) (lexeme_of k (x ∷ w) ∷ [])
+before_space x w k e no_num is = record {
+  at = λ pre r _.
+      ap (says pre) (append_assoc (x ∷ w) (32 ∷ []) r)
+      ∙ token_at false x w k e no_num pre (32 ∷ r) (is (length pre) r)
+      ∙ ap (λ m. lexeme_of k (x ∷ w) ∷ m) (blank_at 32 refl (pre ++ x ∷ w) r)
+      ∙ ap (λ p. lexeme_of k (x ∷ w) ∷ says p r) (append_assoc pre (x ∷ w) (32 ∷ []));
+}
+
+-- at the end
+pub says_end : (pre : List ℕ) → says pre [] ≡ Finish ∷ []
+unfolding says answer
+says_end pre = refl
+
+-- what needs no break may have one
+pub needing : (w : List ℕ) (ls : List Lexeme) → Lexes false w ls → Lexes true w ls
+needing w ls h = record { at = λ pre r _. h.at pre r (λ e. absurd (true≢false (sym e))) }
