@@ -32,7 +32,7 @@ breaks r = first_passes is_break r
 pub record Lexes (needs : Bool) (w : List ℕ) (ls : List Lexeme) : Type 0 where
   pub at : (pre r : List ℕ) → (needs ≡ true → breaks r ≡ true) → says pre (w ++ r) ≡ ls ++ says (pre ++ w) r
 
-pub append_none : (xs : List ℕ) → xs ++ [] ≡ xs
+pub append_none : {A : Type 0} (xs : List A) → xs ++ [] ≡ xs
 append_none [] = refl
 append_none (x ∷ xs) = ap (λ ys. x ∷ ys) (append_none xs)
 
@@ -51,7 +51,7 @@ blank_at b e pre r =
 pub blank : (b : ℕ) → is_blank b ≡ true → Lexes false (b ∷ []) []
 blank b e = record { at = λ pre r _. blank_at b e pre r }
 
-breaks_append : (v r : List ℕ) → breaks v ≡ true → breaks (v ++ r) ≡ true
+pub breaks_append : (v r : List ℕ) → breaks v ≡ true → breaks (v ++ r) ≡ true
 breaks_append [] r e = absurd (cc)
 breaks_append (b ∷ v) r e = e
 

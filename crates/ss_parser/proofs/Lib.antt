@@ -8,3 +8,4 @@ pub mod Refusals
 pub mod ReaderLemmas
 pub mod Printable
 pub mod Kept
+pub mod Printed
