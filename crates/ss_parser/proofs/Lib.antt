@@ -9,3 +9,4 @@ pub mod ReaderLemmas
 pub mod Printable
 pub mod Kept
 pub mod Printed
+pub mod RoundTrip
