@@ -24,20 +24,20 @@ shifted : (m n k : ℕ) (o : Option ℕ) → m + n ≡ k → option_map (λ x. m
 shifted m n k None e = refl
 shifted m n k (Some x) e = let h : m + (n + x) ≡ k + x = omega arith in ap Some h
 
-differs : (a b : ℕ) → a ≢ b → (a == b) ≡ false
+pub differs : (a b : ℕ) → a ≢ b → (a == b) ≡ false
 differs a b ne = elim (eqb_tells a b) [ inl p ↦ absurd (ne p.1) | inr p ↦ p.0 ]
 
-same : (a b : ℕ) → a ≡ b → (a == b) ≡ true
+pub same : (a b : ℕ) → a ≡ b → (a == b) ≡ true
 same a b e = elim (eqb_tells a b) [ inl p ↦ p.0 | inr p ↦ absurd (p.1 e) ]
 
 -- a byte that is no quote is passed over
-other_first : (q : ℕ) (xs : List ℕ) → 0 < length xs → get_or xs 0 0 ≢ q → quote_len q xs ≡ option_map (λ x. 1 + x) (quote_len q (drop 1 xs))
+pub other_first : (q : ℕ) (xs : List ℕ) → 0 < length xs → get_or xs 0 0 ≢ q → quote_len q xs ≡ option_map (λ x. 1 + x) (quote_len q (drop 1 xs))
 other_first q [] lt ne = absurd (omega arith)
 other_first q (b ∷ []) lt ne = rw (differs b q ne) refl
 other_first q (b ∷ c ∷ bs) lt ne = rw (differs b q ne) refl
 
 -- two quotes are passed over
-double_first : (q : ℕ) (xs : List ℕ) → 1 < length xs → get_or xs 0 0 ≡ q → get_or xs 1 0 ≡ q → quote_len q xs ≡ option_map (λ x. 2 + x) (quote_len q (drop 2 xs))
+pub double_first : (q : ℕ) (xs : List ℕ) → 1 < length xs → get_or xs 0 0 ≡ q → get_or xs 1 0 ≡ q → quote_len q xs ≡ option_map (λ x. 2 + x) (quote_len q (drop 2 xs))
 double_first q [] lt e f = absurd (omega arith)
 double_first q (b ∷ []) lt e f = absurd (omega arith)
 double_first q (b ∷ c ∷ bs) lt e f = rw (same b q e, same c q f) refl

@@ -30,10 +30,10 @@ either false at len a b f g = g refl
 in_word_letter : (b : ℕ) → is_letter b ≡ true → in_word b ≡ true
 in_word_letter b h = ap (λ x. x || is_ascii_digit b) h
 
-word_some : (b : ℕ) (bs : List ℕ) → is_letter b ≡ true → 0 < word_len (b ∷ bs)
+pub word_some : (b : ℕ) (bs : List ℕ) → is_letter b ≡ true → 0 < word_len (b ∷ bs)
 word_some b bs h = rw (in_word_letter b h) (omega arith)
 
-word_inside : (bs : List ℕ) → word_len bs ≤ length bs
+pub word_inside : (bs : List ℕ) → word_len bs ≤ length bs
 word_inside [] = omega arith
 word_inside (b ∷ bs) = elim (goes_on (b ∷ bs)) as (λ x. (if x then suc (word_len bs) else 0) ≤ suc (length bs)) [ true ↦ omega (arith, word_inside bs) | false ↦ omega arith ]
 
@@ -96,7 +96,7 @@ followed_sound : (at len : ℕ) (a : Answer) (rest : List Answer) → Stands at 
 followed_sound at len (Err e) rest s h = refl
 followed_sound at len (Ok t) rest s h = one_more_sound (at + len) (Ok t) rest s.3 (inside_at at len t s) h
 
-further_inside : (at len : ℕ) (a : Answer) → Stands at (suc len) a → further a ≤ len
+pub further_inside : (at len : ℕ) (a : Answer) → Stands at (suc len) a → further a ≤ len
 further_inside at len (Ok t) s = omega arith
 further_inside at len (Err e) s = omega arith
 

@@ -5,7 +5,8 @@ use Rattle.std.specs.List.{prefix_len}
 use Rattle.std.proofs.lemmas.List.{drop-drop}
 use Rattle.std.proofs.lemmas.Bool.Decides.{eqb_tells}
 use Rattle.ss_lexer.specs.Spelling.{is_blank, first_passes}
-use Rattle.ss_lexer.specs.Tokens.{Answer, answer, is_num, followed, tokens_from, behind_first, IsFirst}
+use Rattle.ss_lexer.specs.declared.token.Kind.{Kind}
+use Rattle.ss_lexer.specs.Tokens.{Answer, token, answer, is_num, followed, tokens_from, behind_first, IsFirst}
 use Rattle.ss_lexer.proofs.Spans.{Stands, stands}
 
 and_true : (b : Bool) → (b && true) ≡ b
@@ -139,3 +140,12 @@ pub is_first : (behind : Bool) (at : ℕ) (xs : List ℕ) (a : Answer) → answe
 is_first behind at xs a is =
     let k = prefix_len is_blank xs in
     behind_first_of behind at xs k (behind_blanks behind at xs) a (first_at (behind && (k == 0)) (at + k) (drop k xs) a (not_blank xs) is)
+
+-- a token in front, and the tokens behind it
+pub front_token : (at x : ℕ) (xs : List ℕ) (k : Kind) (len : ℕ) → is_blank x ≡ false → answer false at (x ∷ xs) ≡ token at k (suc len) → len ≤ length xs → tokens_from false 0 at (x ∷ xs) ≡ token at k (suc len) ∷ tokens_from (is_num k) 0 (at + suc len) (drop len xs)
+front_token at x xs k len e is h =
+    let l : tokens_from false 0 at (x ∷ xs) ≡ token at k (suc len) ∷ tokens_from (is_num k) (at + suc len - at - 1) (suc at) xs = rw (e, is) refl in
+    let n : at + suc len - at - 1 ≡ len = omega arith in
+    let to : suc at + len ≡ at + suc len = omega arith in
+    l ∙ ap (λ rest. token at k (suc len) ∷ rest)
+    (ap (λ m. tokens_from (is_num k) m (suc at) xs) n ∙ passed_over (is_num k) len (suc at) xs h ∙ ap (λ m. tokens_from (is_num k) 0 m (drop len xs)) to)

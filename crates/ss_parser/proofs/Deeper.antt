@@ -12,7 +12,7 @@ use Rattle.ss_lexer.specs.Lexemes.{Lexeme, Piece}
 use Rattle.ss_parser.specs.Phrases.{Phrase, next, passes, gives, ◌>>=◌, by_next, listed, limit}
 use Rattle.ss_parser.specs.Terms.{one, just, key, sign, is_key, is_sign, an_ident, ident, a_name, name, some, a_literal, literal, dotted, ident_term, is_ident, a_term}
 use Rattle.ss_parser.specs.Declarations.{decl_of, var, arrow_var, column_var, cell_var, in_relation, in_database, behind_name, named, decl}
-use Rattle.ss_parser.specs.Comparing.{an_operator, operator, comparison, any_of, all_of, all, any, negation, group, starts_term, opens, inside, unit}
+use Rattle.ss_parser.specs.Conditions.{an_operator, operator, comparison, any_of, all_of, all, any, negation, group, starts_term, opens, inside, unit}
 use Rattle.ss_parser.specs.Views.{Head, head_of, columns, target, header, selection, declarations, is_finish, finish, closed, end, filtered, unfiltered, ending, tree_with, view}
 use Rattle.ss_parser.proofs.PhraseLaws.{Laws, always, mapped_laws, then_laws}
 use Rattle.ss_parser.proofs.Wider.{Wider, GoesPast, less_wide, IsShallow, token_shallow, gives_shallow, then_shallow, by_next_shallow, listed_shallow, shallow_wider, StopsAt, shallow_stops, then_stops_at, by_next_stops_at, listed_stops_at, limit_stops_at, then_wider, mapped_wider, list_wider, by_next_wider}

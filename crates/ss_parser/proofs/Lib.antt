@@ -6,3 +6,7 @@ pub mod Deeper
 pub mod Exits
 pub mod Refusals
 pub mod ReaderLemmas
+pub mod Printable
+pub mod Kept
+pub mod Printed
+pub mod RoundTrip

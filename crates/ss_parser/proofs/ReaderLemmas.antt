@@ -81,7 +81,7 @@ module _ (bytes : List ℕ) (a b : Answer) (left new : List Answer) (ps : List P
       ∙ ahead_first bytes (length bytes) left b (held_sound (length bytes) a left h at_no_end) e
       ∙ (rw at_no_end refl ∙ ap (drop 1) is)
 
--- at the begin of a text
+-- at the start of a text
 module _ (bytes : List ℕ) (a : Answer) (left new : List Answer) (is : left ≡ tokens bytes) (e : slice_get left 0 ≡ Some a) (moved : new ≡ behind_first left) where
   sound_left : are_sound (length bytes) left ≡ true
   sound_left = subst (λ m. are_sound (length bytes) m ≡ true) (sym is) (sound_tokens bytes)

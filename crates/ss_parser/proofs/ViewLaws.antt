@@ -12,7 +12,7 @@ use Rattle.ss_lexer.specs.Lexemes.{Lexeme, Ident, Key, Literal, Mark, Finish, Pi
 use Rattle.ss_parser.specs.Phrases.{Phrase, gives, ◌>>=◌, by_next, listed, limit}
 use Rattle.ss_parser.specs.Terms.{just, key, sign, is_key, is_sign, an_ident, ident, a_name, name, some, a_literal, literal, dotted, ident_term, is_ident, a_term}
 use Rattle.ss_parser.specs.Declarations.{decl_of, var, arrow_var, column_var, cell_var, in_relation, in_database, behind_name, named, decl}
-use Rattle.ss_parser.specs.Comparing.{an_operator, operator, comparison, any_of, all_of, all, any, negation, group, starts_term, opens, inside, nested, unit}
+use Rattle.ss_parser.specs.Conditions.{an_operator, operator, comparison, any_of, all_of, all, any, negation, group, starts_term, opens, inside, nested, unit}
 use Rattle.ss_parser.specs.Views.{head_of, columns, target, header, selection, declarations, is_finish, finish, closed, end, filtered, unfiltered, ending, tree_with, view}
 use Rattle.ss_parser.proofs.PhraseLaws.{Laws, always, after_list, token_laws, then_laws, list_laws, mapped_laws, by_next_laws, limited_laws, maybe_laws, narrower}
 

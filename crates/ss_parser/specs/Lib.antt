@@ -2,7 +2,7 @@ pub mod Keywords
 pub mod Phrases
 pub mod Terms
 pub mod Declarations
-pub mod Comparing
+pub mod Conditions
 pub mod Views
 pub mod Refused
 pub mod Heads

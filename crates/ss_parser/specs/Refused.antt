@@ -5,7 +5,7 @@ use Rattle.view_def.specs.Tree.{Tree, tree_of}
 use Rattle.ss_lexer.specs.Lexemes.{Lexeme, Bad_byte, Open_quote, Piece, pieces}
 use Rattle.ss_parser.specs.declared.fault.ParseFault.{ParseFault}
 use Rattle.ss_parser.specs.declared.fault.ParseFault.TheVariants as fault
-use Rattle.ss_parser.specs.Comparing.{opens}
+use Rattle.ss_parser.specs.Conditions.{opens}
 use Rattle.ss_parser.specs.Views.{view}
 
 -- these pieces are a view with this tree, with at most so many of NOT and "(" open at once

@@ -9,7 +9,7 @@ use Rattle.ss_lexer.specs.Lexemes.{Lexeme, Finish, Piece}
 use Rattle.ss_parser.specs.Phrases.{Phrase, gives, ◌>>=◌, by_next}
 use Rattle.ss_parser.specs.Terms.{just, key, sign, is_key, is_sign, name, some, a_term}
 use Rattle.ss_parser.specs.Declarations.{decl}
-use Rattle.ss_parser.specs.Comparing.{any, unit}
+use Rattle.ss_parser.specs.Conditions.{any, unit}
 
 -- the part before SELECT
 pub record Head : Type 0 where

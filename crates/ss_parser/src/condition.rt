@@ -2,7 +2,7 @@
 ghost use Rattle.std.specs.Prelude.{◌≡◌, map};
 ghost use Rattle.view_def.specs.RawConditions.{raw_of};
 ghost use Rattle.ss_parser.specs.Phrases.{by_next, limit, passes, next};
-ghost use Rattle.ss_parser.specs.Comparing.{comparison as comparison_phrase, any_of as any_raw, all_of as all_raw, all as all_phrase, any as any_phrase, negation as negation_phrase, group as group_phrase, starts_term, opens as opens_test, nested as nested_phrase, unit as unit_phrase};
+ghost use Rattle.ss_parser.specs.Conditions.{comparison as comparison_phrase, any_of as any_raw, all_of as all_raw, all as all_phrase, any as any_phrase, negation as negation_phrase, group as group_phrase, starts_term, opens as opens_test, nested as nested_phrase, unit as unit_phrase};
 ghost use Rattle.ss_parser.specs.Parses.{Parses};
 
 use crate::fault::Stop;

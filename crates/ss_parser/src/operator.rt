@@ -1,6 +1,6 @@
 //! The operators of comparisons.
 ghost use Rattle.std.specs.Prelude.{◌≡◌};
-ghost use Rattle.ss_parser.specs.Comparing.{operators, spelled};
+ghost use Rattle.ss_parser.specs.Conditions.{operators, spelled};
 
 use view_def::Op;
 

@@ -6,7 +6,7 @@ ghost use Rattle.ss_text.specs.Texts.{Text as bytes_of_text, is_in};
 ghost use Rattle.ss_lexer.specs.Lexemes.{Piece, pieces, keywords};
 ghost use Rattle.ss_parser.specs.Phrases.{next, passes};
 ghost use Rattle.ss_parser.specs.Terms.{just, key as key_phrase, sign as sign_phrase, ident as ident_phrase, name as name_phrase, literal as literal_phrase, is_key, is_sign, is_ident};
-ghost use Rattle.ss_parser.specs.Comparing.{starts_term, operator as operator_phrase};
+ghost use Rattle.ss_parser.specs.Conditions.{starts_term, operator as operator_phrase};
 ghost use Rattle.ss_parser.specs.Views.{finish as finish_phrase};
 ghost use Rattle.ss_parser.specs.Keywords.{spelling};
 ghost use Rattle.ss_parser.specs.Refused.{fault_at};
@@ -45,7 +45,7 @@ impl<'a> Model for Reader<'a> {
 }
 
 impl<'a> Reader<'a> {
-    /// A reader of these bytes, from their begin on.
+    /// A reader of these bytes, from their first on.
     pub(crate) fn of(alloc: Global, bytes: &'a [u8]) -> Result<Reader<'a>, NoMemory>
         ensures { IfOk result (λ r. r ≡ pieces bytes.now) }
     {

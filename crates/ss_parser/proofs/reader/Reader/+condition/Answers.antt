@@ -5,10 +5,10 @@ use Rattle.view_def.specs.RawConditions.{Raw, raw_of}
 use Rattle.ss_lexer.specs.Lexemes.{Piece}
 use Rattle.ss_parser.specs.Phrases.{Phrase, here}
 use Rattle.ss_parser.specs.Terms.{is_key, sign}
-use Rattle.ss_parser.specs.Comparing.{unit as unit_phrase}
-use Rattle.ss_parser.specs.Comparing.{all as all_phrase}
-use Rattle.ss_parser.specs.Comparing.{any as any_phrase}
-use Rattle.ss_parser.specs.Comparing.{group as group_phrase}
+use Rattle.ss_parser.specs.Conditions.{unit as unit_phrase}
+use Rattle.ss_parser.specs.Conditions.{all as all_phrase}
+use Rattle.ss_parser.specs.Conditions.{any as any_phrase}
+use Rattle.ss_parser.specs.Conditions.{group as group_phrase}
 use Rattle.ss_parser.specs.Parses.{Parses}
 use Rattle.ss_parser.proofs.ViewLaws.{word, after_term, after_all, unit_laws, all_laws, unit_zero, unit_inside}
 use Rattle.ss_parser.proofs.Exits.{stops_with}

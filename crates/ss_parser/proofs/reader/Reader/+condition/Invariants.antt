@@ -2,8 +2,8 @@ use Rattle.std.proofs.Common.{◌+◌, ◌*◌, length, map}
 use Rattle.std.specs.Prelude.{codes}
 use Rattle.view_def.specs.RawConditions.{raw_of}
 use Rattle.ss_parser.specs.Terms.{is_key}
-use Rattle.ss_parser.specs.Comparing.{unit as unit_phrase}
-use Rattle.ss_parser.specs.Comparing.{all as all_phrase}
+use Rattle.ss_parser.specs.Conditions.{unit as unit_phrase}
+use Rattle.ss_parser.specs.Conditions.{all as all_phrase}
 use Rattle.ss_parser.proofs.ListLoops.{GoesOn}
 use Rattle.ss_parser.proofs.reader.Reader.+condition.Given as goal
 

@@ -4,7 +4,7 @@ use Rattle.view_def.specs.declared.written.Op.{Op}
 use Rattle.view_def.specs.declared.written.RawTerm.{RawTerm}
 use Rattle.view_def.specs.RawConditions.{raw_of}
 use Rattle.ss_parser.specs.Terms.{a_term}
-use Rattle.ss_parser.specs.Comparing.{operator, comparison}
+use Rattle.ss_parser.specs.Conditions.{operator, comparison}
 use Rattle.ss_parser.proofs.Exits.{stops_with}
 use Rattle.ss_parser.proofs.reader.Reader.comparison.Goals as goal
 

@@ -2,7 +2,7 @@ use Rattle.std.proofs.Common.{inl, inr}
 use Rattle.std.specs.Prelude.{option_map}
 use Rattle.std.proofs.lemmas.Result.{err_from_is_err_and}
 use Rattle.view_def.specs.RawConditions.{raw_of}
-use Rattle.ss_parser.specs.Comparing.{any, unit}
+use Rattle.ss_parser.specs.Conditions.{any, unit}
 use Rattle.ss_parser.specs.Views.{end, filtered}
 use Rattle.ss_parser.proofs.Exits.{stops_with}
 use Rattle.ss_parser.proofs.reader.Reader.where_part.Goals as goal
