@@ -2,3 +2,4 @@ pub mod Digits
 pub mod AscendingLemmas
 pub mod PlaceLemmas
 pub mod KeyLemmas
+pub mod PairLemmas
