@@ -2,3 +2,5 @@ mod WorkedRows
 pub mod TableLemmas
 pub mod RowLemmas
 pub mod LabelLemmas
+pub mod CellLemmas
+pub mod StepLemmas

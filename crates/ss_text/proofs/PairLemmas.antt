@@ -197,7 +197,7 @@ module _ {K : Type 0} {R : K → K → Ordering} {E : K → K → Bool} (o : IsK
   ascending_ascends [] = tt
   ascending_ascends (k ∷ ks) = with_ascends k (ascending R ks) (ascending_ascends ks)
 
-  any_with : (q x : K) (ks : List K) → list_any (E q) (with_element R x ks) ≡ (E q x || list_any (E q) ks)
+  pub any_with : (q x : K) (ks : List K) → list_any (E q) (with_element R x ks) ≡ (E q x || list_any (E q) ks)
   any_with q x [] = refl
   any_with q x (k ∷ ks) = split (R x k) refl (any_with q x ks)
     where
