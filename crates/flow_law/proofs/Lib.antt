@@ -4,3 +4,4 @@ pub mod RowLemmas
 pub mod LabelLemmas
 pub mod CellLemmas
 pub mod StepLemmas
+pub mod GroupLemmas
