@@ -5,3 +5,4 @@ pub mod LabelLemmas
 pub mod CellLemmas
 pub mod StepLemmas
 pub mod GroupLemmas
+pub mod TableScript

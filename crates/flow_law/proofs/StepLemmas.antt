@@ -15,7 +15,7 @@ use Rattle.flow_law.specs.Tables.{TableValue, table_value, key_of, row_keys, cel
 use Rattle.flow_law.specs.InOrder.{IsTable}
 use Rattle.flow_law.specs.Lines.{without_row, with_row, without_column, with_column, with_cell, with_cell_at, without_cell, with_empty_cell, column_place, by_key, has_row, has_column}
 use Rattle.flow_law.proofs.TableLemmas.{own_keys, column_removed, column_placed, row_placed, place_of_column}
-use Rattle.flow_law.proofs.CellLemmas.{Missing, missing, cell_of_none, cell_of_empty, cell_kept, cell_with_column, cell_written, same_cells}
+use Rattle.flow_law.proofs.CellLemmas.{Missing, missing, cell_of_none, cell_of_empty, cell_kept, cell_with_column, cell_written, same_cells, found_none}
 
 -- whether a key is there
 abbrev pub has_key : Row → TableValue → Bool
@@ -190,3 +190,14 @@ same_tables t u h i columns keys cells = whole (same_keys text_order t.columns u
     whole same =
         let rows : t.rows ≡ u.rows = same_pairs row_order t.rows u.rows h.keys i.keys (λ q. row q same) in
         λ j. table_value (same j) (rows j)
+
+-- a row or a column that is missing has no cell
+pub cell_no_column : (t : TableValue) (q : Row) (c : Text) → has_column c t ≡ false → cell_of t q c ≡ []
+cell_no_column t q c h = ap (λ (o : Option Text). unwrap_or o []) (found_none t.columns (cells_of t q) c (missing t.columns c h))
+
+pub cell_no_key : (t : TableValue) (q : Row) (c : Text) → has_key q t ≡ false → cell_of t q c ≡ []
+cell_no_key t q c h = by_case (lookup (row_eq q) t.rows) refl
+  where
+    by_case : (o : Option Row) → lookup (row_eq q) t.rows ≡ o → cell_of t q c ≡ []
+    by_case None e = ap (λ (o : Option Row). cell_in t.columns (unwrap_or o []) c) e ∙ cell_of_none t.columns c
+    by_case (Some cells) e = absurd (false≢true (sym h ∙ sym (key_is_there q t) ∙ sym (found_any row_order t.rows q) ∙ ap is_some e))

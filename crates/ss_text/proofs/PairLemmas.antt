@@ -233,3 +233,20 @@ module _ {K : Type 0} {R : K → K → Ordering} {E : K → K → Bool} (o : IsK
           never true = refl
           never false = refl
       split false false s t rest = rw (s, t) rest
+
+  -- what holds of each that the test finds holds of each element, and the converse
+  pub each_found : (Q : K → Type 0) (ks : List K) → ((q : K) → list_any (E q) ks ≡ true → Q q) → AllByRecursion Q ks
+  each_found Q [] h = tt
+  each_found Q (k ∷ ks) h = (h k (ap (λ b. b || list_any (E k) ks) (equal_itself o k)), each_found Q ks (λ q there. h q (ap (λ b. E q k || b) there ∙ all (E q k))))
+    where
+      all : (a : Bool) → (a || true) ≡ true
+      all true = refl
+      all false = refl
+
+  pub found_each : (Q : K → Type 0) (ks : List K) (q : K) → AllByRecursion Q ks → list_any (E q) ks ≡ true → Q q
+  found_each Q [] q h there = absurd (false≢true there)
+  found_each Q (k ∷ ks) q h there = split (E q k) refl (λ e. found_each Q ks q h.1 (rw e at there))
+    where
+      split : (b : Bool) → E q k ≡ b → (E q k ≡ false → Q q) → Q q
+      split true e rest = subst Q (sym (equal_is o q k e)) h.0
+      split false e rest = rest e
