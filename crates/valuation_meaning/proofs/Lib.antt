@@ -5,3 +5,4 @@ pub mod LookupLemmas
 pub mod RowsLeft
 pub mod ListingLemmas
 pub mod ValueLemmas
+pub mod TableRows

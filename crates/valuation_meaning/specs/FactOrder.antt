@@ -11,8 +11,15 @@ use Rattle.flow_law.specs.Facts.{Fact, pair_cmp}
 abbrev pub cell_cmp : Option (Text × Text) → Option (Text × Text) → Ordering
 cell_cmp = option_cmp pair_cmp
 
+-- facts of one key, facts of one label, and all facts
+abbrev pub by_cell : Fact → Fact → Ordering
+by_cell = on (λ f. f.cell) cell_cmp
+
+abbrev pub by_key : Fact → Fact → Ordering
+by_key = then_cmp (on (λ f. f.key) row_cmp) by_cell
+
 abbrev pub fact_cmp : Fact → Fact → Ordering
-fact_cmp = then_cmp (on (λ f. f.label) text_cmp) (then_cmp (on (λ f. f.key) row_cmp) (on (λ f. f.cell) cell_cmp))
+fact_cmp = then_cmp (on (λ f. f.label) text_cmp) by_key
 
 pub cell_total : IsTotalOrder cell_cmp
 cell_total = options_total (then_total (on_total (λ (p : Text × Text). p.0) nat_list_cmp_total) (on_total (λ (p : Text × Text). p.1) nat_list_cmp_total))
