@@ -4,3 +4,4 @@ pub mod PlaceLemmas
 pub mod KeyLemmas
 pub mod SetLemmas
 pub mod GroupLemmas
+pub mod GroupWalk
