@@ -1,5 +1,5 @@
 -- The rows of a table, key by key, and the tables, label by label.
-use Rattle.std.proofs.Common.{◌≡◌, ℕ, List, [], ◌∷◌, ◌++◌, None, Some, map, drop, length, refl, sym, ap, subst, ◌∙◌}
+use Rattle.std.proofs.Common.{◌≡◌, ℕ, List, [], ◌∷◌, ◌++◌, Option, None, Some, map, drop, length, refl, sym, ap, subst, ◌∙◌}
 use Rattle.std.specs.Prelude.{slice_get, filter}
 use Rattle.std.specs.List.{filter_map, AllByRecursion}
 use Rattle.std.specs.List.Sorted.{IsStrictlySortedBy}
@@ -13,7 +13,11 @@ use Rattle.ss_text.proofs.GroupWalk.{entries_of, keys_ascend, all_entries}
 use Rattle.flow_law.specs.Facts.{Fact, column_of, facts_of}
 use Rattle.flow_law.specs.Tables.{TableValue, TablesValue, table_value}
 use Rattle.flow_law.specs.InOrder.{IsTable}
-use Rattle.flow_law.specs.FactTables.{fact_table}
+use Rattle.flow_law.specs.FactTables.{fact_table, tables}
+use Rattle.view_def.specs.declared.typed.Place.{Place}
+use Rattle.view_def.specs.declared.typed.Place.TheVariants.{Fixed, Var}
+use Rattle.valuation_meaning.specs.Meaning.{constant_label}
+use Rattle.valuation_meaning.specs.Labelled.{BearLabel, label_tables}
 use Rattle.valuation_meaning.specs.FactOrder.{by_cell, by_key, fact_cmp}
 use Rattle.valuation_meaning.specs.Cells.{cells_for}
 
@@ -71,3 +75,13 @@ module _ (label : Text) where
 
   pub sorted_by_key : (fs : List Fact) → AllBear fs → IsStrictlySortedBy fact_cmp fs → IsStrictlySortedBy by_key fs
   sorted_by_key fs h s = subst (IsStrictlySortedBy by_key) (all_of_label fs h) (inner text_order (λ (f : Fact). f.label) by_key label fs s)
+
+-- the tables of a constant label, and of a variable one
+pub constant_tables : (p : Place) (constants : Row) (spot : Option ℕ) (label : Text) (fs : List Fact) → p ≡ Fixed label → BearLabel (constant_label p) fs
+    → (label, fact_table fs) ∷ [] ≡ tables (record { label = constant_label p; constants = constants; spot = spot }) fs
+unfolding tables
+constant_tables p constants spot label fs e h = rw e (sym (one_table label fs (rw e at h)))
+
+pub variable_tables : (p : Place) (constants : Row) (spot : Option ℕ) (k : ℕ) (fs : List Fact) → p ≡ Var k → label_tables fs ≡ tables (record { label = constant_label p; constants = constants; spot = spot }) fs
+unfolding tables
+variable_tables p constants spot k fs e = rw e refl

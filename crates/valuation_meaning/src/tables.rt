@@ -1,18 +1,22 @@
 //! The tables of facts that are in order.
-ghost use Rattle.std.specs.Prelude.{◌≡◌, IfOk, filter_map, option_copied};
+ghost use Rattle.std.specs.Prelude.{◌≡◌, [], ◌∷◌, IfOk, filter_map, option_copied};
+ghost use Rattle.view_def.specs.Query.{query_of};
+ghost use Rattle.valuation_meaning.specs.Meaning.{constant_label, shape_of};
+ghost use Rattle.valuation_meaning.specs.Labelled.{BearLabel, label_tables};
 ghost use Rattle.std.specs.List.Sorted.{IsStrictlySortedBy};
 ghost use Rattle.ss_text.specs.Texts.{text_cmp};
 ghost use Rattle.ss_text.specs.Ascending.{ascending, least};
 ghost use Rattle.flow_law.specs.Facts.{column_of};
 ghost use Rattle.valuation_meaning.specs.FactOrder.{by_cell, by_key, fact_cmp};
 ghost use Rattle.valuation_meaning.specs.Cells.{values_for, cells_for};
-ghost use Rattle.flow_law.specs.FactTables.{fact_table};
+ghost use Rattle.flow_law.specs.FactTables.{fact_table, tables};
 
-use crate::fact::{Fact, fact_at, facts_from, key_count};
+use crate::fact::{Fact, fact_at, facts_from, key_count, label_count};
 use crate::label::Label;
-use flow_law::Table;
+use flow_law::{Table, Tables};
 use ss_text::{NoMemory, Text, make_ascending};
 use std::alloc::Global;
+use view_def::{Place, View};
 
 /// The column labels of facts, each once, ascending.
 fn columns<'a>(alloc: Global, facts: &[Fact<'a>]) -> Result<Vec<Label<'a>>, NoMemory>
@@ -81,4 +85,46 @@ fn table(alloc: Global, facts: &[Fact<'_>]) -> Result<Table, NoMemory>
         from += count;
     }
     Ok(table)
+}
+
+/// The one table of facts that all bear this label.
+fn one_table(alloc: Global, label: &Text, facts: &[Fact<'_>]) -> Result<Tables, NoMemory>
+    requires sorted { IsStrictlySortedBy fact_cmp facts.now }
+    requires bear { BearLabel (Some label.now) facts.now }
+    ensures { IfOk result (λ tables. tables ≡ (label.now, fact_table facts.now) ∷ []) }
+{
+    let mut tables = Tables::new(alloc);
+    let table = table(alloc, facts)?;
+    tables.put_table(label.copy()?, table)?;
+    Ok(tables)
+}
+
+/// A table for each label of facts.
+fn label_tables(alloc: Global, facts: &[Fact<'_>]) -> Result<Tables, NoMemory>
+    requires { IsStrictlySortedBy fact_cmp facts.now }
+    ensures { IfOk result (λ tables. tables ≡ label_tables facts.now) }
+{
+    let mut tables = Tables::new(alloc);
+    let mut from = 0;
+    while let Some(first) = fact_at(facts, from) {
+        let label = first.label();
+        let left = facts_from(facts, from);
+        let count = label_count(left, label);
+        let table = table(alloc, &left[..count])?;
+        tables.put_table(label.copy()?, table)?;
+        from += count;
+    }
+    Ok(tables)
+}
+
+/// The tables of a view's facts, which are in order.
+pub(crate) fn tables(alloc: Global, view: &View, facts: &[Fact<'_>]) -> Result<Tables, NoMemory>
+    requires sorted { IsStrictlySortedBy fact_cmp facts.now }
+    requires bear { BearLabel (constant_label view.now.label) facts.now }
+    ensures { IfOk result (λ ts. ts ≡ tables (shape_of (query_of view.now)) facts.now) }
+{
+    match &view.label {
+        Place::Fixed(label) => one_table(alloc, label, facts),
+        Place::Var(_) => label_tables(alloc, facts),
+    }
 }
