@@ -6,3 +6,5 @@ pub mod RowsLeft
 pub mod ListingLemmas
 pub mod ValueLemmas
 pub mod TableRows
+pub mod Entries
+pub mod ConflictLemmas

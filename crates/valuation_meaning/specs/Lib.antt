@@ -9,3 +9,4 @@ pub mod Borrowed
 pub mod Listing
 pub mod Cells
 pub mod Labelled
+pub mod Neighbours

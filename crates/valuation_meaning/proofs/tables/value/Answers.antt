@@ -1,4 +1,4 @@
-use Rattle.std.proofs.Common.{◌≡◌, [], Some, None, rules, refl}
+use Rattle.std.proofs.Common.{[], Some, rules, refl}
 use Rattle.std.specs.Prelude.{not}
 use Rattle.std.proofs.lemmas.Fn.{always_returns_same}
 use Rattle.ss_text.proofs.GroupLemmas.{partitioned, strict_keys}
