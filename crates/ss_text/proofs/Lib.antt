@@ -5,3 +5,4 @@ pub mod KeyLemmas
 pub mod SetLemmas
 pub mod GroupLemmas
 pub mod GroupWalk
+pub mod LeastLemmas

@@ -8,3 +8,4 @@ pub mod ValueLemmas
 pub mod TableRows
 pub mod Entries
 pub mod ConflictLemmas
+pub mod RefusedLemmas
