@@ -5,7 +5,7 @@ ghost use Rattle.ss_text.specs.Texts.{text_eq, row_eq};
 ghost use Rattle.flow_law.specs.Facts.{column_of, value_in};
 ghost use Rattle.std.specs.Ordering.{eq_by_cmp, as_partial_cmp};
 ghost use Rattle.std.specs.Cmp.{partial_equiv_from_equiv, partial_order_from_agreeing_total, eq_by_cmp_equiv};
-ghost use Rattle.valuation_meaning.specs.Borrowed.{fact_value};
+ghost use Rattle.valuation_meaning.specs.Borrowed.{cell_value, fact_value};
 ghost use Rattle.valuation_meaning.specs.Cells.{is_past};
 ghost use Rattle.valuation_meaning.specs.FactOrder.{fact_cmp, fact_total};
 
@@ -53,6 +53,13 @@ impl<'a> Fact<'a> {
     {
         let (column, _) = self.cell?;
         Some(column)
+    }
+
+    /// Its column label and value.
+    pub(crate) fn cell(&self) -> Option<(&'a Text, &'a Text)>
+        ensures { cell_value result ≡ self.now.cell }
+    {
+        self.cell
     }
 
     /// Its value, where it names this column.

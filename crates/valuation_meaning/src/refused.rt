@@ -8,11 +8,13 @@ ghost use Rattle.view_def.specs.Query.{query_of};
 ghost use Rattle.flow_law.specs.Facts.{column_of, pair_cmp, pairs_of, illegal, conflict};
 ghost use Rattle.valuation_meaning.specs.Meaning.{shape_of};
 ghost use Rattle.valuation_meaning.specs.FactOrder.{fact_cmp};
+ghost use Rattle.valuation_meaning.specs.Neighbours.{clash_between};
 
-use crate::fact::Fact;
+use crate::fact::{Fact, facts_from};
 use crate::label::Label;
 use flow_law::{Clash, IllegalLabel};
 use ss_text::{NoMemory, Row, column_label_legal, table_label_legal};
+use std::alloc::Global;
 use view_def::View;
 
 /// The table label of a fact, where it is not legal.
@@ -73,4 +75,39 @@ pub(crate) fn illegal(view: &View, facts: &[Fact<'_>]) -> Result<Option<IllegalL
         table: table.text().copy()?,
         column: Some(column.text().copy()?),
     }))
+}
+
+/// The clash of a fact and the next one, where they give one cell two values.
+fn clash_between(alloc: Global, fact: &Fact<'_>, next: &Fact<'_>) -> Result<Option<Clash>, NoMemory>
+    ensures { IfOk result (λ clash. clash ≡ clash_between fact.now next.now) }
+{
+    let (Some((column, first)), Some((named, second))) = (fact.cell(), next.cell()) else {
+        return Ok(None);
+    };
+    let same = fact.label() == next.label() && fact.has_key_of(next) && column == named;
+    if !same || first.as_slice().is_empty() {
+        return Ok(None);
+    }
+    Ok(Some(Clash {
+        table: fact.label().copy()?,
+        column: column.copy()?,
+        first: first.copy()?,
+        second: second.copy()?,
+        key: fact.copy_key(alloc)?,
+    }))
+}
+
+/// The conflict of facts in order, if there is one: of neighbours, the first that clash.
+pub(crate) fn conflict(alloc: Global, facts: &[Fact<'_>]) -> Result<Option<Clash>, NoMemory>
+    requires { IsStrictlySortedBy fact_cmp facts.now }
+    ensures { IfOk result (λ clash. clash ≡ conflict facts.now) }
+{
+    let mut place = 0;
+    while let [fact, next, ..] = facts_from(facts, place) {
+        if let Some(clash) = clash_between(alloc, fact, next)? {
+            return Ok(Some(clash));
+        }
+        place += 1;
+    }
+    Ok(None)
 }
