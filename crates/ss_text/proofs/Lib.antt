@@ -5,3 +5,5 @@ pub mod KeyLemmas
 pub mod SetLemmas
 pub mod GroupLemmas
 pub mod PairLemmas
+pub mod GroupWalk
+pub mod LeastLemmas

@@ -1,5 +1,5 @@
 -- The least value of a column, among facts whose cells ascend.
-use Rattle.std.proofs.Common.{◌≡◌, ◌≤◌, ℕ, zero, suc, arith, Bool, true, false, cond, List, [], ◌∷◌, ◌++◌, map, take, drop, length, Option, Some, None, refl, sym, ap, subst, ◌∙◌, append-nil, take-append-drop}
+use Rattle.std.proofs.Common.{◌≡◌, ◌≤◌, ℕ, zero, suc, arith, Bool, true, false, cond, List, [], ◌∷◌, ◌++◌, take, drop, length, Option, Some, None, refl, sym, ap, subst, ◌∙◌, take-append-drop}
 use Rattle.std.specs.Prelude.{not, ◌==◌, filter, slice_get, option_and_then, if◌then◌else◌}
 use Rattle.std.specs.declared.cmp.Ordering.{Ordering}
 use Rattle.std.specs.declared.cmp.Ordering.TheVariants.{Less, Equal, Greater}
@@ -8,7 +8,6 @@ use Rattle.std.specs.List.Sorted.{IsStrictlySortedBy, IsPartitionPoint}
 use Rattle.std.specs.Ordering.{is_gt, on, ordering_then}
 use Rattle.std.proofs.lemmas.Bool.Decides.{nat_tests}
 use Rattle.std.proofs.lemmas.Cmp.{tied_itself}
-use Rattle.std.proofs.lemmas.List.Elements.{filter-append, filter_map-append}
 use Rattle.std.specs.Cmp.Lexicographic.{nat_list_cmp_total}
 use Rattle.ss_text.specs.Texts.{Text, text_cmp, text_eq}
 use Rattle.ss_text.specs.Ascending.{least}
@@ -22,7 +21,7 @@ empty_only : (v : Text) → is_gt (text_cmp v []) ≡ false → length v == 0 �
 empty_only [] h = refl
 empty_only (b ∷ bs) h = absurd (cc)
 
-some_length : (n : ℕ) → not (suc n == 0) ≡ true
+pub some_length : (n : ℕ) → not (suc n == 0) ≡ true
 some_length n = grind (arith, nat_tests)
 
 not_empty : (v : Text) → is_gt (text_cmp v []) ≡ true → not (length v == 0) ≡ true
