@@ -40,10 +40,22 @@ pub record Stands {A : Type 0} (step : A → List ℕ → Reply A) (start : A) (
 
 pub starts : {A : Type 0} (step : A → List ℕ → Reply A) (start : A) (input : Option (List ℕ)) (old : Contents) (reader : LinesState) → reader ≡ record { taken = 0; left = []; ended = false } → Stands step start input old start reader input old
 starts step start input old reader is = rw is (record {
-  told = λ bytes told. (bytes, told, record {
-    taken = []; lines = []; effects = []; split = refl; count = refl; are = refl;
-    whole = λ going more. refl; end = λ ended. absurd (cc); answered = refl; done = refl;
-  });
+  told = λ bytes told. (
+    bytes,
+    told,
+    record {
+      taken = [];
+      lines = [];
+      effects = [];
+      split = refl;
+      count = refl;
+      are = refl;
+      whole = λ going more. refl;
+      end = λ ended. absurd (cc);
+      answered = refl;
+      done = refl;
+    },
+  );
 })
 
 -- what was taken of a told rest
@@ -77,16 +89,18 @@ pub record Step (r : Result Next ReadStop) (old new : LinesState) (left more : L
 
 pub step_of : (r : Result Next ReadStop) (old new : LinesState) (left : List ℕ) (rest later : Option (List ℕ)) → Reads r old new rest later → rest ≡ Some left → (more : List ℕ) × Step r old new left more later
 step_of r old new left rest later m is =
-    let t = took left m.part rest later is m.moved in
-    (t.0, record {
-      told = t.1;
-      part = m.part;
-      split = t.2;
-      count = m.counted;
-      going = still_going old.ended new.ended m.ended;
-      end = λ was ended. nothing_left old.ended new.ended left m.part t.0 was t.2 (λ going now. m.end going now t.0 t.1) ended;
-      answers = m.answers;
-    })
+    let t = took left m.part rest later is m.moved in (
+      t.0,
+      record {
+        told = t.1;
+        part = m.part;
+        split = t.2;
+        count = m.counted;
+        going = still_going old.ended new.ended m.ended;
+        end = λ was ended. nothing_left old.ended new.ended left m.part t.0 was t.2 (λ going now. m.end going now t.0 t.1) ended;
+        answers = m.answers;
+      },
+    )
 
 module _ {A : Type 0} (step : A → List ℕ → Reply A) (finish : A → Ending) (start : A) (bytes : List ℕ) where
   -- the lines that are left after those answered
@@ -127,16 +141,19 @@ module _ {A : Type 0} (step : A → List ℕ → Reply A) (finish : A → Ending
   pub cut_off : (old now : World) (state : A) (left more : List ℕ) (later : Option (List ℕ)) (r : Result Next ReadStop) (reader new_reader : LinesState)
       → Reached step start bytes (contents old) state reader left (contents now) → (s : Step r reader new_reader left more later) → Unfinished (reader.left ++ s.part) new_reader
       → (cut : CutOff step start bytes later old now) × (length cut.taken ≡ new_reader.taken)
-  cut_off old now state left more later r reader new_reader at s cut = (record {
-    taken = at.taken ++ s.part;
-    left = more;
-    split = at.split ∙ ap (λ (t : List ℕ). at.taken ++ t) s.split ∙ sym (append_assoc at.taken s.part more);
-    remains = s.told;
-    effects = at.effects;
-    state = state;
-    answered = ap (λ (ls : List (List ℕ)). follow step ls (Goes [] start)) (at.whole (s.going cut.no_end) s.part ∙ ap (λ (t : List (List ℕ)). at.lines ++ t) (whole_none (reader.left ++ s.part) cut.no_line) ∙ append_none at.lines) ∙ at.answered;
-    done = at.done;
-  }, omega (arith, at.count, s.count, length-append at.taken s.part))
+  cut_off old now state left more later r reader new_reader at s cut = (
+    record {
+      taken = at.taken ++ s.part;
+      left = more;
+      split = at.split ∙ ap (λ (t : List ℕ). at.taken ++ t) s.split ∙ sym (append_assoc at.taken s.part more);
+      remains = s.told;
+      effects = at.effects;
+      state = state;
+      answered = ap (λ (ls : List (List ℕ)). follow step ls (Goes [] start)) (at.whole (s.going cut.no_end) s.part ∙ ap (λ (t : List (List ℕ)). at.lines ++ t) (whole_none (reader.left ++ s.part) cut.no_line) ∙ append_none at.lines) ∙ at.answered;
+      done = at.done;
+    },
+    omega (arith, at.count, s.count, length-append at.taken s.part),
+  )
 
 -- a call on the reader, seen from a run whose input is told
 pub record Met {A : Type 0} (step : A → List ℕ → Reply A) (start : A) (bytes : List ℕ) (r : Result Next ReadStop) (old : Contents) (state : A) (reader new_reader : LinesState) (later : Option (List ℕ)) (now : Contents) : Type 0 where

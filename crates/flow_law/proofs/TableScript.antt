@@ -166,7 +166,7 @@ module _ (label : Text) (old new : TableValue) where
                 fit = fit_steps-append t these later row.fit rest.fit;
                 nears = subst (Nears new t) (sym made) (nears_on new t u (steps u later) row.nears rest.nears);
                 done =
-                subst (λ (v : TableValue). AllByRecursion (λ j. AllByRecursion (λ x. cell_of v j x ≡ cell_of new j x) xs) (k ∷ ks)) (sym made) (row_stays u (steps u later) k xs rest.nears row.done, rest.done);
+                    subst (λ (v : TableValue). AllByRecursion (λ j. AllByRecursion (λ x. cell_of v j x ≡ cell_of new j x) xs) (k ∷ ks)) (sym made) (row_stays u (steps u later) k xs rest.nears row.done, rest.done);
               }
 
   -- what is there after each group

@@ -250,10 +250,10 @@ decl_printed (range.Relations n) x h k =
     let same : name_text n ++ v ≡ declaration_text d = simp append_assoc in (
       name_first n.quoted n.text,
       same_text decl always d true (name_text n ++ v) (declaration_text d) (name_first n.quoted n.text) same
-      (decl_named d (name_text n ++ v) n.quoted n.text
-      (behind_name_prints (λ n. by_next (is_sign (codes "->")) (arrow_var (range.Relations n)) (behind_name n.quoted n)) n d v (Mark (codes "->")) h
-      (first_prints (is_sign (codes "->")) (arrow_var (range.Relations n)) (behind_name n.quoted n) always d true v (Mark (codes "->"))
-      (spaced (arrow_var (range.Relations n)) always d true (codes "->" ++ (32 ∷ x)) (Mark (codes "->")) (arrow_var_prints (range.Relations n) x k)) (λ p e. rw e refl)) refl)),
+          (decl_named d (name_text n ++ v) n.quoted n.text
+          (behind_name_prints (λ n. by_next (is_sign (codes "->")) (arrow_var (range.Relations n)) (behind_name n.quoted n)) n d v (Mark (codes "->")) h
+          (first_prints (is_sign (codes "->")) (arrow_var (range.Relations n)) (behind_name n.quoted n) always d true v (Mark (codes "->"))
+          (spaced (arrow_var (range.Relations n)) always d true (codes "->" ++ (32 ∷ x)) (Mark (codes "->")) (arrow_var_prints (range.Relations n) x k)) (λ p e. rw e refl)) refl)),
     )
 decl_printed (range.Attributes n m) x h k =
     let r = range.Attributes n m in
@@ -263,10 +263,10 @@ decl_printed (range.Attributes n m) x h k =
     let same : w ≡ declaration_text d = simp append_assoc in (
       name_first n.quoted n.text,
       same_text decl always d true w (declaration_text d) (name_first n.quoted n.text) same
-      (decl_named d w n.quoted n.text
-      (named_prints n m d v (Mark (codes "->")) h.0 h.1
-      (first_prints (is_sign (codes "->")) (arrow_var r) (by_next (is_sign (codes ".")) (column_var n m) (var (range.Tuples n m))) always d true v (Mark (codes "->"))
-      (spaced (arrow_var r) always d true (codes "->" ++ (32 ∷ x)) (Mark (codes "->")) (arrow_var_prints r x k)) (λ p e. rw e refl)) refl)),
+          (decl_named d w n.quoted n.text
+          (named_prints n m d v (Mark (codes "->")) h.0 h.1
+          (first_prints (is_sign (codes "->")) (arrow_var r) (by_next (is_sign (codes ".")) (column_var n m) (var (range.Tuples n m))) always d true v (Mark (codes "->"))
+          (spaced (arrow_var r) always d true (codes "->" ++ (32 ∷ x)) (Mark (codes "->")) (arrow_var_prints r x k)) (λ p e. rw e refl)) refl)),
     )
 decl_printed (range.Tuples n m) x h k =
     let r = range.Tuples n m in
@@ -275,11 +275,11 @@ decl_printed (range.Tuples n m) x h k =
     let same : w ≡ declaration_text d = simp append_assoc in (
       name_first n.quoted n.text,
       same_text decl always d true w (declaration_text d) (name_first n.quoted n.text) same
-      (decl_named d w n.quoted n.text
-      (named_prints n m d (32 ∷ x) (Ident x) h.0 h.1
-      (second_prints (is_sign (codes "->")) (arrow_var (range.Attributes n m)) (by_next (is_sign (codes ".")) (column_var n m) (var r)) always d true (32 ∷ x) (Ident x)
-      (second_prints (is_sign (codes ".")) (column_var n m) (var r) always d true (32 ∷ x) (Ident x)
-      (spaced (var r) always d true x (Ident x) (var_prints r x k)) (λ p e. rw e refl)) (λ p e. rw e refl)) refl)),
+          (decl_named d w n.quoted n.text
+          (named_prints n m d (32 ∷ x) (Ident x) h.0 h.1
+          (second_prints (is_sign (codes "->")) (arrow_var (range.Attributes n m)) (by_next (is_sign (codes ".")) (column_var n m) (var r)) always d true (32 ∷ x) (Ident x)
+          (second_prints (is_sign (codes ".")) (column_var n m) (var r) always d true (32 ∷ x) (Ident x)
+          (spaced (var r) always d true x (Ident x) (var_prints r x k)) (λ p e. rw e refl)) (λ p e. rw e refl)) refl)),
     )
 decl_printed (range.Values n m a) x h k =
     let r = range.Values n m a in
@@ -289,10 +289,10 @@ decl_printed (range.Values n m a) x h k =
     let same : w ≡ declaration_text d = simp append_assoc in (
       name_first n.quoted n.text,
       same_text decl always d true w (declaration_text d) (name_first n.quoted n.text) same
-      (decl_named d w n.quoted n.text
-      (named_prints n m d v (Mark (codes ".")) h.0 h.1
-      (second_prints (is_sign (codes "->")) (arrow_var (range.Attributes n m)) (by_next (is_sign (codes ".")) (column_var n m) (var (range.Tuples n m))) always d true v (Mark (codes "."))
-      (first_prints (is_sign (codes ".")) (column_var n m) (var (range.Tuples n m)) always d true v (Mark (codes ".")) (column_var_prints n m a x h.2 k) (λ p e. rw e refl)) (λ p e. rw e refl)) refl)),
+          (decl_named d w n.quoted n.text
+          (named_prints n m d v (Mark (codes ".")) h.0 h.1
+          (second_prints (is_sign (codes "->")) (arrow_var (range.Attributes n m)) (by_next (is_sign (codes ".")) (column_var n m) (var (range.Tuples n m))) always d true v (Mark (codes "."))
+          (first_prints (is_sign (codes ".")) (column_var n m) (var (range.Tuples n m)) always d true v (Mark (codes ".")) (column_var_prints n m a x h.2 k) (λ p e. rw e refl)) (λ p e. rw e refl)) refl)),
     )
 decl_printed (range.Alias t a) x h k =
     let r = range.Alias t a in
@@ -303,8 +303,8 @@ decl_printed (range.Alias t a) x h k =
     let same : w ≡ declaration_text d = simp append_assoc in (
       Ident t,
       same_text decl always d true w (declaration_text d) (Ident t) same
-      (decl_named d w false t
-      (behind_name_prints (λ n. by_next (is_sign (codes "->")) (arrow_var (range.Relations n)) (behind_name n.quoted n)) n d v (Mark (codes ".")) h.0
-      (second_prints (is_sign (codes "->")) (arrow_var (range.Relations n)) (behind_name false n) always d true v (Mark (codes "."))
-      (first_prints (is_sign (codes ".")) (cell_var t) (in_database n) always d true v (Mark (codes ".")) (cell_var_prints t a x h.1 k) (λ p e. rw e refl)) (λ p e. rw e refl)) refl)),
+          (decl_named d w false t
+          (behind_name_prints (λ n. by_next (is_sign (codes "->")) (arrow_var (range.Relations n)) (behind_name n.quoted n)) n d v (Mark (codes ".")) h.0
+          (second_prints (is_sign (codes "->")) (arrow_var (range.Relations n)) (behind_name false n) always d true v (Mark (codes "."))
+          (first_prints (is_sign (codes ".")) (cell_var t) (in_database n) always d true v (Mark (codes ".")) (cell_var_prints t a x h.1 k) (λ p e. rw e refl)) (λ p e. rw e refl)) refl)),
     )

@@ -76,8 +76,8 @@ module _ {A K B : Type 0} {R : K → K → Ordering} {E : K → K → Bool} (o :
     key_fits done h =
         let rest = entries_of (drop (from + count) xs) in
         let all : keys_of (entries_of xs) ≡ (keys_of done ++ key first ∷ []) ++ keys_of rest =
-          ap keys_of (sym (one_more_entry done h)) ∙ map-append (λ (e : K × B). e.0) (done ++ own_entry ∷ []) rest
-          ∙ ap (λ (ks : List K). ks ++ keys_of rest) (map-append (λ (e : K × B). e.0) done (own_entry ∷ [])) in
+        ap keys_of (sym (one_more_entry done h)) ∙ map-append (λ (e : K × B). e.0) (done ++ own_entry ∷ []) rest
+        ∙ ap (λ (ks : List K). ks ++ keys_of rest) (map-append (λ (e : K × B). e.0) done (own_entry ∷ [])) in
         strict_front R (keys_of done ++ key first ∷ []) (keys_of rest) (subst (IsStrictlySortedBy R) all (keys_ascend xs))
 
     pub some_count : 0 < count

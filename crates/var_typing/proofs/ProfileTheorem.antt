@@ -92,3 +92,26 @@ profile t q e w =
     by_fault : (f : Option TypeFault) → answered f (query_from t) ≡ Ok q → (f ≡ None) × (query_from t ≡ q)
     by_fault None h = (refl, cc)
     by_fault (Some f) h = absurd (cc)
+
+-- also of a tree that no text spells: there is a constant column, and each has its key
+columns_of_view : (t : Tree) → fault_of t ≡ None → (1 ≤ length (query_from t).constants) × (length (query_from t).keys ≡ length (query_from t).constants)
+columns_of_view t h =
+    let ds = t.decls in
+    let later = none_right (declarations_fault ds) _ h in
+    let header = none_left (header_fault t) _ later in
+    let after = none_right (header_fault t) _ later in
+    let count = counts t (none_left (count_fault t) _ after) in
+    let names = none_right (database_fault t.view_db.text (variable_named ds t.view_db)) _ header in
+    let columns = none_right (label_fault ds t.label.text (variable_named ds t.label)) _ names in
+    let as_many = count ∙ sym (length-map t.select (typed_term ds)) in
+    (some_constant ds t.columns columns, keys_many ds t.columns columns (map (typed_term ds) t.select) as_many)
+
+pub has_columns : (t : Tree) (q : Query) → typed t ≡ Ok q → (1 ≤ length q.constants) × (length q.keys ≡ length q.constants)
+unfolding typed
+has_columns t q e =
+    let (none, is) = by_fault (fault_of t) e in
+    subst (λ (p : Query). (1 ≤ length p.constants) × (length p.keys ≡ length p.constants)) is (columns_of_view t none)
+  where
+    by_fault : (f : Option TypeFault) → answered f (query_from t) ≡ Ok q → (f ≡ None) × (query_from t ≡ q)
+    by_fault None h = (refl, cc)
+    by_fault (Some f) h = absurd (cc)

@@ -1,5 +1,5 @@
 //! A whole view.
-ghost use Rattle.std.specs.Prelude.{◌≡◌, ◌≢◌, ◌++◌, ◌<◌, length, slice_get, option_and_then, vec_len, Ok, Err, IfOk, IfErr};
+ghost use Rattle.std.specs.Prelude.{◌≡◌, ◌≤◌, ◌≢◌, ◌++◌, ◌<◌, length, slice_get, option_and_then, vec_len, Ok, Err, IfOk, IfErr};
 ghost use Rattle.std.specs.Option.{ForSome};
 ghost use Rattle.view_def.specs.Profile.{IsViewOfProfile};
 ghost use Rattle.view_def.specs.Query.{query_of};
@@ -38,6 +38,8 @@ struct Body {
 pub fn type_view(alloc: Global, view: &ViewText) -> Result<View, TypeFault>
     ensures view { IfOk result (λ v. typed (tree_of view.now) ≡ Ok (query_of v)) }
     ensures profile { IfOk result (λ v. IsWritten (tree_of view.now) → IsViewOfProfile (query_of v)) }
+    ensures constants { IfOk result (λ v. 1 ≤ length (query_of v).constants) }
+    ensures keys { IfOk result (λ v. length (query_of v).keys ≡ length (query_of v).constants) }
     ensures refused { IfErr result (λ f. f ≢ fault.NoMemory → typed (tree_of view.now) ≡ Err f) }
 {
     let decls = view.decls.as_slice();

@@ -3,7 +3,7 @@ use Rattle.std.specs.Prelude.{Ok}
 use Rattle.std.proofs.lemmas.Result.{err_from_is_err_and}
 use Rattle.view_def.specs.Query.{Query, query_of}
 use Rattle.view_def.specs.Tree.{tree_of}
-use Rattle.var_typing.proofs.ProfileTheorem.{profile}
+use Rattle.var_typing.proofs.ProfileTheorem.{profile, has_columns}
 use Rattle.var_typing.proofs.TypedLemmas.{declarations_refused, header_refused, body_refused, view_typed, spot_within}
 use Rattle.var_typing.proofs.view.type_view.Goals as goal
 
@@ -38,3 +38,9 @@ returns-clause-view c = is_typed c
 
 pub returns-clause-profile : goal.returns-clause-profile
 returns-clause-profile c = profile (tree_of c.args.view.now) (query_of c.in_ok-view_of.field-0) (is_typed c)
+
+pub returns-clause-constants : goal.returns-clause-constants
+returns-clause-constants c = (has_columns (tree_of c.args.view.now) (query_of c.view_of.result) (is_typed c)).0
+
+pub returns-clause-keys : goal.returns-clause-keys
+returns-clause-keys c = (has_columns (tree_of c.args.view.now) (query_of c.view_of.result) (is_typed c)).1
