@@ -1,5 +1,5 @@
 -- Groups of lines of one table: rows and columns that go, columns and rows that come.
-use Rattle.std.proofs.Common.{◌≡◌, ◌∷◌, ◌++◌, [], ℕ, Bool, true, false, List, refl, sym, ◌∙◌, ap, subst, map}
+use Rattle.std.proofs.Common.{◌≡◌, ◌∷◌, ◌++◌, [], Bool, true, false, List, refl, ◌∙◌, ap, map}
 use Rattle.std.specs.Prelude.{not, ◌&&◌, ◌||◌}
 use Rattle.std.specs.List.{AllByRecursion, list_any}
 use Rattle.std.specs.List.Sorted.{IsStrictlySortedBy}
@@ -92,8 +92,8 @@ module _ (label : Text) where
         has_columns = rest.has_columns;
         has_keys = λ q. rest.has_keys q ∙ ap (λ b. b && not (list_any (row_eq q) ks)) (row_minus_keys t k q ∙ ap (λ b. has_key q t && not b) (turned row_order k q)) ∙ not_either (has_key q t) (row_eq q k) (list_any (row_eq q) ks);
         cells = λ q c stays.
-        let apart = neither (row_eq q k) (list_any (row_eq q) ks) stays in
-        rest.cells q c apart.second ∙ row_minus_cells t k q c apart.first;
+            let apart = neither (row_eq q k) (list_any (row_eq q) ks) stays in
+            rest.cells q c apart.second ∙ row_minus_cells t k q c apart.first;
       }
 
   columns_stay : (x : Text) (xs : Row) (t : TableValue) → IsTable t → has_column x t ≡ true → AllByRecursion (λ y. text_cmp x y ≡ Less) xs → AllByRecursion (λ y. has_column y t ≡ true) xs → AllByRecursion (λ y. has_column y (without_column x t) ≡ true) xs
@@ -114,8 +114,8 @@ module _ (label : Text) where
         has_columns = λ c. rest.has_columns c ∙ ap (λ b. b && not (is_in c xs)) (column_minus_columns t x c h there.0 ∙ ap (λ b. has_column c t && not b) (turned text_order x c)) ∙ not_either (has_column c t) (text_eq c x) (is_in c xs);
         has_keys = λ q. rest.has_keys q ∙ ap (list_any (row_eq q)) (column_minus_keys t x);
         cells = λ q c stays.
-        let apart = neither (text_eq c x) (is_in c xs) stays in
-        rest.cells q c apart.second ∙ column_minus_cells t x q c h there.0 apart.first;
+            let apart = neither (text_eq c x) (is_in c xs) stays in
+            rest.cells q c apart.second ∙ column_minus_cells t x q c h there.0 apart.first;
       }
 
   columns_absent : (x : Text) (xs : Row) (t : TableValue) → AllByRecursion (λ y. text_cmp x y ≡ Less) xs → AllByRecursion (λ y. has_column y t ≡ false) xs → AllByRecursion (λ y. has_column y (with_column x t) ≡ false) xs
