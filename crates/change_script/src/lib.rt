@@ -4,8 +4,10 @@
 //! values of tables takes the old one to the new one. It knows nothing of facts, of views or of files.
 #![tactic(auto)]
 
+mod law;
 mod printed;
 mod script;
 
+pub use law::script_takes_old_to_new;
 pub use printed::script_lines;
 pub use script::Script;

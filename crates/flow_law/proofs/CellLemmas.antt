@@ -1,13 +1,13 @@
 -- The cells of a row, as their columns find them.
-use Rattle.std.proofs.Common.{◌≡◌, ◌<◌, ◌≤◌, ◌+◌, ◌∷◌, [], ℕ, Bool, true, false, cond, List, Option, Some, None, refl, sym, ◌∙◌, ap, subst, zero, suc, length, map, arith, replicate, slice_set}
+use Rattle.std.proofs.Common.{◌≡◌, ◌≤◌, ◌∷◌, [], ℕ, Bool, true, false, cond, Option, Some, None, refl, sym, ◌∙◌, ap, subst, zero, suc, length, map, arith, replicate, slice_set}
 use Rattle.std.specs.Prelude.{◌||◌, insert, remove, unwrap_or}
-use Rattle.std.specs.List.{AllByRecursion, list_any, zip}
+use Rattle.std.specs.List.{zip}
 use Rattle.std.specs.List.Sorted.{IsStrictlySortedBy}
 use Rattle.std.specs.Map.{lookup}
 use Rattle.std.proofs.lemmas.Bool.{false≢true}
 use Rattle.ss_text.specs.Texts.{Text, Row, text_eq, text_cmp, is_in}
-use Rattle.ss_text.specs.Keys.{IsPlaceOf, IsPlaceFor}
-use Rattle.ss_text.proofs.KeyLemmas.{text_order, equal_itself, equal_is, Lacks, lacks_after, earlier_differs, at_tail, lacks_for}
+use Rattle.ss_text.specs.Keys.{IsPlaceOf}
+use Rattle.ss_text.proofs.KeyLemmas.{text_order, equal_itself, equal_is, Lacks, lacks_after, earlier_differs, at_tail}
 use Rattle.ss_text.proofs.PairLemmas.{turned}
 use Rattle.flow_law.specs.Tables.{cell_in}
 

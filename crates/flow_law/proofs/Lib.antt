@@ -7,3 +7,4 @@ pub mod CellLemmas
 pub mod StepLemmas
 pub mod GroupLemmas
 pub mod TableScript
+pub mod ScriptLaw

@@ -1,21 +1,21 @@
 -- What one line changes in a table: its columns, its keys and its cells.
-use Rattle.std.proofs.Common.{◌≡◌, ◌<◌, ◌≤◌, ◌+◌, ◌∷◌, [], ℕ, Bool, true, false, cond, List, Option, Some, None, refl, sym, ◌∙◌, ap, subst, zero, suc, length, map, arith, replicate, slice_set}
+use Rattle.std.proofs.Common.{◌≡◌, ◌∷◌, [], ℕ, Bool, true, false, cond, List, Option, Some, None, refl, sym, ◌∙◌, ap, subst, zero, suc, length, map, replicate, slice_set}
 use Rattle.std.specs.Prelude.{not, ◌&&◌, ◌||◌, insert, remove, filter, unwrap_or, option_map, is_some}
 use Rattle.std.specs.List.{AllByRecursion, list_any}
 use Rattle.std.specs.Map.{lookup, keys_of}
 use Rattle.std.proofs.lemmas.Bool.{false≢true}
-use Rattle.ss_text.specs.Texts.{Text, Row, text_eq, text_cmp, row_eq, row_cmp, is_in}
+use Rattle.ss_text.specs.Texts.{Text, Row, text_eq, row_eq, row_cmp, is_in}
 use Rattle.std.specs.declared.cmp.Ordering.TheVariants.{Less, Equal, Greater}
 use Rattle.ss_text.specs.Ascending.{by_order, with_element}
 use Rattle.ss_text.specs.Places.{changed_where}
-use Rattle.ss_text.specs.Keys.{IsPlaceOf, IsPlaceFor}
+use Rattle.ss_text.specs.Keys.{IsPlaceOf}
 use Rattle.ss_text.proofs.KeyLemmas.{text_order, row_order, removed_at, place_there, place_missing, Lacks, lacks_for, lookup_lacks, equal_is}
-use Rattle.ss_text.proofs.PairLemmas.{turned, lookup_kept, lookup_mapped, lookup_changed, lookup_inserted, any_filtered, any_with, found_any, same_keys, same_pairs}
+use Rattle.ss_text.proofs.PairLemmas.{lookup_kept, lookup_mapped, lookup_changed, lookup_inserted, any_filtered, any_with, found_any, same_keys, same_pairs}
 use Rattle.flow_law.specs.Tables.{TableValue, table_value, key_of, row_keys, cell_in, cells_of, cell_of}
 use Rattle.flow_law.specs.InOrder.{IsTable}
-use Rattle.flow_law.specs.Lines.{without_row, with_row, without_column, with_column, with_cell, with_cell_at, without_cell, with_empty_cell, column_place, by_key, has_row, has_column}
+use Rattle.flow_law.specs.Lines.{without_row, with_row, without_column, with_column, with_cell, with_cell_at, column_place, by_key, has_row, has_column}
 use Rattle.flow_law.proofs.TableLemmas.{own_keys, column_removed, column_placed, row_placed, place_of_column}
-use Rattle.flow_law.proofs.CellLemmas.{Missing, missing, cell_of_none, cell_of_empty, cell_kept, cell_with_column, cell_written, same_cells, found_none}
+use Rattle.flow_law.proofs.CellLemmas.{missing, cell_of_none, cell_of_empty, cell_kept, cell_with_column, cell_written, same_cells, found_none}
 
 -- whether a key is there
 abbrev pub has_key : Row → TableValue → Bool

@@ -1,16 +1,14 @@
 -- The lines for one table take the old one to the new one, each fitting.
-use Rattle.std.proofs.Common.{◌≡◌, ◌∷◌, ◌++◌, [], ℕ, Bool, true, false, cond, List, Option, Some, None, refl, sym, ◌∙◌, ap, subst, map, inl, inr}
-use Rattle.std.specs.Prelude.{not, ◌&&◌, ◌||◌, ◌⊎◌, filter, flat_map, if◌then◌else◌}
+use Rattle.std.proofs.Common.{◌≡◌, ◌∷◌, ◌++◌, [], Bool, true, false, cond, List, Some, None, refl, sym, ◌∙◌, ap, subst, map, inl, inr}
+use Rattle.std.specs.Prelude.{not, ◌&&◌, ◌||◌, ◌⊎◌, flat_map, if◌then◌else◌}
 use Rattle.std.specs.List.{AllByRecursion, list_any, filter_map, cons_option}
-use Rattle.std.specs.List.Sorted.{IsStrictlySortedBy}
-use Rattle.std.proofs.lemmas.Bool.{false≢true}
 use Rattle.std.proofs.lemmas.List.Kept.{IsStrictlySortedBy-filter}
 use Rattle.ss_text.specs.Texts.{Text, Row, text_eq, text_cmp, row_eq, row_cmp, is_in}
 use Rattle.ss_text.proofs.KeyLemmas.{text_order, row_order, equal_is, equal_itself}
 use Rattle.ss_text.proofs.PairLemmas.{any_filtered, each_found, found_each}
 use Rattle.flow_law.specs.Tables.{TableValue, row_keys, cell_of}
 use Rattle.flow_law.specs.InOrder.{IsTable}
-use Rattle.flow_law.specs.Lines.{with_cell, has_row, has_column, fits_table, table_after}
+use Rattle.flow_law.specs.Lines.{with_cell, has_row, has_column}
 use Rattle.flow_law.specs.Script.{columns_beyond, keys_beyond, cell_line, changed}
 use Rattle.flow_law.specs.declared.line.TableLine.{TableLine}
 use Rattle.flow_law.specs.declared.line.TableLine.TheVariants.{RowMinus, ColumnMinus, ColumnPlus, RowPlus, Cell}

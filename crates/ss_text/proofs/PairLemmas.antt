@@ -137,7 +137,7 @@ module _ {K : Type 0} {R : K → K → Ordering} {E : K → K → Bool} (o : IsK
             absurd (cc (second, h y.0, none_behind y.0 (x ∷ xs) (lt, before_all y.0 x.0 xs lt s.0)))
 
   -- ascending lists that tests see alike are the same
-  any_behind : (k : K) (ks : List K) → AllByRecursion (λ j. R k j ≡ Less) ks → list_any (E k) ks ≡ false
+  pub any_behind : (k : K) (ks : List K) → AllByRecursion (λ j. R k j ≡ Less) ks → list_any (E k) ks ≡ false
   any_behind k [] h = refl
   any_behind k (j ∷ js) h = rw (turned k j ∙ less_differs o k j h.0) (any_behind k js h.1)
 
