@@ -510,3 +510,110 @@ ending_prints (Some c) h =
     (spaced (key (codes "where")) always tt false (codes "WHERE ") (Key (codes "where")) where_prints)
     (then_prints_all (any (unit 64)) (λ c. end >>= λ _. gives (Some c)) after_any c (Some c) true (condition_text c) (codes "\n") a.0 Finish a.1
     (mapped_prints_all end (λ _. Some c) tt (codes "\n") Finish end_prints) (λ pc k. rw k refl) (λ _. refl)) (λ _ _. refl) (λ e. absurd (cc))) (λ pc k. rw k refl))
+
+-- the header
+abbrev columns_text : List Name → Text
+columns_text ns = join_by name_text (codes ", ") ns
+
+columns_prints : (ns : List Name) → SomeEach GoodName ns → Prints columns always ns false (codes "(" ++ (columns_text ns ++ codes ")")) (Mark (codes "("))
+columns_prints ns h =
+    let a = names_printed ns h in
+    behind_sign (codes "(") (some name >>= λ cs. sign (codes ")") >>= λ _. gives cs) always ns false (codes "(") (columns_text ns ++ codes ")") (Mark (codes "(")) a.0 open_prints
+    (then_prints (some name) (λ cs. sign (codes ")") >>= λ _. gives cs) (after_comma always) always ns ns true false (columns_text ns) (codes ")") a.0 (Mark (codes ")")) a.1
+    (mapped_prints (sign (codes ")")) (λ _. ns) always tt false (codes ")") (Mark (codes ")")) close_prints) (λ pc k. rw k refl) (λ _. refl))
+
+module _ (db label : Name) (ns : List Name) (h : GoodName db) (g : GoodName label) (e : SomeEach GoodName ns) where
+  abbrev the_head : Head
+  the_head = head_of db label ns
+
+  abbrev from_label : Text
+  from_label = name_text label ++ (codes "(" ++ (columns_text ns ++ codes ")"))
+
+  abbrev target_text : Text
+  target_text = name_text db ++ (codes "::" ++ (name_text label ++ (codes "(" ++ (columns_text ns ++ codes ")"))))
+
+  label_prints : Prints (name >>= λ label. columns >>= λ cs. gives (head_of db label cs)) always (head_of db label ns) false (name_text label ++ (codes "(" ++ (columns_text ns ++ codes ")"))) (name_first label.quoted label.text)
+  label_prints =
+      then_prints name (λ label. columns >>= λ cs. gives (head_of db label cs)) always always label (head_of db label ns) true false (name_text label) (codes "(" ++ (columns_text ns ++ codes ")")) (name_first label.quoted label.text) (Mark (codes "(")) (name_prints label g)
+      (mapped_prints columns (λ cs. head_of db label cs) always ns false (codes "(" ++ (columns_text ns ++ codes ")")) (Mark (codes "(")) (columns_prints ns e)) (λ _ _. refl) (λ _. refl)
+
+  target_prints : Prints target always (head_of db label ns) false (name_text db ++ (codes "::" ++ (name_text label ++ (codes "(" ++ (columns_text ns ++ codes ")"))))) (name_first db.quoted db.text)
+  target_prints =
+      then_prints name (λ db. sign (codes "::") >>= λ _. name >>= λ label. columns >>= λ cs. gives (head_of db label cs)) always always db (head_of db label ns) true false (name_text db) (codes "::" ++ (name_text label ++ (codes "(" ++ (columns_text ns ++ codes ")")))) (name_first db.quoted db.text) (Mark (codes "::")) (name_prints db h)
+      (behind_sign (codes "::") (name >>= λ label. columns >>= λ cs. gives (head_of db label cs)) always (head_of db label ns) false (codes "::") (name_text label ++ (codes "(" ++ (columns_text ns ++ codes ")"))) (Mark (codes "::")) (name_first label.quoted label.text) colons_prints label_prints) (λ _ _. refl) (λ _. refl)
+
+  abbrev the_header_text : Text
+  the_header_text = codes "CREATE " ++ (codes "VIEW " ++ ((name_text db ++ (codes "::" ++ (name_text label ++ (codes "(" ++ (columns_text ns ++ codes ")"))))) ++ (32 ∷ codes "AS ")))
+
+  header_prints : Prints header always (head_of db label ns) false (codes "CREATE " ++ (codes "VIEW " ++ ((name_text db ++ (codes "::" ++ (name_text label ++ (codes "(" ++ (columns_text ns ++ codes ")"))))) ++ (32 ∷ codes "AS ")))) (Key (codes "create"))
+  header_prints =
+      let head = head_of db label ns in
+      let t = name_text db ++ (codes "::" ++ (name_text label ++ (codes "(" ++ (columns_text ns ++ codes ")")))) in
+      let v = t ++ (32 ∷ codes "AS ") in
+      behind_key (codes "create") (key (codes "view") >>= λ _. target >>= λ h. key (codes "as") >>= λ _. gives h) always head false (codes "CREATE ") (codes "VIEW " ++ v) (Key (codes "create")) (Key (codes "view")) create_prints
+      (behind_key (codes "view") (target >>= λ h. key (codes "as") >>= λ _. gives h) always head false (codes "VIEW ") v (Key (codes "view")) (name_first db.quoted db.text) view_prints
+      (then_prints target (λ h. key (codes "as") >>= λ _. gives h) always always head head false false t (32 ∷ codes "AS ") (name_first db.quoted db.text) (Key (codes "as")) target_prints
+      (mapped_prints (key (codes "as")) (λ _. head) always tt false (32 ∷ codes "AS ") (Key (codes "as")) (spaced (key (codes "as")) always tt false (codes "AS ") (Key (codes "as")) as_prints)) (λ _ _. refl) (λ e. absurd (cc))))
+
+-- the query
+selection_prints : (ts : List RawTerm) → SomeEach GoodTerm ts → Prints selection (after_comma after_term) ts true (codes "SELECT " ++ join_by term_text (codes ", ") ts) (Key (codes "select"))
+selection_prints ts h =
+    let a = terms_printed ts h in
+    behind_key (codes "select") (some a_term) (after_comma after_term) ts true (codes "SELECT ") (join_by term_text (codes ", ") ts) (Key (codes "select")) a.0 select_prints a.1
+
+declarations_prints : (ds : List RawDecl) → SomeEach GoodDecl ds → Prints declarations (after_comma always) ds true (codes "FROM " ++ join_by declaration_text (codes ", ") ds) (Key (codes "from"))
+declarations_prints ds h =
+    let a = decls_printed ds h in
+    behind_key (codes "from") (some decl) (after_comma always) ds true (codes "FROM ") (join_by declaration_text (codes ", ") ds) (Key (codes "from")) a.0 from_prints a.1
+
+ending_fits : (c : Option Raw) (p : Piece) → p.says ≡ ending_first c → after_comma always (Some p) ≡ true
+ending_fits None p e = rw e refl
+ending_fits (Some c) p e = rw e refl
+
+ending_breaks : (c : Option Raw) → breaks (ending_text c) ≡ true
+ending_breaks None = refl
+ending_breaks (Some c) = refl
+
+-- a whole view
+built_text : Text → Text → Text → Text → Text → Text → Text
+built_text db label cs ts ds e =
+    (codes "CREATE " ++ (codes "VIEW " ++ ((db ++ (codes "::" ++ (label ++ (codes "(" ++ (cs ++ codes ")"))))) ++ (32 ∷ codes "AS "))))
+    ++ ((codes "SELECT " ++ ts) ++ ((32 ∷ (codes "FROM " ++ ds)) ++ (e ++ codes "\n")))
+
+printed_text : Text → Text → Text → Text → Text → Text → Text
+printed_text db label cs ts ds e =
+    codes "CREATE VIEW " ++ (((db ++ codes "::") ++ label) ++ codes "(" ++ cs ++ codes ")") ++ codes " AS " ++ (codes "SELECT " ++ ts ++ codes " FROM " ++ ds ++ e) ++ codes "\n"
+
+built_is_printed : (db label cs ts ds e : Text) → built_text db label cs ts ds e ≡ printed_text db label cs ts ds e
+unfolding built_text printed_text
+built_is_printed db label cs ts ds e = simp append_assoc
+
+print_is : (t : Tree) → print t ≡ printed_text (name_text t.view_db) (name_text t.label) (columns_text t.columns) (join_by term_text (codes ", ") t.select) (join_by declaration_text (codes ", ") t.decls) (filter_text t.condition)
+unfolding print printed_text
+print_is t = refl
+
+view_prints_all : (t : Tree) → GoodTree t → PrintsAll (view 64) t (print t) (Key (codes "create"))
+unfolding built_text
+view_prints_all t g =
+    let h = head_of t.view_db t.label t.columns in
+    let ts = codes "SELECT " ++ join_by term_text (codes ", ") t.select in
+    let ds = 32 ∷ (codes "FROM " ++ join_by declaration_text (codes ", ") t.decls) in
+    let w = codes "CREATE " ++ (codes "VIEW " ++ ((name_text t.view_db ++ (codes "::" ++ (name_text t.label ++ (codes "(" ++ (columns_text t.columns ++ codes ")"))))) ++ (32 ∷ codes "AS "))) in
+    let e = ending_text t.condition in
+    let same = built_is_printed (name_text t.view_db) (name_text t.label) (columns_text t.columns) (join_by term_text (codes ", ") t.select) (join_by declaration_text (codes ", ") t.decls) (filter_text t.condition) ∙ sym (print_is t) in
+    subst (λ (v : Text). PrintsAll (view 64) t v (Key (codes "create"))) same
+    (then_prints_all header (λ h. selection >>= λ select. declarations >>= λ decls. ending 64 >>= λ c. gives (tree_with h select decls c)) always h t false w (ts ++ (ds ++ e)) (Key (codes "create")) (Key (codes "select"))
+    (header_prints t.view_db t.label t.columns g.view_db g.label g.columns)
+    (then_prints_all selection (λ select. declarations >>= λ decls. ending 64 >>= λ c. gives (tree_with h select decls c)) (after_comma after_term) t.select t true ts (ds ++ e) (Key (codes "select")) (Key (codes "from"))
+    (selection_prints t.select g.select)
+    (then_prints_all declarations (λ decls. ending 64 >>= λ c. gives (tree_with h t.select decls c)) (after_comma always) t.decls t true ds e (Key (codes "from")) (ending_first t.condition)
+    (spaced declarations (after_comma always) t.decls true (codes "FROM " ++ join_by declaration_text (codes ", ") t.decls) (Key (codes "from")) (declarations_prints t.decls g.decls))
+    (mapped_prints_all (ending 64) (λ c. tree_with h t.select t.decls c) t.condition e (ending_first t.condition) (ending_prints t.condition g.condition))
+    (ending_fits t.condition) (λ _. ending_breaks t.condition)) (λ pc k. rw k refl) (λ _. refl)) (λ _ _. refl) (λ k. absurd (cc)))
+
+-- what is read from a text, printed, is read again
+pub round_trip : (bytes : List ℕ) (t : Tree) → IsRead bytes t → IsRead (print t) t
+unfolding AreView
+round_trip bytes t r =
+    let a = view_prints_all t (good_tree bytes t r) in
+    a.reads (pieces (print t)) (pieces_say (print t) (Key (codes "create") ∷ a.others) (sym (says_all (print t)) ∙ a.lexes []))
