@@ -23,6 +23,8 @@ use Rattle.view_def.specs.declared.typed.Term.{Term}
 use Rattle.valuation_meaning.specs.Elements.{Valuation}
 use Rattle.valuation_meaning.specs.Valuations.{valuations}
 use Rattle.valuation_meaning.specs.Meaning.{facts, fact_of, values_of, shape_of, meaning}
+use Rattle.valuation_meaning.specs.Refusal.{refusal, first_fault}
+use Rattle.valuation_meaning.specs.declared.evaluation.EvalFault.TheVariants as fault
 use Rattle.view_folder.specs.declared.file.File.{File}
 use Rattle.view_folder.specs.Files.{AreViewFiles, is_csv_name, is_named}
 use Rattle.view_folder.specs.TableFiles.{table_files, table_file, FitsShape, FitShape}
@@ -117,14 +119,33 @@ meaning_fits c q h =
     all_mapped (λ (p : Text × TableValue). FitsShape (shape_of q) p.1) (λ label. (label, fact_table (facts_of label (facts c q)))) (ascending text_cmp (option_to_list (shape_of q).label ++ map (λ (f : Fact). f.label) (facts c q)))
     (λ label. record { some = h.columns; keys = table_keyed (facts_of label (facts c q)) (each_filtered (λ (f : Fact). f.key ≢ []) (λ (f : Fact). text_eq label f.label) (facts c q) (facts_keyed c q h.terms)) })
 
-pub not_refused : (c : CatalogueValue) (q : Query) → illegal (shape_of q) (facts c q) ≡ None → conflict (facts c q) ≡ None → refusal_of c q ≡ None
-unfolding refusal_of
-not_refused c q i k = rw (i, k) refl
+-- the fields of a refusal, where the first fault is known
+fields : Option IllegalLabel → Option Clash → Option Row
+fields label clash = option_or (option_map illegal_fields label) (option_map clash_fields clash)
 
-pub refused_label : (c : CatalogueValue) (q : Query) (e : IllegalLabel) → illegal (shape_of q) (facts c q) ≡ Some e → refusal_of c q ≡ Some (illegal_fields e)
-unfolding refusal_of
-refused_label c q e i = rw i refl
+no_fault : (i : Option IllegalLabel) (k : Option Clash) → first_fault i k ≡ None → fields i k ≡ None
+no_fault None None h = refl
+no_fault None (Some clash) h = absurd (cc)
+no_fault (Some label) k h = absurd (cc)
 
-pub refused_clash : (c : CatalogueValue) (q : Query) (e : Clash) → illegal (shape_of q) (facts c q) ≡ None → conflict (facts c q) ≡ Some e → refusal_of c q ≡ Some (clash_fields e)
-unfolding refusal_of
-refused_clash c q e i k = rw (i, k) refl
+label_fault : (i : Option IllegalLabel) (k : Option Clash) (e : IllegalLabel) → first_fault i k ≡ Some (fault.Illegal e) → fields i k ≡ Some (illegal_fields e)
+label_fault None None e h = absurd (cc)
+label_fault None (Some clash) e h = absurd (cc)
+label_fault (Some label) k e h = cc
+
+clash_fault : (i : Option IllegalLabel) (k : Option Clash) (e : Clash) → first_fault i k ≡ Some (fault.Conflict e) → fields i k ≡ Some (clash_fields e)
+clash_fault None None e h = absurd (cc)
+clash_fault None (Some clash) e h = cc
+clash_fault (Some label) k e h = absurd (cc)
+
+pub not_refused : (c : CatalogueValue) (q : Query) → refusal c q ≡ None → refusal_of c q ≡ None
+unfolding refusal_of refusal
+not_refused c q = no_fault (illegal (shape_of q) (facts c q)) (conflict (facts c q))
+
+pub refused_label : (c : CatalogueValue) (q : Query) (e : IllegalLabel) → refusal c q ≡ Some (fault.Illegal e) → refusal_of c q ≡ Some (illegal_fields e)
+unfolding refusal_of refusal
+refused_label c q = label_fault (illegal (shape_of q) (facts c q)) (conflict (facts c q))
+
+pub refused_clash : (c : CatalogueValue) (q : Query) (e : Clash) → refusal c q ≡ Some (fault.Conflict e) → refusal_of c q ≡ Some (clash_fields e)
+unfolding refusal_of refusal
+refused_clash c q = clash_fault (illegal (shape_of q) (facts c q)) (conflict (facts c q))

@@ -7,7 +7,7 @@ use Rattle.course.specs.declared.status.Verdict.{Verdict}
 use Rattle.course.specs.declared.status.Verdict.TheVariants as verdict
 use Rattle.course.specs.declared.status.Halt.{Halt}
 use Rattle.course.specs.declared.status.Halt.TheVariants as halt
-use Rattle.course.specs.Lines.{lines_of, whole_lines}
+use Rattle.tab_lines.specs.Lines.{lines_of, whole_lines}
 use Rattle.course.specs.Machine.{Reply, Goes, Halts, Ending, Ended, follow, course}
 use Rattle.ss_top.specs.declared.status.Status.{Status}
 use Rattle.ss_top.specs.declared.status.Status.TheVariants as status

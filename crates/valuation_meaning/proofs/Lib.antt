@@ -9,3 +9,5 @@ pub mod TableRows
 pub mod Entries
 pub mod ConflictLemmas
 pub mod RefusedLemmas
+pub mod SameFacts
+pub mod EvalLemmas

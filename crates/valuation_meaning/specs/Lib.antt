@@ -10,3 +10,4 @@ pub mod Listing
 pub mod Cells
 pub mod Labelled
 pub mod Neighbours
+pub mod Refusal

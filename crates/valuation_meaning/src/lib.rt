@@ -1,8 +1,13 @@
-//! The plain meaning of a view.
+//! The plain meaning of a view: its tables, over the whole catalogue.
+//!
+//! Its contract: `evaluate` gives the tables of the facts of a view, one fact for each assignment of rows and
+//! names to its declarations that counts, or the illegal label or the conflict for which the view is refused.
+//! It knows nothing of the text of views, of changes, or of how tables are kept up to date or printed.
 #![tactic(auto)]
 
 mod column;
 mod element;
+mod evaluation;
 mod fact;
 mod label;
 mod listing;
@@ -13,12 +18,4 @@ mod tables;
 mod truth;
 mod value;
 
-ghost use Rattle.std.specs.Prelude.{◌≡◌};
-ghost use Rattle.schema_model.specs.Catalogue.{CatalogueValue};
-ghost use Rattle.view_def.specs.Query.{Query};
-ghost use Rattle.valuation_meaning.specs.Meaning.{facts, meaning};
-
-/// Cites the definitions, so that they are checked.
-pub fn cites()
-    ensures { (c : CatalogueValue) (q : Query) → (facts c q ≡ facts c q) × (meaning c q ≡ meaning c q) }
-{}
+pub use evaluation::{EvalFault, evaluate};

@@ -40,7 +40,7 @@ pub returns-clause-profile : goal.returns-clause-profile
 returns-clause-profile c = profile (tree_of c.args.view.now) (query_of c.in_ok-view_of.field-0) (is_typed c)
 
 pub returns-clause-constants : goal.returns-clause-constants
-returns-clause-constants c = (has_columns (tree_of c.args.view.now) (query_of c.view_of.result) (is_typed c)).0
+returns-clause-constants c = (has_columns (tree_of c.args.view.now) (query_of c.in_ok-view_of.field-0) (is_typed c)).0
 
 pub returns-clause-keys : goal.returns-clause-keys
-returns-clause-keys c = (has_columns (tree_of c.args.view.now) (query_of c.view_of.result) (is_typed c)).1
+returns-clause-keys c = (has_columns (tree_of c.args.view.now) (query_of c.in_ok-view_of.field-0) (is_typed c)).1

@@ -1,0 +1,35 @@
+PROGRAM = crates/schemasql_cli/out/schemasql_cli
+PREFIX = /usr/local
+SOURCES = $(wildcard crates.txt crates/*/src/*.rt crates/*/src/*/*.rt crates/*/specs/*.antt crates/*/proofs/*.antt)
+
+# Builds the proved program.
+all: $(PROGRAM)
+
+$(PROGRAM): $(SOURCES)
+	rm -f $@
+	rt run schemasql_cli > build.log 2>&1; test -x $@ || (cat build.log; exit 1)
+	rm -f build.log
+
+# Shows the three offices' data in one another's form.
+demo: $(PROGRAM)
+	examples/offices/run $(PROGRAM)
+
+# The one test command: the gate.
+test:
+	.ci/run
+
+# A quick check while working: proves what has changed, and builds no program.
+check:
+	rt all check
+
+# The program on each end-to-end case.
+cases: $(PROGRAM)
+	cases/run
+
+install: $(PROGRAM)
+	install -D $(PROGRAM) $(DESTDIR)$(PREFIX)/bin/schemasql
+
+clean:
+	rm -rf crates/*/out build.log
+
+.PHONY: all demo test check cases install clean
