@@ -1,14 +1,14 @@
 -- The files of a database: their limit, and the order of their relations.
-use Rattle.std.proofs.Common.{◌≡◌, ◌≢◌, ◌<◌, ◌≤◌, ◌-◌, ◌∷◌, ◌++◌, ◌∙◌, [], ℕ, List, Bool, true, false, Option, Some, None, refl, sym, ap, subst, length, map, drop, arith, inl, inr}
-use Rattle.std.specs.Prelude.{filter, nat_lt, codes, option_map, unwrap_or, ◌&&◌}
-use Rattle.std.specs.List.{AllByRecursion, cons_option}
+use Rattle.std.proofs.Common.{◌≡◌, ◌≢◌, ◌<◌, ◌≤◌, ◌-◌, ◌∷◌, ◌++◌, ◌∙◌, [], ℕ, List, true, Option, Some, None, refl, sym, ap, subst, length, map, drop}
+use Rattle.std.specs.Prelude.{filter, codes, option_map, unwrap_or}
+use Rattle.std.specs.List.{AllByRecursion, cons_option, list_all}
 use Rattle.std.specs.List.Sorted.{IsStrictlySortedBy}
 use Rattle.std.specs.Ordering.{ordering_reverse}
 use Rattle.std.specs.Cmp.{IsTotalOrder}
 use Rattle.std.specs.declared.cmp.Ordering.{Ordering}
 use Rattle.std.specs.declared.cmp.Ordering.TheVariants.{Less, Equal, Greater}
-use Rattle.std.proofs.lemmas.Bool.{cases_Bool}
-use Rattle.std.proofs.lemmas.Bool.Decides.{nat_tests}
+use Rattle.std.proofs.lemmas.Bool.{and_parts, le-ltb, lt-ltb}
+use Rattle.std.proofs.lemmas.List.Kept.{IsStrictlySortedBy-filter}
 use Rattle.std.proofs.lemmas.List.{take-append-drop}
 use Rattle.std.proofs.lemmas.Map.Lookups.{exact_bytes}
 use Rattle.std.proofs.lemmas.Slice.Eq.{bytes_eq-Decides}
@@ -17,39 +17,15 @@ use Rattle.std.specs.Cmp.Lexicographic.{nat_list_cmp_total}
 use Rattle.ss_text.specs.Texts.{Text, text_cmp}
 use Rattle.ss_text.specs.Ascending.{with_element, ascending}
 use Rattle.outside.specs.Tree.{Tree, file_at, files_of}
-use Rattle.schema_model.specs.Catalogue.{RelationValue}
+use Rattle.schema_model.specs.Catalogue.{RelationValue, relation_value}
 use Rattle.schema_model.specs.declared.Which.TheVariants.{Relations}
 use Rattle.csv_catalog.specs.declared.fault.LoadFault.{LoadFault}
 use Rattle.csv_catalog.specs.declared.fault.LoadFault.TheVariants.{Limit}
 use Rattle.csv_catalog.specs.Loaded.{File, file_in, files_read, files_fault, files_in, database_files, database_folder, database_fault, is_relation_file, label_of, relation_of, by_name}
 use Rattle.csv_catalog.specs.Records.{records_of}
 use Rattle.csv_catalog.specs.Reading.{all_placed}
+use Rattle.csv_catalog.proofs.ListLemmas.{all_pass}
 use Rattle.csv_catalog.proofs.PlaceLemmas.{total_by_name}
-
--- a part of an ascending list ascends
-module _ {A : Type 0} (R : A → A → Ordering) (p : A → Bool) where
-  above_filter : (x : A) (xs : List A) → AllByRecursion (λ y. R x y ≡ Less) xs → AllByRecursion (λ y. R x y ≡ Less) (filter p xs)
-  above_filter x [] h = tt
-  above_filter x (y ∷ ys) h = elim (cases_Bool (p y)) [
-    | inl good ↦ rw good (h.0, above_filter x ys h.1)
-    | inr bad ↦ rw bad (above_filter x ys h.1)
-  ]
-
-  pub filter_ascends : (xs : List A) → IsStrictlySortedBy R xs → IsStrictlySortedBy R (filter p xs)
-  unfolding IsStrictlySortedBy
-  filter_ascends [] h = tt
-  filter_ascends (x ∷ xs) h = elim (cases_Bool (p x)) [
-    | inl good ↦ rw good (above_filter x xs h.0, filter_ascends xs h.1)
-    | inr bad ↦ rw bad (filter_ascends xs h.1)
-  ]
-
--- what passes a filter
-pub all_pass : {A : Type 0} (p : A → Bool) (xs : List A) → AllByRecursion (λ x. p x ≡ true) (filter p xs)
-all_pass p [] = tt
-all_pass p (x ∷ xs) = elim (cases_Bool (p x)) [
-  | inl good ↦ rw good (good, all_pass p xs)
-  | inr bad ↦ rw bad (all_pass p xs)
-]
 
 -- of two elements that differ either may be put first
 module _ {A : Type 0} (R : A → A → Ordering) (o : IsTotalOrder R) where
@@ -96,13 +72,9 @@ placed_ascending [] h = refl
 placed_ascending (r ∷ rs) h = placed_later r rs [] h.0 ∙ ap (with_element by_name r) (placed_ascending rs h.1)
 
 -- files of different names have relations of different names
-both : (a b : Bool) → (a && b) ≡ true → (a ≡ true) × (b ≡ true)
-both true b e = (refl, e)
-both false b e = cc e
-
 parts : (file : Text) → is_relation_file file ≡ true → file ≡ label_of file ++ codes ".csv"
 parts file h =
-    sym (take-append-drop (length file - 4) file) ∙ ap (λ (t : Text). label_of file ++ t) ((bytes_eq-Decides (drop (length file - 4) file) (codes ".csv")).0 (both _ _ h).0)
+    sym (take-append-drop (length file - 4) file) ∙ ap (λ (t : Text). label_of file ++ t) ((bytes_eq-Decides (drop (length file - 4) file) (codes ".csv")).0 (and_parts _ _ h).0)
 
 labels_differ : (f g : Text) → is_relation_file f ≡ true → is_relation_file g ≡ true → text_cmp f g ≡ Less → text_cmp (label_of f) (label_of g) ≢ Equal
 labels_differ f g hf hg lt e =
@@ -117,7 +89,7 @@ module _ (t : Tree) (folder : Text) where
   one_more (Some file) f files P h k = (h file refl, k)
 
   abbrev AreRelationFiles : List Text → Type 0
-  AreRelationFiles fs = AllByRecursion (λ f. is_relation_file f ≡ true) fs
+  AreRelationFiles fs = list_all is_relation_file fs ≡ true
 
   named_so : (bytes : Option (List ℕ)) (g : Text) (file : File) → option_map (λ (b : List ℕ). (g, records_of b)) bytes ≡ Some file → file.0 ≡ g
   named_so None g file e = cc e
@@ -126,34 +98,32 @@ module _ (t : Tree) (folder : Text) where
   differ_after : (r : RelationValue) (f : Text) (fs : List Text) → r.name ≡ label_of f → is_relation_file f ≡ true → AllByRecursion (λ g. text_cmp f g ≡ Less) fs → AreRelationFiles fs → Differ r (map relation_of (files_read t folder fs))
   differ_after r f [] n hf lt hs = tt
   differ_after r f (g ∷ gs) n hf lt hs =
+      let each = and_parts (is_relation_file g) _ hs in
       one_more (file_in t folder g) g (files_read t folder gs) (λ s. by_name r s ≢ Equal)
-      (λ file e. rw (n, named_so (file_at t folder g) g file e) (labels_differ f g hf hs.0 lt.0)) (differ_after r f gs n hf lt.1 hs.1)
+      (λ file e. rw (n, named_so (file_at t folder g) g file e) (labels_differ f g hf each.0 lt.0)) (differ_after r f gs n hf lt.1 each.1)
 
   all_differ : (fs : List Text) → IsStrictlySortedBy text_cmp fs → AreRelationFiles fs → AllDiffer (map relation_of (files_read t folder fs))
   unfolding IsStrictlySortedBy AllDiffer
   all_differ [] h hs = tt
-  all_differ (f ∷ fs) h hs = first (file_at t folder f) (all_differ fs h.1 hs.1)
+  all_differ (f ∷ fs) h hs =
+      let each = and_parts (is_relation_file f) _ hs in
+      first (file_at t folder f) (differ_after (relation_value (label_of f) [] []) f fs refl each.0 h.0 each.1) (all_differ fs h.1 each.1)
     where
-      first : (bytes : Option (List ℕ)) → AllDiffer (map relation_of (files_read t folder fs)) → AllDiffer (map relation_of (cons_option (option_map (λ (b : List ℕ). (f, records_of b)) bytes) (files_read t folder fs)))
-      first None k = k
-      first (Some b) k = (differ_after (relation_of (f, records_of b)) f fs refl hs.0 h.0 hs.1, k)
+      first : (bytes : Option (List ℕ)) → Differ (relation_value (label_of f) [] []) (map relation_of (files_read t folder fs)) → AllDiffer (map relation_of (files_read t folder fs))
+          → AllDiffer (map relation_of (cons_option (option_map (λ (b : List ℕ). (f, records_of b)) bytes) (files_read t folder fs)))
+      first None d k = k
+      first (Some b) d k = (d, k)
 
 module _ (t : Tree) (db : Text) (count : ℕ) (files : List Text) where
   pub database_wide : files ≡ files_in t db → 4000 < length files → database_fault t db count ≡ Some (Limit Relations)
-  database_wide is wide = rw (← is, more (length files) wide) refl
-    where
-      more : (n : ℕ) → 4000 < n → nat_lt 4000 n ≡ true
-      more n h = grind (arith, nat_tests)
+  database_wide is wide = rw (← is, lt-ltb 4000 (length files) wide) refl
 
   pub database_rest : files ≡ files_in t db → length files ≤ 4000 → (o : Option LoadFault) → files_fault db count (files_read t (database_folder db) files) ≡ o → database_fault t db count ≡ o
-  database_rest is few o e = rw (← is, less (length files) few) e
-    where
-      less : (n : ℕ) → n ≤ 4000 → nat_lt 4000 n ≡ false
-      less n h = grind (arith, nat_tests)
+  database_rest is few o e = rw (← is, le-ltb 4000 (length files) few) e
 
 pub database_told : (t : Tree) (db : Text) (names files : List Text) → names ≡ files_of t (database_folder db) → files ≡ filter is_relation_file names → IsStrictlySortedBy text_cmp names
     → all_placed (map relation_of (files_read t (database_folder db) files)) [] ≡ ascending by_name (map relation_of (database_files t db))
 database_told t db names files is are h =
     let here = are ∙ ap (filter is_relation_file) is in
-    placed_ascending (map relation_of (files_read t (database_folder db) files)) (all_differ t (database_folder db) files (rw are (filter_ascends text_cmp is_relation_file names h)) (rw are (all_pass is_relation_file names)))
+    placed_ascending (map relation_of (files_read t (database_folder db) files)) (all_differ t (database_folder db) files (rw are (IsStrictlySortedBy-filter text_cmp is_relation_file names h)) (rw are (all_pass is_relation_file names)))
     ∙ ap (λ (fs : List Text). ascending by_name (map relation_of (files_read t (database_folder db) fs))) here

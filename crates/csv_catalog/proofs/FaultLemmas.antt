@@ -16,7 +16,7 @@ use Rattle.csv_catalog.specs.declared.judge.FileFault.{FileFault}
 use Rattle.csv_catalog.specs.declared.judge.FileFault.TheVariants.{OtherLength, TooMany, Repeated}
 use Rattle.csv_catalog.specs.FileFaults.{repeated_after, first_repeated, rows_fault, header_fault, file_fault, header_of, rows_of}
 use Rattle.csv_catalog.specs.RecordText.{has_field}
-use Rattle.csv_catalog.proofs.LeftLemmas.{next_left}
+use Rattle.csv_catalog.proofs.ListLemmas.{next_left}
 
 -- the next text, seen before or not
 pub repeated_here : (names : Row) (i : ℕ) (t : Text) → i < length names → t ≡ get_or names i t → is_in t (take i names) ≡ true → repeated_after (take i names) (drop i names) ≡ first_repeated names → first_repeated names ≡ Some t

@@ -1,6 +1,5 @@
 -- A relation that is placed among others by its name keeps them in order.
-use Rattle.std.proofs.Common.{◌≡◌, ◌≤◌, ◌+◌, ◌∷◌, ◌∙◌, [], ℕ, List, Bool, true, false, refl, ap, suc, length, arith}
-use Rattle.std.specs.Prelude.{◌&&◌}
+use Rattle.std.proofs.Common.{◌≡◌, ◌≤◌, ◌+◌, ◌∷◌, ◌∙◌, [], ℕ, List, true, refl, ap, suc, length, arith}
 use Rattle.std.specs.List.{AllByRecursion, list_all}
 use Rattle.std.specs.List.Sorted.{IsStrictlySortedBy}
 use Rattle.std.specs.Ordering.{ordering_reverse}
@@ -8,6 +7,7 @@ use Rattle.std.specs.Cmp.{IsTotalOrder}
 use Rattle.std.specs.Cmp.Lexicographic.{nat_list_cmp_total}
 use Rattle.std.specs.declared.cmp.Ordering.{Ordering}
 use Rattle.std.specs.declared.cmp.Ordering.TheVariants.{Less, Equal, Greater}
+use Rattle.std.proofs.lemmas.Bool.{and_parts}
 use Rattle.std.proofs.lemmas.List.Sums.{sum_by-cons}
 use Rattle.ss_text.specs.Label.{is_table_label}
 use Rattle.ss_text.specs.Texts.{Text, text_cmp}
@@ -44,19 +44,12 @@ unfolding IsStrictlySortedBy
 ascend_placed r [] h = (tt, tt)
 ascend_placed r (y ∷ ys) h = ascend_by r y ys (text_cmp r.name y.name) refl h (ascend_placed r ys h.1)
 
-left : (a b : Bool) → (a && b) ≡ true → a ≡ true
-left true b e = refl
-left false b e = cc e
-
-right : (a b : Bool) → (a && b) ≡ true → b ≡ true
-right true b e = e
-right false b e = cc e
-
 legal_placed : (r : RelationValue) (rs : List RelationValue) → is_table_label r.name ≡ true → list_all is_table_label (names_of rs) ≡ true → list_all is_table_label (names_of (with_element by_name r rs)) ≡ true
 legal_placed r [] l h = rw l refl
 legal_placed r (y ∷ ys) l h =
+    let each = and_parts (is_table_label y.name) _ h in
     elim (text_cmp r.name y.name) as (λ o. list_all is_table_label (names_of (by_order o (r ∷ y ∷ ys) (y ∷ ys) (y ∷ with_element by_name r ys))) ≡ true)
-    [ Less ↦ rw (l, h) refl | Equal ↦ h | Greater ↦ rw (left (is_table_label y.name) _ h, legal_placed r ys l (right (is_table_label y.name) _ h)) refl ]
+    [ Less ↦ rw (l, h) refl | Equal ↦ h | Greater ↦ rw (each.0, legal_placed r ys l each.1) refl ]
 
 rows_placed : (r : RelationValue) (rs : List RelationValue) → rows_counted (with_element by_name r rs) ≤ length r.rows + rows_counted rs
 rows_placed r [] = rw (sum_by-cons (λ (x : RelationValue). length x.rows) r []) (omega arith)

@@ -3,7 +3,7 @@ pub mod ReaderLemmas
 pub mod Canonical
 pub mod RoundTrip
 pub mod WritingLemmas
-pub mod LeftLemmas
+pub mod ListLemmas
 pub mod FaultLemmas
 pub mod PlaceLemmas
 pub mod FileLemmas

@@ -1,10 +1,9 @@
 -- The databases of a store, one after the other.
-use Rattle.std.proofs.Common.{◌≡◌, ◌<◌, ◌≤◌, ◌+◌, ◌∷◌, ◌++◌, ◌∙◌, [], ℕ, List, Bool, Some, None, Ok, Err, true, false, refl, sym, ap, suc, length, map, arith, inl, inr, append_assoc}
+use Rattle.std.proofs.Common.{◌≡◌, ◌<◌, ◌≤◌, ◌+◌, ◌∷◌, ◌++◌, ◌∙◌, [], ℕ, List, Some, None, Ok, Err, false, refl, sym, ap, suc, length, map, arith, append_assoc}
 use Rattle.std.specs.Prelude.{filter, nat_lt}
-use Rattle.std.specs.List.{list_all}
 use Rattle.std.specs.List.Sorted.{IsStrictlySortedBy}
-use Rattle.std.proofs.lemmas.Bool.{cases_Bool}
-use Rattle.std.proofs.lemmas.Bool.Decides.{nat_tests}
+use Rattle.std.proofs.lemmas.Bool.{le-ltb, lt-ltb}
+use Rattle.std.proofs.lemmas.List.Kept.{IsStrictlySortedBy-filter}
 use Rattle.std.proofs.lemmas.List.{append-nil, length-map}
 use Rattle.std.proofs.lemmas.List.Sums.{sum_by_push}
 use Rattle.ss_text.proofs.PlaceLemmas.{length_last}
@@ -17,18 +16,11 @@ use Rattle.schema_model.specs.declared.Which.TheVariants.{Databases}
 use Rattle.csv_catalog.specs.declared.fault.LoadFault.{LoadFault}
 use Rattle.csv_catalog.specs.declared.fault.LoadFault.TheVariants.{Limit}
 use Rattle.csv_catalog.specs.Loaded.{loaded, catalogue_in, databases_in, database_in, database_fault, databases_fault}
-use Rattle.csv_catalog.proofs.DatabaseLemmas.{filter_ascends}
+use Rattle.csv_catalog.proofs.ListLemmas.{all_pass}
 use Rattle.csv_catalog.proofs.PutLemmas.{names_front}
 
-all_pass : {A : Type 0} (p : A → Bool) (xs : List A) → list_all p (filter p xs) ≡ true
-all_pass p [] = refl
-all_pass p (x ∷ xs) = elim (cases_Bool (p x)) [
-  | inl good ↦ rw (good, good, all_pass p xs) refl
-  | inr bad ↦ rw bad (all_pass p xs)
-]
-
 pub names_legal : (names : List Text) → IsStrictlySortedBy text_cmp names → AreNames (filter is_table_label names)
-names_legal names h = record { ascend = filter_ascends text_cmp is_table_label names h; legal = all_pass is_table_label names }
+names_legal names h = record { ascend = IsStrictlySortedBy-filter text_cmp is_table_label names h; legal = all_pass is_table_label names }
 
 -- with these databases left, what was loaded leads to what all give
 pub record IsLoading (t : Tree) (left : List Text) (c : CatalogueValue) : Type 0 where
@@ -43,10 +35,7 @@ pub record MayGrow (left : List Text) (c : CatalogueValue) : Type 0 where
 
 module _ (t : Tree) where
   few_databases : (names : List Text) → names ≡ databases_in t → length names ≤ 200 → nat_lt 200 (length (databases_in t)) ≡ false
-  few_databases names are few = rw (← are) (less (length names) few)
-    where
-      less : (n : ℕ) → n ≤ 200 → nat_lt 200 n ≡ false
-      less n h = grind (arith, nat_tests)
+  few_databases names are few = rw (← are) (le-ltb 200 (length names) few)
 
   pub loading_starts : (names : List Text) → names ≡ databases_in t → IsLoading t names []
   loading_starts names e = rw e (record { fault = refl; loaded = refl })
@@ -70,10 +59,7 @@ module _ (t : Tree) where
 
   pub too_many : (names : List Text) → names ≡ databases_in t → 200 < length names → loaded t ≡ Err (Limit Databases)
   unfolding loaded
-  too_many names are many = rw (← are, more (length names) many) refl
-    where
-      more : (n : ℕ) → 200 < n → nat_lt 200 n ≡ true
-      more n h = grind (arith, nat_tests)
+  too_many names are many = rw (← are, lt-ltb 200 (length names) many) refl
 
 pub grows_first : (names : List Text) → AreNames names → length names ≤ 200 → MayGrow names []
 grows_first names h few = record { names = h; few = none (length names) few; rows = omega arith }

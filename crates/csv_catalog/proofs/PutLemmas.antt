@@ -1,9 +1,9 @@
 -- Rows and relations, put one after the other.
-use Rattle.std.proofs.Common.{◌≡◌, ◌<◌, ◌≤◌, ◌+◌, ◌∷◌, ◌++◌, ◌∙◌, [], ℕ, List, Bool, true, false, refl, sym, ap, subst, zero, suc, length, slice_index_or, arith, append_assoc}
-use Rattle.std.specs.Prelude.{◌&&◌}
+use Rattle.std.proofs.Common.{◌≡◌, ◌<◌, ◌≤◌, ◌+◌, ◌∷◌, ◌++◌, ◌∙◌, [], ℕ, List, true, refl, sym, ap, subst, zero, suc, length, slice_index_or, arith, append_assoc}
 use Rattle.std.specs.List.{AllByRecursion, list_all}
 use Rattle.std.specs.List.Sorted.{IsStrictlySortedBy}
 use Rattle.std.specs.declared.cmp.Ordering.TheVariants.{Less}
+use Rattle.std.proofs.lemmas.Bool.{and_parts}
 use Rattle.std.proofs.lemmas.List.{append-nil}
 use Rattle.std.proofs.lemmas.List.Sums.{sum_by-cons, sum_by_push}
 use Rattle.ss_text.specs.Label.{is_table_label}
@@ -115,10 +115,6 @@ pub relation_fits : (n : ℕ) → n + 1 ≤ 4000 → n < 4000
 relation_fits n h = omega arith
 
 -- the names before the rest are in order
-both : (a b : Bool) → (a && b) ≡ true → (a ≡ true) × (b ≡ true)
-both true b e = (refl, e)
-both false b e = cc e
-
 above_front : (n : Text) (xs ys : List Text) → AllByRecursion (λ m. text_cmp n m ≡ Less) (xs ++ ys) → AllByRecursion (λ m. text_cmp n m ≡ Less) xs
 above_front n [] ys h = tt
 above_front n (x ∷ xs) ys h = (h.0, above_front n xs ys h.1)
@@ -130,7 +126,7 @@ ascend_front (x ∷ xs) ys h = (above_front x xs ys h.0, ascend_front xs ys h.1)
 
 legal_front : (xs ys : List Text) → list_all is_table_label (xs ++ ys) ≡ true → list_all is_table_label xs ≡ true
 legal_front [] ys h = refl
-legal_front (x ∷ xs) ys h = let b = both (is_table_label x) _ h in rw (b.0, legal_front xs ys b.1) refl
+legal_front (x ∷ xs) ys h = let b = and_parts (is_table_label x) _ h in rw (b.0, legal_front xs ys b.1) refl
 
 pub names_front : (xs ys : List Text) (x : Text) → AreNames (xs ++ x ∷ ys) → AreNames (xs ++ x ∷ [])
 names_front xs ys x h =

@@ -1,7 +1,7 @@
-//! CSV files: the records that they hold, and the canonical text of records and of relations.
+//! Catalogues as folders of CSV files: their loading, and the canonical text of records and relations.
 //!
-//! Its contract: `records` is what `csv` reads from the bytes, `relation_text` is the canonical text of a
-//! relation's records, and what is written so is read back. It knows nothing of views or of changes.
+//! Its contract: `load` is the catalogue of the bytes that a store holds, or its first refusal in one order;
+//! what is written in canonical text is read back. It knows nothing of views or of changes.
 #![tactic(auto)]
 
 mod database;
@@ -16,6 +16,8 @@ mod put;
 mod read;
 mod records_text;
 mod relation;
+#[cfg(test)]
+mod tests;
 mod write;
 
 pub use fault::LoadFault;

@@ -17,7 +17,14 @@ use std::alloc::Global;
 
 const MOST_DATABASES: usize = 200;
 
-/// Reads the catalogue of the folder `sources`.
+/// Reads the catalogue of the folder `sources`: its databases are the folders in it whose names are legal table
+/// labels, and their relations the files whose names are a legal table label and then `.csv`. Other names are
+/// passed over, and so is a file that is gone when it is read. A missing folder is empty.
+///
+/// It judges in this order, and answers the first refusal: how many databases there are; then for each database,
+/// ascending, how many relations; then for each file, ascending by its name, whether it has a record, how many
+/// attributes, and whether one is named twice; then for each record in order its number of fields, and whether
+/// there are too many rows in all. `ReadFault` comes only where a call on the store failed. The store is only read.
 pub fn load<F: Folders>(alloc: Global, store: &mut F) -> Result<Catalogue, LoadFault>
     ensures loaded { IfOk result (λ catalogue. WhereTold (F.state store.old) (λ t. loaded t ≡ Ok catalogue)) }
     ensures refused { IfErr result (λ e. is_refusal e ≡ true → WhereTold (F.state store.old) (λ t. loaded t ≡ Err e)) }

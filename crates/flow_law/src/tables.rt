@@ -184,11 +184,11 @@ mod tests {
 
     // Whether the line fitted; it is made where it does.
     fn made(tables: &mut Tables, line: TableLine) -> Result<bool, NoMemory> {
-        if !tables.fits(&line) {
-            return Ok(false);
-        }
-        tables.change(&line)?;
-        Ok(true)
+        let fits = tables.fits(&line);
+        let made = if fits { tables.change(&line) } else { Ok(()) };
+        drop(line);
+        made?;
+        Ok(fits)
     }
 
     // A line of a table `pay`: `+ Prof` adds a row, `| cs` a column, `= Prof cs 5` gives a value.

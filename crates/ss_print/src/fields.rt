@@ -51,7 +51,8 @@ impl Fields {
         ensures { IfOk result (λ fields. fields ≡ self ++ decimal number ∷ []) }
     {
         let mut buffer = Buffer::new();
-        self.texts.push(Text::of(alloc, buffer.format(number).as_bytes())?)?;
+        self.texts
+            .push(Text::of(alloc, buffer.format(number).as_bytes())?)?;
         Ok(self)
     }
 

@@ -4,9 +4,11 @@
 //! nothing of when a refusal comes.
 #![tactic(auto)]
 
+mod definition;
 mod fields;
 mod load;
 mod view;
 
+pub use definition::{parse_fields, type_fields};
 pub use load::load_fields;
 pub use view::{clash_fields, illegal_fields};

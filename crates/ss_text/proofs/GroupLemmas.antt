@@ -246,7 +246,7 @@ module _ {A K : Type 0} {R : K → K → Ordering} {E : K → K → Bool} (o : I
         → grouped h (x ∷ xs) ≡ h (key x) (take n (x ∷ xs)) ∷ grouped h (drop n (x ∷ xs))
     first_group h n e =
         let later : AllByRecursion (λ (j : K). R (key x) j ≡ Less) (ascending R (map key (drop more xs))) =
-          all_ascending o.total (λ (j : K). R (key x) j ≡ Less) (map key (drop more xs)) (all_keys R key (λ (j : K). R (key x) j ≡ Less) (drop more xs) behind.past) in
+        all_ascending o.total (λ (j : K). R (key x) j ≡ Less) (map key (drop more xs)) (all_keys R key (λ (j : K). R (key x) j ≡ Less) (drop more xs) behind.past) in
         rw (e, count_is, behind.keys, all.taken)
         (ap (λ gs. h (key x) (take (suc more) (x ∷ xs)) ∷ gs)
         (map_agree (λ (k : K). h k (filter (λ (y : A). E k (key y)) (x ∷ xs))) (λ (k : K). h k (filter (λ (y : A). E k (key y)) (drop more xs))) (ascending R (map key (drop more xs)))

@@ -89,7 +89,7 @@ module _ {K : Type 0} {R : K → K → Ordering} {E : K → K → Bool} (o : IsK
     earlier_differs k x (y ∷ ys) zero h at = less_differs (key x) k (subst (λ (j : K). R (key x) j ≡ Less) (at.has_key y) h.0)
     earlier_differs k x (y ∷ ys) (suc i) h at = earlier_differs k x ys i h.1 (record { within = omega (arith, at.within); has_key = at.has_key })
 
-    at_tail : (k : K) (x : A) (xs : List A) (i : ℕ) → IsPlaceOf key k (x ∷ xs) (suc i) → IsPlaceOf key k xs i
+    pub at_tail : (k : K) (x : A) (xs : List A) (i : ℕ) → IsPlaceOf key k (x ∷ xs) (suc i) → IsPlaceOf key k xs i
     at_tail k x xs i at = record { within = omega (arith, at.within); has_key = at.has_key }
 
     -- the one element that has the key, changed

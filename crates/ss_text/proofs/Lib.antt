@@ -4,3 +4,6 @@ pub mod PlaceLemmas
 pub mod KeyLemmas
 pub mod SetLemmas
 pub mod GroupLemmas
+pub mod PairLemmas
+pub mod GroupWalk
+pub mod LeastLemmas

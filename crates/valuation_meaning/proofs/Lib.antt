@@ -5,3 +5,7 @@ pub mod LookupLemmas
 pub mod RowsLeft
 pub mod ListingLemmas
 pub mod ValueLemmas
+pub mod TableRows
+pub mod Entries
+pub mod ConflictLemmas
+pub mod RefusedLemmas

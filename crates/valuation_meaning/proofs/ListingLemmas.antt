@@ -1,6 +1,5 @@
 -- The facts of the valuations that begin with given elements, one declaration on.
-use Rattle.std.proofs.Common.{◌≡◌, ◌<◌, ◌+◌, ℕ, zero, suc, Bool, true, false, List, [], ◌∷◌, ◌++◌, Some, None, length, drop, map, refl, ap, ◌∙◌, add-one, arith}
-use native.Mathlib.Numerals.{unary_clauses}
+use Rattle.std.proofs.Common.{◌≡◌, ◌+◌, ℕ, Bool, List, [], ◌∷◌, ◌++◌, Some, None, drop, map, refl, ap, ◌∙◌}
 use Rattle.std.specs.Prelude.{filter, flat_map, slice_get, if◌then◌else◌}
 use Rattle.std.proofs.lemmas.List.{map-append}
 use Rattle.std.proofs.lemmas.List.Elements.{filter-append}
@@ -12,6 +11,7 @@ use Rattle.valuation_meaning.specs.Elements.{Element, Valuation, elements}
 use Rattle.valuation_meaning.specs.Valuations.{assignments, counts, valuations}
 use Rattle.valuation_meaning.specs.Meaning.{fact_of, facts}
 use Rattle.valuation_meaning.specs.Listing.{facts_after}
+use Rattle.ss_text.proofs.GroupWalk.{one_left}
 use Rattle.valuation_meaning.proofs.CountLemmas.{none_if, some_if}
 
 spread : {A B C : Type 0} (f : B → C) (test : B → Bool) (g : A → List B) (xs : List A) → map f (filter test (flat_map g xs)) ≡ flat_map (λ (x : A). map f (filter test (g x))) xs
@@ -19,18 +19,6 @@ spread f test g [] = refl
 spread f test g (x ∷ xs) =
     ap (map f) (filter-append test (g x) (flat_map g xs)) ∙ map-append f (filter test (g x)) (filter test (flat_map g xs))
     ∙ ap (λ rest. map f (filter test (g x)) ++ rest) (spread f test g xs)
-
-module _ {A : Type 0} where
-  pub none_left : (xs : List A) (n : ℕ) → None ≡ slice_get xs n → drop n xs ≡ []
-  none_left [] zero e = refl
-  none_left [] (suc n) e = refl
-  none_left (x ∷ xs) zero e = absurd (cc)
-  none_left (x ∷ xs) (suc n) e = none_left xs n e
-
-  pub one_left : (xs : List A) (n : ℕ) (x : A) → Some x ≡ slice_get xs n → drop n xs ≡ x ∷ drop (n + 1) xs
-  one_left [] n y e = absurd (cc)
-  one_left (x ∷ xs) zero y e = cc
-  one_left (x ∷ xs) (suc n) y e = simp unary_clauses (simp unary_clauses at (one_left xs n y e))
 
 module _ (c : CatalogueValue) (q : Query) (v : Valuation) where
   -- no declaration is left

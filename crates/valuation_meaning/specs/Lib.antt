@@ -8,3 +8,5 @@ pub mod FactOrder
 pub mod Borrowed
 pub mod Listing
 pub mod Cells
+pub mod Labelled
+pub mod Neighbours

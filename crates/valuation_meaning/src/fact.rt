@@ -1,11 +1,11 @@
 //! A fact of a view, borrowed from the catalogue and the view.
-ghost use Rattle.std.specs.Prelude.{◌≡◌, refl, option_copied, IfOk};
+ghost use Rattle.std.specs.Prelude.{◌≡◌, ◌<◌, ◌≤◌, refl, drop, length, slice_get, option_copied, IfOk, OnSome};
 ghost use Rattle.std.specs.List.{prefix_len};
 ghost use Rattle.ss_text.specs.Texts.{text_eq, row_eq};
 ghost use Rattle.flow_law.specs.Facts.{column_of, value_in};
 ghost use Rattle.std.specs.Ordering.{eq_by_cmp, as_partial_cmp};
 ghost use Rattle.std.specs.Cmp.{partial_equiv_from_equiv, partial_order_from_agreeing_total, eq_by_cmp_equiv};
-ghost use Rattle.valuation_meaning.specs.Borrowed.{fact_value};
+ghost use Rattle.valuation_meaning.specs.Borrowed.{cell_value, fact_value};
 ghost use Rattle.valuation_meaning.specs.Cells.{is_past};
 ghost use Rattle.valuation_meaning.specs.FactOrder.{fact_cmp, fact_total};
 
@@ -34,7 +34,11 @@ impl<'a> Model for Fact<'a> {
 
 impl<'a> Fact<'a> {
     /// The fact with these parts.
-    pub(crate) fn of(label: &'a Text, key: Vec<&'a Text>, cell: Option<(&'a Text, &'a Text)>) -> Fact<'a>
+    pub(crate) fn of(
+        label: &'a Text,
+        key: Vec<&'a Text>,
+        cell: Option<(&'a Text, &'a Text)>,
+    ) -> Fact<'a>
         ensures { result ≡ fact_value label.entry key.entry.items cell.entry }
     {
         Fact { label, key, cell }
@@ -53,6 +57,13 @@ impl<'a> Fact<'a> {
     {
         let (column, _) = self.cell?;
         Some(column)
+    }
+
+    /// Its column label and value.
+    pub(crate) fn cell(&self) -> Option<(&'a Text, &'a Text)>
+        ensures { cell_value result ≡ self.now.cell }
+    {
+        self.cell
     }
 
     /// Its value, where it names this column.
@@ -96,18 +107,42 @@ impl<'a> Fact<'a> {
     }
 }
 
+/// The fact at a place.
+pub(crate) fn fact_at<'f, 'a>(facts: &'f [Fact<'a>], place: usize) -> Option<&'f Fact<'a>>
+    ensures fact { option_copied result ≡ slice_get facts.now place }
+    ensures there { OnSome result (place < length facts.now) }
+{
+    facts.get(place)
+}
+
+/// The facts from a place on.
+pub(crate) fn facts_from<'f, 'a>(facts: &'f [Fact<'a>], place: usize) -> &'f [Fact<'a>]
+    requires { place ≤ length facts.now }
+    ensures { result.now ≡ drop place facts.now }
+{
+    &facts[place..]
+}
+
 /// How many facts at the front have this label.
 pub(crate) fn label_count(facts: &[Fact<'_>], label: &Text) -> usize
-    ensures { result ≡ prefix_len (λ f. text_eq label.now f.label) facts.now }
+    ensures count { result ≡ prefix_len (λ f. text_eq label.now f.label) facts.now }
+    ensures within { result ≤ length facts.now }
 {
-    facts.iter().take_while(|fact| label == fact.label()).count()
+    facts
+        .iter()
+        .take_while(|fact| label == fact.label())
+        .count()
 }
 
 /// How many facts at the front have the key of this one.
 pub(crate) fn key_count(facts: &[Fact<'_>], first: &Fact<'_>) -> usize
-    ensures { result ≡ prefix_len (λ f. row_eq first.now.key f.key) facts.now }
+    ensures count { result ≡ prefix_len (λ f. row_eq first.now.key f.key) facts.now }
+    ensures within { result ≤ length facts.now }
 {
-    facts.iter().take_while(|fact| first.has_key_of(fact)).count()
+    facts
+        .iter()
+        .take_while(|fact| first.has_key_of(fact))
+        .count()
 }
 
 impl PartialEq for Fact<'_> {

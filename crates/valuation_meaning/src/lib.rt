@@ -8,6 +8,7 @@ mod label;
 mod listing;
 mod lookup;
 mod ranges;
+mod refused;
 mod tables;
 mod truth;
 mod value;

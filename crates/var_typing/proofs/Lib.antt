@@ -1,2 +1,14 @@
-pub mod FoldLemmas
+mod DeclarationLemmas
+mod FoldLemmas
+mod HeaderLemmas
+mod Members
+mod PositionLemmas
+mod ProfileDeclarations
+mod ProfileHeader
+mod ProfileScope
+mod ProfileTerms
+mod ProfileTheorem
+mod TermLemmas
+mod TypedLemmas
+mod WalkLemmas
 mod TypingExamples

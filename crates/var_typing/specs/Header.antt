@@ -1,5 +1,5 @@
 -- The header of a view.
-use Rattle.std.specs.Prelude.{ℕ, Bool, true, false, not, List, [], ◌∷◌, length, map, Option, Some, None, nat_eq, bytes_eq, position}
+use Rattle.std.specs.Prelude.{ℕ, Bool, true, false, not, List, [], ◌∷◌, ◌++◌, length, map, Option, Some, None, nat_eq, position}
 use Rattle.std.specs.List.{list_any, filter_map, find}
 use Rattle.ss_text.specs.Texts.{Text, Row, is_in}
 use Rattle.ss_text.specs.Label.{is_table_label}
@@ -10,6 +10,8 @@ use Rattle.view_def.specs.declared.typed.Place.TheVariants as place
 use Rattle.view_def.specs.Tree.{Tree}
 use Rattle.var_typing.specs.declared.fault.TypeFault.{TypeFault}
 use Rattle.var_typing.specs.declared.fault.TypeFault.TheVariants.{WrongKind, BadLabel, TwoVariableColumns, ColumnTwice, NoConstantColumn, CountDiffers}
+use Rattle.var_typing.specs.declared.header.Columns.{Columns}
+use Rattle.var_typing.specs.declared.header.Header.{Header}
 use Rattle.var_typing.specs.Refusals.{where_true, ◌or_else◌, in_turn}
 use Rattle.var_typing.specs.Scope.{is_tuple, variable_named, place_named}
 
@@ -43,13 +45,17 @@ column_places ds columns = map (place_named ds) columns
 abbrev pub constants_of : List Place → Row
 constants_of columns = filter_map constant_text columns
 
--- a column after these: at most one is a variable, which is no tuple variable, and no constant stands twice
-abbrev pub place_fault : List RawDecl → List Place → Text → Option ℕ → Option TypeFault
-place_fault ds before x None = where_true (is_in x (constants_of before)) (ColumnTwice x)
-place_fault ds before x (Some k) = where_true (is_tuple ds k) (WrongKind x) or_else where_true (list_any is_variable before) (TwoVariableColumns x)
+-- a column x, where these constants stand before and perhaps a variable: at most one column is a variable, which is no
+-- tuple variable, and no constant stands twice
+abbrev pub column_after : List RawDecl → Row → Bool → Text → Option ℕ → Option TypeFault
+column_after ds constants varies x None = where_true (is_in x constants) (ColumnTwice x)
+column_after ds constants varies x (Some k) = where_true (is_tuple ds k) (WrongKind x) or_else where_true varies (TwoVariableColumns x)
 
 abbrev pub column_fault : List RawDecl → List Name → Name → Option TypeFault
-column_fault ds before n = place_fault ds (column_places ds before) n.text (variable_named ds n)
+column_fault ds before n = column_after ds (constants_of places) (list_any is_variable places) n.text (variable_named ds n)
+  where
+    places : List Place
+    places = column_places ds before
 
 abbrev pub is_empty : Row → Bool
 is_empty [] = true
@@ -68,3 +74,25 @@ header_fault t =
     database_fault t.view_db.text (variable_named t.decls t.view_db)
     or_else label_fault t.decls t.label.text (variable_named t.decls t.label)
     or_else columns_fault t.decls t.columns
+
+-- what columns stand for: their constants, the place of its variable, and the variable
+abbrev pub Parts : Type 0
+Parts = Row × Option ℕ × Option Place
+
+abbrev pub parts_of : List Place → Parts
+parts_of places = (constants_of places, position is_variable places, find is_variable places)
+
+abbrev pub column_parts : Columns → Parts
+column_parts h = (h.constants.keys, h.spot, h.column)
+
+-- with one more column at this place
+abbrev pub with_column : ℕ → Place → Parts → Parts
+with_column spot (place.Fixed t) parts = (parts.0 ++ t ∷ [], parts.1, parts.2)
+with_column spot (place.Var k) parts = (parts.0, Some spot, Some (place.Var k))
+
+-- the view database, the table label and the columns
+abbrev pub header_of : Tree → Text × Place × Parts
+header_of t = (t.view_db.text, place_named t.decls t.label, parts_of (column_places t.decls t.columns))
+
+abbrev pub header_parts : Header → Text × Place × Parts
+header_parts h = (h.view_db, h.label, column_parts h.columns)

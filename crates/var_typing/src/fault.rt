@@ -1,5 +1,6 @@
 //! Why a view definition has no type.
 use ss_text::{NoMemory, Text};
+use std::alloc::AllocFailed;
 
 /// The first refusal on the walk over declarations, header, numbers and terms.
 #[derive(Debug, Drop, PartialEq, Eq)]
@@ -34,6 +35,17 @@ impl From<NoMemory> for TypeFault {
     ghost from_gives = { λ _ e. e ≡ fault.NoMemory };
 
     fn from(_: NoMemory) -> Self {
+        TypeFault::NoMemory
+    }
+}
+
+impl<T: Drop> From<AllocFailed<T>> for TypeFault {
+    ghost use Rattle.std.specs.Prelude.{◌≡◌};
+    ghost use Rattle.var_typing.specs.declared.fault.TypeFault.TheVariants as fault;
+
+    ghost from_gives = { λ _ e. e ≡ fault.NoMemory };
+
+    fn from(_: AllocFailed<T>) -> Self {
         TypeFault::NoMemory
     }
 }

@@ -29,10 +29,16 @@ impl Fold {
     }
 }
 
-/// Takes up the attribute place of the tuple variable `x`, which is declared at the place `tuple`.
-pub(crate) fn take_fold(folds: &mut Vec<Fold>, x: &Text, tuple: u32, attribute: &Place) -> Result<(), TypeFault>
-    ensures answer { Passes (two_folds folds.old.items x.now (fold_at tuple attribute.now)) result }
-    ensures taken { OnOk result (SameOthers (folds.old.items ++ fold_at tuple attribute.now) folds.new.items) }
+/// Takes up the attribute place of the tuple variable `identifier`, which is declared at the place `tuple`.
+pub(crate) fn take_fold(
+    folds: &mut Vec<Fold>,
+    identifier: &Text,
+    tuple: u32,
+    attribute: &Place,
+) -> Result<(), TypeFault>
+    ensures answer { Passes (two_folds folds.old.items identifier.now (fold_at tuple attribute.now)) result }
+    ensures taken { OnOk result
+        (SameOthers (folds.old.items ++ fold_at tuple attribute.now) folds.new.items) }
 {
     let Place::Var(variable) = attribute else {
         return Ok(());
@@ -42,7 +48,9 @@ pub(crate) fn take_fold(folds: &mut Vec<Fold>, x: &Text, tuple: u32, attribute: 
         variable: *variable,
     };
     if has_other(folds, &fold) {
-        return Err(TypeFault::TwoFolds { var: x.copy()? });
+        return Err(TypeFault::TwoFolds {
+            var: identifier.copy()?,
+        });
     }
     keep(folds, fold)?;
     Ok(())

@@ -4,16 +4,14 @@
 //! numbers and terms. It knows nothing of tokens, of catalogues or of what a view means.
 #![tactic(auto)]
 
+mod conditions;
+mod declarations;
 mod fault;
 mod folds;
+mod header;
 mod scope;
-
-ghost use Rattle.std.specs.Prelude.{◌≡◌};
-ghost use Rattle.var_typing.specs.Typed.{typed};
-ghost use Rattle.view_def.specs.Tree.{tree_of};
+mod terms;
+mod view;
 
 pub use fault::TypeFault;
-
-pub fn cites(view: &view_def::ViewText)
-   ensures { typed (tree_of view.now) ≡ typed (tree_of view.now) }
-{}
+pub use view::type_view;

@@ -11,11 +11,11 @@ use ss_text::Text;
 use view_def::{Name, Place, RawDecl, RawRange};
 
 /// The place of the declaration of an identifier, the first where there are several.
-pub(crate) fn declared_at(decls: &[RawDecl], x: &Text) -> Option<usize>
-    ensures value { result ≡ declared_at decls.now x.now }
+pub(crate) fn declared_at(decls: &[RawDecl], identifier: &Text) -> Option<usize>
+    ensures value { result ≡ declared_at decls.now identifier.now }
     ensures within { IfSome result (λ k. k < length decls.now) }
 {
-    decls.iter().position(|d| d.var == *x)
+    decls.iter().position(|d| d.var == *identifier)
 }
 
 /// All declarations of a view, of which so many first ones are in sight.
@@ -28,11 +28,11 @@ pub(crate) struct Scope<'a> {
 
 impl Scope<'_> {
     // Whether the declaration at a place is that of a tuple variable.
-    fn is_tuple(&self, k: usize) -> bool
-        ensures { result ≡ is_tuple self.now.decls.now k }
+    fn is_tuple(&self, place: usize) -> bool
+        ensures { result ≡ is_tuple self.now.decls.now place }
     {
         matches!(
-            self.decls.get(k),
+            self.decls.get(place),
             Some(RawDecl {
                 range: RawRange::Tuples(_, _),
                 ..
@@ -52,68 +52,88 @@ impl Scope<'_> {
         }
     }
 
-    /// The variable `x` of the declaration at `k`, which has to be no tuple variable.
-    pub fn with_text(&self, k: usize, x: &Text) -> Result<u32, TypeFault>
-        requires { k < 8 }
-        ensures { Answers (λ j. j) (where_true (is_tuple self.now.decls.now k) (WrongKind x.now)) k result }
+    /// The variable `identifier` of the declaration at `place`, which has to be no tuple variable.
+    pub fn text_variable(&self, place: usize, identifier: &Text) -> Result<u32, TypeFault>
+        requires { place < 8 }
+        ensures { Answers (λ j. j) (where_true (is_tuple self.now.decls.now place) (WrongKind identifier.now)) place result }
     {
-        if self.is_tuple(k) {
-            return Err(TypeFault::WrongKind { name: x.copy()? });
+        if self.is_tuple(place) {
+            return Err(TypeFault::WrongKind {
+                name: identifier.copy()?,
+            });
         }
-        Ok(k as u32)
+        Ok(place as u32)
     }
 
     // The same, where it has to be in sight.
-    fn seen_with_text(&self, k: usize, x: &Text) -> Result<u32, TypeFault>
-        ensures { Answers (λ j. j) (sight_fault self.now.decls.now self.now.sight x.now (Some k)) k result }
+    fn text_variable_in_sight(&self, place: usize, identifier: &Text) -> Result<u32, TypeFault>
+        ensures { Answers (λ j. j) (sight_fault self.now.decls.now self.now.sight identifier.now (Some place)) place result }
     {
-        if k >= self.sight {
-            return Err(TypeFault::NotDeclared { name: x.copy()? });
+        if place >= self.sight {
+            return Err(TypeFault::NotDeclared {
+                name: identifier.copy()?,
+            });
         }
-        self.with_text(k, x)
+        self.text_variable(place, identifier)
     }
 
     /// What a name stands for.
     pub fn place(&self, name: &Name) -> Result<Place, TypeFault>
-        ensures { Answers (λ p. p) (name_fault self.now.decls.now self.now.sight name.now) (place_named self.now.decls.now name.now) result }
+        ensures { let ds = self.now.decls.now in
+            Answers (λ p. p) (name_fault ds self.now.sight name.now) (place_named ds name.now) result }
     {
         match self.variable(name) {
             None => Ok(Place::Fixed(name.text.copy()?)),
-            Some(k) => Ok(Place::Var(self.seen_with_text(k, &name.text)?)),
+            Some(place) => Ok(Place::Var(self.text_variable_in_sight(place, &name.text)?)),
         }
     }
 
-    // The variable `x` of the declaration at `k`, which has to be a tuple variable in sight.
-    fn tuple_at(&self, k: usize, x: &Text) -> Result<u32, TypeFault>
-        ensures { Answers (λ j. j) (tuple_at_fault self.now.decls.now self.now.sight x.now (Some k)) k result }
+    // The variable `identifier` of the declaration at `place`, which has to be a tuple variable in sight.
+    fn tuple_in_sight(&self, place: usize, identifier: &Text) -> Result<u32, TypeFault>
+        ensures { Answers (λ j. j) (tuple_at_fault self.now.decls.now self.now.sight identifier.now (Some place)) place result }
     {
-        if k >= self.sight {
-            return Err(TypeFault::NotDeclared { name: x.copy()? });
+        if place >= self.sight {
+            return Err(TypeFault::NotDeclared {
+                name: identifier.copy()?,
+            });
         }
-        if !self.is_tuple(k) {
-            return Err(TypeFault::WrongKind { name: x.copy()? });
+        if !self.is_tuple(place) {
+            return Err(TypeFault::WrongKind {
+                name: identifier.copy()?,
+            });
         }
-        Ok(k as u32)
+        Ok(place as u32)
     }
 
     // A tuple variable.
-    fn tuple(&self, x: &Text) -> Result<u32, TypeFault>
-        ensures { Answers (λ j. j) (tuple_fault self.now.decls.now self.now.sight x.now) (variable_at self.now.decls.now x.now) result }
+    fn tuple_variable(&self, identifier: &Text) -> Result<u32, TypeFault>
+        ensures { let ds = self.now.decls.now in
+            Answers (λ j. j) (tuple_fault ds self.now.sight identifier.now) (variable_at ds identifier.now) result }
     {
-        match declared_at(self.decls, x) {
-            None => Err(TypeFault::NotDeclared { name: x.copy()? }),
-            Some(k) => self.tuple_at(k, x),
+        match declared_at(self.decls, identifier) {
+            None => Err(TypeFault::NotDeclared {
+                name: identifier.copy()?,
+            }),
+            Some(place) => self.tuple_in_sight(place, identifier),
         }
     }
 
     /// A tuple variable with an attribute, after these folds.
-    pub fn attribute(&self, folds: &mut Vec<Fold>, x: &Text, attribute: &Name) -> Result<(u32, Place), TypeFault>
-        ensures answer { let ds = self.now.decls.now in Answers (λ p. p) (attribute_fault ds self.now.sight folds.old.items x.now attribute.now) (variable_at ds x.now, place_named ds attribute.now) result }
-        ensures taken { OnOk result (SameOthers (folds.old.items ++ fold_of self.now.decls.now x.now attribute.now) folds.new.items) }
+    pub fn attribute(
+        &self,
+        folds: &mut Vec<Fold>,
+        identifier: &Text,
+        attribute: &Name,
+    ) -> Result<(u32, Place), TypeFault>
+        ensures answer { let ds = self.now.decls.now in
+            Answers (λ p. p) (attribute_fault ds self.now.sight folds.old.items identifier.now attribute.now)
+            (variable_at ds identifier.now, place_named ds attribute.now) result }
+        ensures taken { OnOk result
+            (SameOthers (folds.old.items ++ fold_of self.now.decls.now identifier.now attribute.now) folds.new.items) }
     {
-        let tuple = self.tuple(x)?;
+        let tuple = self.tuple_variable(identifier)?;
         let place = self.place(attribute)?;
-        take_fold(folds, x, tuple, &place)?;
+        take_fold(folds, identifier, tuple, &place)?;
         Ok((tuple, place))
     }
 }

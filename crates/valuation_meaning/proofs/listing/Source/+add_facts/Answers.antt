@@ -1,10 +1,10 @@
-use Rattle.std.proofs.Common.{◌≡◌, Some, None, length, map, sym, ◌∙◌, ap}
-use Rattle.std.specs.Prelude.{slice_get}
+use Rattle.std.proofs.Common.{length, sym, ◌∙◌}
 use Rattle.std.proofs.lemmas.List.{map-id}
 use Rattle.std.proofs.lemmas.Iterator.Adapters.{YieldsList-from_vec}
 use Rattle.std.proofs.lemmas.Iterator.Consumers.{YieldsList-end}
 use Rattle.view_def.specs.Query.{query_of}
-use Rattle.valuation_meaning.proofs.ListingLemmas.{none_left, collected}
+use Rattle.ss_text.proofs.GroupWalk.{none_left}
+use Rattle.valuation_meaning.proofs.ListingLemmas.{collected}
 use Rattle.valuation_meaning.proofs.listing.Source.+add_facts.Goals as goal
 
 pub returns-in_default-clause-facts : goal.returns-in_default-clause-facts

@@ -1,0 +1,271 @@
+-- Runs over an input that is read line by line.
+use Rattle.std.proofs.Common.{◌≡◌, ◌<◌, ◌≤◌, ◌+◌, ◌-◌, ℕ, Bool, true, false, List, [], ◌∷◌, ◌++◌, length, Option, None, Some, unwrap_or, inl, inr, refl, sym, ap, ◌∙◌, subst, append_assoc, append-nil, arith, length-append}
+use Rattle.std.specs.Prelude.{Result, Ok, Err, IsErrOf}
+use Rattle.outside.specs.Streams.{before}
+use Rattle.outside.specs.Counts.{Rose}
+use Rattle.effects.specs.Effects.{Effect, World, Contents, contents, performed, Partly}
+use Rattle.effects.specs.Blame.{Steady}
+use Rattle.effects.specs.declared.stop.Stop.{Stop}
+use Rattle.effects.specs.declared.stop.Stop.TheVariants as stop
+use Rattle.effects.proofs.EffectLemmas.{performed_append, nothing_yet}
+use Rattle.tab_lines.specs.Lines.{has_feed, lines_of, whole_lines}
+use Rattle.tab_lines.specs.Taking.{LinesState, most_taken, ahead, Unfinished, IsWithinLimit, Answers, Reads, IsNextOf}
+use Rattle.tab_lines.specs.declared.lines.Next.{Next}
+use Rattle.tab_lines.specs.declared.lines.Next.TheVariants.{Line, End}
+use Rattle.tab_lines.specs.declared.lines.ReadStop.{ReadStop}
+use Rattle.tab_lines.specs.declared.lines.ReadStop.TheVariants as read
+use Rattle.tab_lines.proofs.LineLemmas.{whole_first, whole_none}
+use Rattle.course.specs.declared.status.Verdict.{Verdict}
+use Rattle.course.specs.declared.status.Halt.{Halt}
+use Rattle.course.specs.declared.status.Halt.TheVariants as halt
+use Rattle.course.specs.Machine.{Reply, Goes, Halts, Ending, prefixed, follow, course, Answered, Ended, CutOff, Ran, IsReadOut, BlamesRun, BecauseOf, halt_of}
+use Rattle.course.proofs.MachineLemmas.{append_none, Mid, further, goes, halts, stops, mid_line, mid_halt, mid_stop, mid_idle, mid_end, mid_no_more, as_halt}
+
+-- some lines of an input were answered, and the reader holds or will take the others
+pub record Reached {A : Type 0} (step : A → List ℕ → Reply A) (start : A) (bytes : List ℕ) (old : Contents) (state : A) (reader : LinesState) (left : List ℕ) (now : Contents) : Type 0 where
+  pub taken : List ℕ
+  pub lines : List (List ℕ)
+  pub effects : List Effect
+  pub split : bytes ≡ taken ++ left
+  pub count : reader.taken ≡ length taken
+  pub are : lines_of bytes ≡ lines ++ lines_of (ahead reader left)
+  pub whole : reader.ended ≡ false → (more : List ℕ) → whole_lines (taken ++ more) ≡ lines ++ whole_lines (reader.left ++ more)
+  pub end : reader.ended ≡ true → left ≡ []
+  pub answered : follow step lines (Goes [] start) ≡ Goes effects state
+  pub done : now ≡ performed effects old
+
+-- where a run stands, if its input is told
+pub record Stands {A : Type 0} (step : A → List ℕ → Reply A) (start : A) (input : Option (List ℕ)) (old : Contents) (state : A) (reader : LinesState) (rest : Option (List ℕ)) (now : Contents) : Type 0 where
+  pub told : (bytes : List ℕ) → input ≡ Some bytes → (left : List ℕ) × (rest ≡ Some left) × Reached step start bytes old state reader left now
+
+pub starts : {A : Type 0} (step : A → List ℕ → Reply A) (start : A) (input : Option (List ℕ)) (old : Contents) (reader : LinesState) → reader ≡ record { taken = 0; left = []; ended = false } → Stands step start input old start reader input old
+starts step start input old reader is = rw is (record {
+  told = λ bytes told. (
+    bytes,
+    told,
+    record {
+      taken = [];
+      lines = [];
+      effects = [];
+      split = refl;
+      count = refl;
+      are = refl;
+      whole = λ going more. refl;
+      end = λ ended. absurd (cc);
+      answered = refl;
+      done = refl;
+    },
+  );
+})
+
+-- what was taken of a told rest
+took : (left part : List ℕ) (rest later : Option (List ℕ)) → rest ≡ Some left → rest ≡ before part later → (more : List ℕ) × (later ≡ Some more) × (left ≡ part ++ more)
+took left part rest None is moved = absurd (cc)
+took left part rest (Some more) is moved = (more, refl, cc)
+
+-- an end that is not there now was not there before
+still_going : (was is : Bool) → (was ≡ true → is ≡ true) → is ≡ false → was ≡ false
+still_going true is stays going = let ended : is ≡ true = stays refl in absurd (cc)
+still_going false is stays going = refl
+
+last_none : (a b : List ℕ) → a ++ b ≡ [] → b ≡ []
+last_none [] b h = h
+last_none (x ∷ a) b h = absurd (cc)
+
+-- nothing is left where a read answered 0
+nothing_left : (was is : Bool) (left part more : List ℕ) → (was ≡ true → left ≡ []) → left ≡ part ++ more → (was ≡ false → is ≡ true → more ≡ []) → is ≡ true → more ≡ []
+nothing_left true is left part more before_it split after_it ended = last_none part more (sym split ∙ before_it refl)
+nothing_left false is left part more before_it split after_it ended = after_it refl ended
+
+-- what a call took of the input, and what is left of it
+pub record Step (r : Result Next ReadStop) (old new : LinesState) (left more : List ℕ) (later : Option (List ℕ)) : Type 0 where
+  pub told : later ≡ Some more
+  pub part : List ℕ
+  pub split : left ≡ part ++ more
+  pub count : new.taken ≡ old.taken + length part
+  pub going : new.ended ≡ false → old.ended ≡ false
+  pub end : (old.ended ≡ true → left ≡ []) → new.ended ≡ true → more ≡ []
+  pub answers : Answers r (old.left ++ part) new
+
+pub step_of : (r : Result Next ReadStop) (old new : LinesState) (left : List ℕ) (rest later : Option (List ℕ)) → Reads r old new rest later → rest ≡ Some left → (more : List ℕ) × Step r old new left more later
+step_of r old new left rest later m is =
+    let t = took left m.part rest later is m.moved in (
+      t.0,
+      record {
+        told = t.1;
+        part = m.part;
+        split = t.2;
+        count = m.counted;
+        going = still_going old.ended new.ended m.ended;
+        end = λ was ended. nothing_left old.ended new.ended left m.part t.0 was t.2 (λ going now. m.end going now t.0 t.1) ended;
+        answers = m.answers;
+      },
+    )
+
+module _ {A : Type 0} (step : A → List ℕ → Reply A) (finish : A → Ending) (start : A) (bytes : List ℕ) where
+  -- the lines that are left after those answered
+  pub mid_of : (old : Contents) (state : A) (reader : LinesState) (left : List ℕ) (now : Contents) (more : List (List ℕ)) → Reached step start bytes old state reader left now → lines_of (ahead reader left) ≡ more → Mid step start (lines_of bytes) old state more now
+  mid_of old state reader left now more r e = record { lines = r.lines; effects = r.effects; are = r.are ∙ ap (λ (t : List (List ℕ)). r.lines ++ t) e; answered = r.answered; done = r.done }
+
+  whole_after : (taken left part line rest : List ℕ) (lines : List (List ℕ)) (more : List ℕ)
+      → ((more : List ℕ) → whole_lines (taken ++ more) ≡ lines ++ whole_lines (left ++ more)) → has_feed line ≡ false → left ++ part ≡ line ++ 10 ∷ rest
+      → whole_lines ((taken ++ part) ++ more) ≡ (lines ++ line ∷ []) ++ whole_lines (rest ++ more)
+  whole_after taken left part line rest lines more whole clear is =
+      ap whole_lines (append_assoc taken part more)
+      ∙ whole (part ++ more)
+      ∙ ap (λ (b : List ℕ). lines ++ whole_lines b) (sym (append_assoc left part more) ∙ ap (λ (b : List ℕ). b ++ more) is ∙ append_assoc line (10 ∷ rest) more)
+      ∙ ap (λ (t : List (List ℕ)). lines ++ t) (whole_first line (rest ++ more) clear)
+      ∙ sym (append_assoc lines (line ∷ []) (whole_lines (rest ++ more)))
+
+  -- after a line
+  pub reached_more : (old : Contents) (state : A) (line left more : List ℕ) (later : Option (List ℕ)) (reader new_reader : LinesState) (now new : Contents) (self : A) (es : List Effect)
+      → Reached step start bytes old state reader left now → Step (Ok (Line line)) reader new_reader left more later → lines_of (ahead reader left) ≡ line ∷ lines_of (ahead new_reader more)
+      → step state line ≡ Goes es self → new ≡ performed es now → Reached step start bytes old self new_reader more new
+  reached_more old state line left more later reader new_reader now new self es r s next is done = record {
+    taken = r.taken ++ s.part;
+    lines = r.lines ++ line ∷ [];
+    effects = r.effects ++ es;
+    split = r.split ∙ ap (λ (t : List ℕ). r.taken ++ t) s.split ∙ sym (append_assoc r.taken s.part more);
+    count = s.count ∙ omega (arith, r.count, length-append r.taken s.part);
+    are = r.are ∙ ap (λ (t : List (List ℕ)). r.lines ++ t) next ∙ sym (append_assoc r.lines (line ∷ []) (lines_of (ahead new_reader more)));
+    whole = λ going after. elim s.answers.1 [
+      | inl was ↦ whole_after r.taken reader.left s.part line new_reader.left r.lines after (r.whole (s.going going)) s.answers.0 was
+      | inr last ↦ let ended : new_reader.ended ≡ true = last.3 in absurd (cc)
+    ];
+    end = λ ended. s.end r.end ended;
+    answered = further step start state r.lines (line ∷ []) r.effects r.answered ∙ ap (prefixed r.effects) is;
+    done = done ∙ ap (performed es) r.done ∙ sym (performed_append r.effects es old);
+  }
+
+  -- the input gave out
+  pub cut_off : (old now : World) (state : A) (left more : List ℕ) (later : Option (List ℕ)) (r : Result Next ReadStop) (reader new_reader : LinesState)
+      → Reached step start bytes (contents old) state reader left (contents now) → (s : Step r reader new_reader left more later) → Unfinished (reader.left ++ s.part) new_reader
+      → (cut : CutOff step start bytes later old now) × (length cut.taken ≡ new_reader.taken)
+  cut_off old now state left more later r reader new_reader at s cut = (
+    record {
+      taken = at.taken ++ s.part;
+      left = more;
+      split = at.split ∙ ap (λ (t : List ℕ). at.taken ++ t) s.split ∙ sym (append_assoc at.taken s.part more);
+      remains = s.told;
+      effects = at.effects;
+      state = state;
+      answered = ap (λ (ls : List (List ℕ)). follow step ls (Goes [] start)) (at.whole (s.going cut.no_end) s.part ∙ ap (λ (t : List (List ℕ)). at.lines ++ t) (whole_none (reader.left ++ s.part) cut.no_line) ∙ append_none at.lines) ∙ at.answered;
+      done = at.done;
+    },
+    omega (arith, at.count, s.count, length-append at.taken s.part),
+  )
+
+-- a call on the reader, seen from a run whose input is told
+pub record Met {A : Type 0} (step : A → List ℕ → Reply A) (start : A) (bytes : List ℕ) (r : Result Next ReadStop) (old : Contents) (state : A) (reader new_reader : LinesState) (later : Option (List ℕ)) (now : Contents) : Type 0 where
+  pub left : List ℕ
+  pub more : List ℕ
+  pub at : Reached step start bytes old state reader left now
+  pub step_made : Step r reader new_reader left more later
+  pub next : IsNextOf (lines_of (ahead reader left)) (lines_of (ahead new_reader more)) r
+
+-- what the contract of the reader says
+abbrev pub Answer : Result Next ReadStop → LinesState → LinesState → Option (List ℕ) → Option (List ℕ) → Type 0
+Answer r reader new_reader rest later = (bytes more : List ℕ) → rest ≡ Some bytes → later ≡ Some more → IsNextOf (lines_of (ahead reader bytes)) (lines_of (ahead new_reader more)) r
+
+module _ {A : Type 0} (step : A → List ℕ → Reply A) (finish : A → Ending) (start : A) (bytes : List ℕ) where
+  pub meet : (r : Result Next ReadStop) (input : Option (List ℕ)) (old : Contents) (state : A) (reader new_reader : LinesState) (rest later : Option (List ℕ)) (now : Contents)
+      → Stands step start input old state reader rest now → Reads r reader new_reader rest later → Answer r reader new_reader rest later → input ≡ Some bytes → Met step start bytes r old state reader new_reader later now
+  meet r input old state reader new_reader rest later now s reads answer is =
+      let at = s.told bytes is in
+      let more = step_of r reader new_reader at.0 rest later reads at.1 in
+      record { left = at.0; more = more.0; at = at.2; step_made = more.1; next = answer at.0 more.0 at.1 more.1.told }
+
+  line_mid : (line : List ℕ) (old : Contents) (state : A) (reader new_reader : LinesState) (later : Option (List ℕ)) (now : Contents) → (m : Met step start bytes (Ok (Line line)) old state reader new_reader later now) → Mid step start (lines_of bytes) old state (line ∷ lines_of (ahead new_reader m.more)) now
+  line_mid line old state reader new_reader later now m = mid_of step finish start bytes old state reader m.left now (line ∷ lines_of (ahead new_reader m.more)) m.at m.next
+
+  end_mid : (old : Contents) (state : A) (reader new_reader : LinesState) (later : Option (List ℕ)) (now : Contents) → Met step start bytes (Ok End) old state reader new_reader later now → Mid step start (lines_of bytes) old state [] now
+  end_mid old state reader new_reader later now m = mid_of step finish start bytes old state reader m.left now [] m.at m.next
+
+  idle : (r : Result Next ReadStop) (old now : World) (state : A) (reader new_reader : LinesState) (later : Option (List ℕ)) → Met step start bytes r (contents old) state reader new_reader later (contents now) → Partly (course step finish start (lines_of bytes)).effects (contents old) (contents now)
+  idle r old now state reader new_reader later m =
+      mid_idle step finish start (lines_of bytes) (contents old) state (lines_of (ahead reader m.left)) (contents now) (mid_of step finish start bytes (contents old) state reader m.left (contents now) (lines_of (ahead reader m.left)) m.at refl)
+
+  -- nothing was done
+  pub none_ran : (rest : Option (List ℕ)) (old : World) → Ran step finish start bytes rest old old (Err (halt.Stopped stop.NoMemory))
+  none_ran rest old = nothing_yet (course step finish start (lines_of bytes)).effects (contents old) (contents old) refl
+
+  -- the reader gave up
+  pub gave_out : (e : ReadStop) (old now : World) (state : A) (reader new_reader : LinesState) (later : Option (List ℕ))
+      → Met step start bytes (Err e) (contents old) state reader new_reader later (contents now) → Ran step finish start bytes later old now (Err (halt_of e))
+  gave_out read.ReadFault old now state reader new_reader later m = (cut_off step finish start bytes old now state m.left m.more later (Err read.ReadFault) reader new_reader m.at m.step_made m.step_made.answers.0).0
+  gave_out read.TooLong old now state reader new_reader later m =
+      let cut = cut_off step finish start bytes old now state m.left m.more later (Err read.TooLong) reader new_reader m.at m.step_made m.step_made.answers.0 in
+      (cut.0, cut.1 ∙ m.step_made.answers.1)
+  gave_out read.NoMemory old now state reader new_reader later m = idle (Err read.NoMemory) old now state reader new_reader later m
+
+  -- the answer of a line stopped
+  pub line_stops : (line : List ℕ) (old now new : World) (state self : A) (reader new_reader : LinesState) (later : Option (List ℕ)) (e : Stop)
+      → Met step start bytes (Ok (Line line)) (contents old) state reader new_reader later (contents now) → Answered (step state line) now new self (Err e) → Ran step finish start bytes later old new (Err (halt.Stopped e))
+  line_stops line old now new state self reader new_reader later e m h =
+      mid_stop step finish start (lines_of bytes) (contents old) state line (lines_of (ahead new_reader m.more)) (contents now) (contents new) (line_mid line (contents old) state reader new_reader later (contents now) m) (stops (step state line) now new self e h)
+
+  -- it ended the run
+  pub line_ends : (line : List ℕ) (old now new : World) (state self : A) (reader new_reader : LinesState) (later : Option (List ℕ)) (v : Verdict)
+      → Met step start bytes (Ok (Line line)) (contents old) state reader new_reader later (contents now) → Answered (step state line) now new self (Ok (Some v)) → Ran step finish start bytes later old new (Ok v)
+  line_ends line old now new state self reader new_reader later v m h =
+      let did = halts (step state line) now new self v h in
+      mid_halt step finish start (lines_of bytes) (contents old) state line (lines_of (ahead new_reader m.more)) (contents now) (contents new) did.0 v (line_mid line (contents old) state reader new_reader later (contents now) m) did.1 did.2
+
+  pub line_ends_all : (line : List ℕ) (old now new : World) (state self : A) (reader new_reader : LinesState) (later : Option (List ℕ)) (v : Verdict)
+      → Met step start bytes (Ok (Line line)) (contents old) state reader new_reader later (contents now) → Answered (step state line) now new self (Ok (Some v)) → IsReadOut step start bytes later
+  line_ends_all line old now new state self reader new_reader later v m h =
+      let did = halts (step state line) now new self v h in
+      record {
+        read = λ effects last goes.
+            absurd (mid_no_more step start (lines_of bytes) (contents old) state line (lines_of (ahead new_reader m.more)) (contents now) did.0 effects v last (line_mid line (contents old) state reader new_reader later (contents now) m) did.1 goes);
+      }
+
+  -- the run goes on after it
+  pub line_more : (input : Option (List ℕ)) (line : List ℕ) (old now new : World) (state self : A) (reader new_reader : LinesState) (rest later : Option (List ℕ))
+      → Stands step start input (contents old) state reader rest (contents now) → Reads (Ok (Line line)) reader new_reader rest later → Answer (Ok (Line line)) reader new_reader rest later → Answered (step state line) now new self (Ok None)
+      → input ≡ Some bytes → (left : List ℕ) × (later ≡ Some left) × Reached step start bytes (contents old) self new_reader left (contents new)
+  line_more input line old now new state self reader new_reader rest later s reads answer h is =
+      let m = meet (Ok (Line line)) input (contents old) state reader new_reader rest later (contents now) s reads answer is in
+      let did = goes (step state line) now new self h in
+      (m.more, m.step_made.told, reached_more step finish start bytes (contents old) state line m.left m.more later reader new_reader (contents now) (contents new) self did.0 m.at m.step_made m.next did.1 did.2)
+
+  -- the input ended
+  pub end_ran : (old now new : World) (state : A) (reader new_reader : LinesState) (later : Option (List ℕ)) (r : Result Verdict Stop)
+      → Met step start bytes (Ok End) (contents old) state reader new_reader later (contents now) → Ended (finish state) now new r → Ran step finish start bytes later old new (as_halt r)
+  end_ran old now new state reader new_reader later (Ok v) m h = mid_end step finish start (lines_of bytes) old state now new (Ok v) (end_mid (contents old) state reader new_reader later (contents now) m) h
+  end_ran old now new state reader new_reader later (Err e) m h = mid_end step finish start (lines_of bytes) old state now new (Err e) (end_mid (contents old) state reader new_reader later (contents now) m) h
+
+  pub end_all : (old : Contents) (state : A) (reader new_reader : LinesState) (later : Option (List ℕ)) (now : Contents) → Met step start bytes (Ok End) old state reader new_reader later now → IsWithinLimit new_reader → IsReadOut step start bytes later
+  end_all old state reader new_reader later now m within =
+      let ended = m.step_made.answers.2 in
+      let none : m.more ≡ [] = m.step_made.end m.at.end ended in
+      let all : bytes ≡ m.at.taken ++ m.step_made.part = m.at.split ∙ ap (λ (t : List ℕ). m.at.taken ++ t) (m.step_made.split ∙ ap (λ (t : List ℕ). m.step_made.part ++ t) none ∙ append_none m.step_made.part) in
+      record {
+        read = λ effects last goes. (m.step_made.told ∙ ap Some none, omega (arith, ap length all, length-append m.at.taken m.step_made.part, m.at.count, m.step_made.count, within.ended ended));
+      }
+
+pub line_stands : {A : Type 0} (step : A → List ℕ → Reply A) (finish : A → Ending) (start : A) (input : Option (List ℕ)) (line : List ℕ) (old now new : World) (state self : A) (reader new_reader : LinesState) (rest later : Option (List ℕ))
+    → Stands step start input (contents old) state reader rest (contents now) → Reads (Ok (Line line)) reader new_reader rest later → Answer (Ok (Line line)) reader new_reader rest later → Answered (step state line) now new self (Ok None)
+    → Stands step start input (contents old) self new_reader later (contents new)
+line_stands step finish start input line old now new state self reader new_reader rest later s reads answer h = record { told = λ bytes is. line_more step finish start bytes input line old now new state self reader new_reader rest later s reads answer h is }
+
+-- an answer that is no line is the end
+pub no_line : (next : Next) → ((line : List ℕ) → next ≡ Line line → ⊥) → next ≡ End
+no_line (Line line) h = absurd (h line refl)
+no_line End h = refl
+
+-- fewer bytes are to be answered after a line
+pub fewer : (line : List ℕ) (reader new_reader : LinesState) (rest later : Option (List ℕ)) → Reads (Ok (Line line)) reader new_reader rest later → IsWithinLimit new_reader → 4294967296 - new_reader.taken + length new_reader.left < 4294967296 - reader.taken + length reader.left
+fewer line reader new_reader rest later reads within = elim reads.answers.1 [
+  | inl whole ↦ omega (arith, reads.counted, within.taken, ap length whole, length-append reader.left reads.part, length-append line (10 ∷ new_reader.left))
+  | inr last ↦ omega (arith, reads.counted, within.taken, ap length last.0, ap length last.2, length-append reader.left reads.part, some_length line last.1)
+]
+  where
+    some_length : (xs : List ℕ) → (xs ≡ [] → ⊥) → 0 < length xs
+    some_length [] h = absurd (h refl)
+    some_length (x ∷ xs) h = omega arith
+
+pub gave_out_blames : (i j k : ℕ) (old now : World) (e : ReadStop) → Steady old now → i ≤ j → j ≤ k → (IsErrOf {T = Next} (Err e) read.ReadFault → Rose j k) → BlamesRun {A = Verdict} i k old now (Err (halt_of e))
+gave_out_blames i j k old now read.ReadFault s a b f = record { steady = s; input = omega arith; because = let x : Rose j k = f refl in omega arith }
+gave_out_blames i j k old now read.TooLong s a b f = record { steady = s; input = omega arith; because = tt }
+gave_out_blames i j k old now read.NoMemory s a b f = record { steady = s; input = omega arith; because = tt }

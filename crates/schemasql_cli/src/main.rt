@@ -1,0 +1,50 @@
+//! The program `schemasql`: its words, the current folder, standard input and standard output go to `run`,
+//! and its exit status is the number of the status that comes out.
+//!
+//! It is the trusted edge: its adapters tell nothing of what real folders and streams hold.
+#![tactic(auto)]
+
+mod folders;
+mod streams;
+mod words;
+
+ghost use Rattle.std.specs.Prelude.{◌≡◌, ◌<◌};
+
+use folders::HostFolders;
+use ss_text::{Steps, Text};
+use ss_top::{Status, run};
+use std::marker::Brand;
+use std::process::ExitCode;
+use std::sync::ledger::{Blank, Ledger};
+use streams::{HostSink, HostSource};
+use words::words_of;
+
+fn main(rt: HostRuntime) -> ExitCode {
+    match words_of(&rt) {
+        Ok(words) => {
+            let status = run_here::<Brand>(&rt, &words, Blank::new(1));
+            ExitCode::from(status.number())
+        }
+        Err(status) => ExitCode::from(status.number()),
+    }
+}
+
+// Runs over the current folder and the standard streams, and counts no steps.
+fn run_here<L: Ledger>(rt: &HostRuntime, words: &[Text], blank: Blank) -> Status
+    requires name { blank.name ≡ L.name }
+    requires parts { blank.parts ≡ L.parts }
+    requires some { 0 < L.parts }
+{
+    let mut store = HostFolders::of(*rt);
+    let mut input = HostSource::of(rt.stdin());
+    let mut output = HostSink::of(rt.stdout());
+    let mut steps = Steps::<L>::of(blank);
+    run(
+        rt.alloc(),
+        words,
+        &mut store,
+        &mut input,
+        &mut output,
+        &mut steps,
+    )
+}

@@ -1,0 +1,5 @@
+pub mod OpeningLemmas
+pub mod RunLemmas
+pub mod StageLemmas
+pub mod ShownLemmas
+pub mod DefinitionLemmas

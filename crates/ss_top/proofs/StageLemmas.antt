@@ -1,0 +1,130 @@
+-- What a view gives over a catalogue, as its files.
+use Rattle.std.proofs.Common.{◌≡◌, ◌≢◌, ◌+◌, ◌-◌, ◌<◌, ◌∙◌, ℕ, suc, Bool, true, false, List, [], ◌∷◌, ◌++◌, map, filter, length, drop, Option, None, Some, refl, sym, ap, subst, arith, cond, length-append}
+use Rattle.std.specs.Prelude.{codes, option_map, option_to_list}
+use Rattle.std.specs.Option.{option_or}
+use Rattle.std.specs.List.{AllByRecursion, filter_map}
+use Rattle.std.specs.List.Sorted.{IsStrictlySortedBy}
+use Rattle.std.specs.declared.cmp.Ordering.{Ordering}
+use Rattle.std.specs.declared.cmp.Ordering.TheVariants.{Less, Equal, Greater}
+use Rattle.std.proofs.lemmas.Bool.{false_from_ne_true}
+use Rattle.std.proofs.lemmas.List.{append_cancel_right}
+use Rattle.std.proofs.lemmas.Cmp.{nat_list_cmp_total, tied_itself}
+use Rattle.std.proofs.lemmas.Slice.Eq.{bytes_eq-Decides}
+use Rattle.ss_text.specs.Texts.{Text, Row, text_cmp, text_eq, row_cmp}
+use Rattle.ss_text.specs.Ascending.{ascending, with_element, by_order}
+use Rattle.ss_text.proofs.AscendingLemmas.{ascending_ascends}
+use Rattle.schema_model.specs.Catalogue.{CatalogueValue}
+use Rattle.view_def.specs.Query.{Query}
+use Rattle.flow_law.specs.Facts.{Fact, illegal, conflict, facts_of, column_of}
+use Rattle.flow_law.specs.Tables.{TableValue, TablesValue}
+use Rattle.flow_law.specs.FactTables.{tables, fact_table, value_for}
+use Rattle.flow_law.specs.declared.shape.Shape.{Shape}
+use Rattle.view_def.specs.declared.typed.Term.{Term}
+use Rattle.valuation_meaning.specs.Elements.{Valuation}
+use Rattle.valuation_meaning.specs.Valuations.{valuations}
+use Rattle.valuation_meaning.specs.Meaning.{facts, fact_of, values_of, shape_of, meaning}
+use Rattle.view_folder.specs.declared.file.File.{File}
+use Rattle.view_folder.specs.Files.{AreViewFiles, is_csv_name, is_named}
+use Rattle.view_folder.specs.TableFiles.{table_files, table_file, FitsShape, FitShape}
+use Rattle.ss_print.specs.Fields.{illegal_fields, clash_fields}
+use Rattle.ss_top.specs.Stages.{files_of_view, refusal_of}
+use Rattle.ss_top.specs.Records.{HasRecords}
+use Rattle.flow_law.specs.declared.refused.IllegalLabel.{IllegalLabel}
+use Rattle.flow_law.specs.declared.refused.Clash.{Clash}
+
+-- a label and `.csv` ends in `.csv`
+csv_named : (l : Text) → is_csv_name (l ++ codes ".csv") ≡ true
+csv_named l = ap (λ (x : Text). text_eq x (codes ".csv")) (ap (λ n. drop n (l ++ codes ".csv")) (four_less l) ∙ past l (codes ".csv"))
+  where
+    four_less : (l : Text) → length (l ++ codes ".csv") - 4 ≡ length l
+    four_less l = omega (arith, length-append l (codes ".csv"))
+
+    past : (l t : Text) → drop (length l) (l ++ t) ≡ t
+    past [] t = refl
+    past (x ∷ xs) t = past xs t
+
+-- labels that differ give files of other names
+same_front : (l m t : Text) → l ++ t ≡ m ++ t → l ≡ m
+same_front l m t e = append_cancel_right l m t e
+
+apart : (l m : Text) → text_cmp l m ≡ Less → text_eq (l ++ codes ".csv") (m ++ codes ".csv") ≡ false
+apart l m less = false_from_ne_true _ (λ t.
+    let same : l ≡ m = same_front l m (codes ".csv") ((bytes_eq-Decides (l ++ codes ".csv") (m ++ codes ".csv")).0 t) in
+    let tie : text_cmp l m ≡ Equal = subst (λ (x : Text). text_cmp l x ≡ Equal) same (tied_itself nat_list_cmp_total l) in
+    absurd (cc))
+
+module _ (shape : Shape) (g : Text → TableValue) where
+  unnamed : (l : Text) (ls : List Text) → AllByRecursion (λ m. text_cmp l m ≡ Less) ls → is_named (map (table_file shape) (map (λ m. (m, g m)) ls)) (l ++ codes ".csv") ≡ false
+  unnamed l [] h = refl
+  unnamed l (m ∷ ms) h = rw (apart l m h.0, unnamed l ms h.1) refl
+
+  files_of_labels : (ls : List Text) → IsStrictlySortedBy text_cmp ls → AreViewFiles (map (table_file shape) (map (λ m. (m, g m)) ls))
+  unfolding IsStrictlySortedBy
+  files_of_labels [] h = tt
+  files_of_labels (l ∷ ls) h = (csv_named l, unnamed l ls h.0, files_of_labels ls h.1)
+
+-- the files of a view's tables
+pub are_view_files : (c : CatalogueValue) (q : Query) → AreViewFiles (files_of_view c q)
+unfolding files_of_view table_files meaning tables
+are_view_files c q =
+    files_of_labels (shape_of q) (λ label. fact_table (facts_of label (facts c q))) (ascending text_cmp (option_to_list (shape_of q).label ++ map (λ (f : Fact). f.label) (facts c q)))
+    (ascending_ascends text_cmp nat_list_cmp_total (option_to_list (shape_of q).label ++ map (λ (f : Fact). f.label) (facts c q)))
+
+-- what holds of each element holds of each that is left by a test, or once each in order
+module _ {A : Type 0} (P : A → Type 0) where
+  each_filtered : (p : A → Bool) (xs : List A) → AllByRecursion P xs → AllByRecursion P (filter p xs)
+  each_filtered p [] h = tt
+  each_filtered p (x ∷ xs) h = elim (p x) as (λ b. AllByRecursion P (cond b (x ∷ filter p xs) (filter p xs))) [ true ↦ (h.0, each_filtered p xs h.1) | false ↦ each_filtered p xs h.1 ]
+
+  module _ (R : A → A → Ordering) where
+    each_with : (x : A) (xs : List A) → P x → AllByRecursion P xs → AllByRecursion P (with_element R x xs)
+    each_with x [] px h = (px, tt)
+    each_with x (y ∷ ys) px h = elim (R x y) as (λ r. AllByRecursion P (by_order r (x ∷ y ∷ ys) (y ∷ ys) (y ∷ with_element R x ys))) [ Less ↦ (px, h) | Equal ↦ h | Greater ↦ (h.0, each_with x ys px h.1) ]
+
+    each_ascending : (xs : List A) → AllByRecursion P xs → AllByRecursion P (ascending R xs)
+    each_ascending [] h = tt
+    each_ascending (x ∷ xs) h = each_with x (ascending R xs) h.0 (each_ascending xs h.1)
+
+module _ {A B : Type 0} (P : B → Type 0) (f : A → B) where
+  each_mapped : (xs : List A) → AllByRecursion (λ x. P (f x)) xs → AllByRecursion P (map f xs)
+  each_mapped [] h = tt
+  each_mapped (x ∷ xs) h = (h.0, each_mapped xs h.1)
+
+  all_mapped : (xs : List A) → ((x : A) → P (f x)) → AllByRecursion P (map f xs)
+  all_mapped [] h = tt
+  all_mapped (x ∷ xs) h = (h x, all_mapped xs h)
+
+-- each key of the facts has a text
+key_of_fact : (q : Query) (v : Valuation) → q.keys ≢ [] → (fact_of q v).key ≢ []
+key_of_fact q v ne e = ne (empty q.keys e)
+  where
+    empty : (ts : List Term) → values_of v ts ≡ [] → ts ≡ []
+    empty [] h = refl
+    empty (t ∷ ts) h = absurd (cc)
+
+facts_keyed : (c : CatalogueValue) (q : Query) → q.keys ≢ [] → AllByRecursion (λ (f : Fact). f.key ≢ []) (facts c q)
+unfolding facts
+facts_keyed c q ne = all_mapped (λ (f : Fact). f.key ≢ []) (fact_of q) (valuations c q) (λ v. key_of_fact q v ne)
+
+table_keyed : (fs : List Fact) → AllByRecursion (λ (f : Fact). f.key ≢ []) fs → AllByRecursion (λ (r : Row × Row). r.0 ≢ []) (fact_table fs).rows
+table_keyed fs h =
+    each_mapped (λ (r : Row × Row). r.0 ≢ []) (λ key. (key, map (value_for fs key) (ascending text_cmp (filter_map column_of fs)))) (ascending row_cmp (map (λ (f : Fact). f.key) fs))
+    (each_ascending (λ (key : Row). key ≢ []) row_cmp (map (λ (f : Fact). f.key) fs) (each_mapped (λ (key : Row). key ≢ []) (λ (f : Fact). f.key) fs h))
+
+pub meaning_fits : (c : CatalogueValue) (q : Query) → HasRecords q → FitShape (shape_of q) (meaning c q)
+unfolding meaning tables
+meaning_fits c q h =
+    all_mapped (λ (p : Text × TableValue). FitsShape (shape_of q) p.1) (λ label. (label, fact_table (facts_of label (facts c q)))) (ascending text_cmp (option_to_list (shape_of q).label ++ map (λ (f : Fact). f.label) (facts c q)))
+    (λ label. record { some = h.columns; keys = table_keyed (facts_of label (facts c q)) (each_filtered (λ (f : Fact). f.key ≢ []) (λ (f : Fact). text_eq label f.label) (facts c q) (facts_keyed c q h.terms)) })
+
+pub not_refused : (c : CatalogueValue) (q : Query) → illegal (shape_of q) (facts c q) ≡ None → conflict (facts c q) ≡ None → refusal_of c q ≡ None
+unfolding refusal_of
+not_refused c q i k = rw (i, k) refl
+
+pub refused_label : (c : CatalogueValue) (q : Query) (e : IllegalLabel) → illegal (shape_of q) (facts c q) ≡ Some e → refusal_of c q ≡ Some (illegal_fields e)
+unfolding refusal_of
+refused_label c q e i = rw i refl
+
+pub refused_clash : (c : CatalogueValue) (q : Query) (e : Clash) → illegal (shape_of q) (facts c q) ≡ None → conflict (facts c q) ≡ Some e → refusal_of c q ≡ Some (clash_fields e)
+unfolding refusal_of
+refused_clash c q e i k = rw (i, k) refl

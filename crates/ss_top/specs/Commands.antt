@@ -1,0 +1,29 @@
+-- What the words ask for.
+use Rattle.std.specs.Prelude.{Bool, true, false, ◌&&◌, List, [], ◌∷◌, if◌then◌else◌, codes}
+use Rattle.ss_text.specs.Texts.{Text, Row, text_eq}
+use Rattle.ss_text.specs.Label.{is_table_label}
+
+-- a command with the name of a view, or words that are none of the forms
+pub data Asked : Type 0 where
+  Show : Text → Asked
+  Other : Asked
+
+abbrev pub command_named : Text → Text → Asked
+command_named word name = if text_eq word (codes "show") then Show name else Other
+
+-- a word and a legal table label
+abbrev pub asked_of : List Text → Asked
+asked_of [] = Other
+asked_of (word ∷ []) = Other
+asked_of (word ∷ name ∷ []) = if is_table_label name then command_named word name else Other
+asked_of (word ∷ name ∷ more ∷ rest) = Other
+
+-- whether a command calls the store
+abbrev pub uses_store : Asked → Bool
+uses_store (Show name) = true
+uses_store Other = false
+
+-- and whether it reads the input
+abbrev pub reads_input : Asked → Bool
+reads_input (Show name) = false
+reads_input Other = false

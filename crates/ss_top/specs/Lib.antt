@@ -1,0 +1,11 @@
+pub mod Printed
+pub mod Commands
+pub mod Stages
+pub mod Open
+pub mod Opening
+pub mod Records
+pub mod Steps
+pub mod Course
+pub mod Runs
+pub mod Exit
+pub mod Promises
