@@ -1,24 +1,22 @@
 -- What is read from a text is good.
-use Rattle.std.proofs.Common.{◌≡◌, ℕ, zero, suc, Bool, true, false, List, [], ◌∷◌, Option, Some, None, refl, sym, ap, ◌∙◌, subst, unwrap_or, true≢false}
-use Rattle.std.specs.Prelude.{MatchBool, IfSome, codes, if◌then◌else◌}
+use Rattle.std.proofs.Common.{◌≡◌, ℕ, zero, suc, Bool, true, false, List, [], ◌∷◌, Option, Some, None, refl, ap, subst, unwrap_or}
+use Rattle.std.specs.Prelude.{MatchBool, IfSome, codes}
 use Rattle.ss_text.specs.Texts.{Text}
 use Rattle.view_def.specs.declared.written.Name.{Name}
-use Rattle.view_def.specs.declared.written.Op.{Op}
 use Rattle.view_def.specs.declared.written.RawTerm.{RawTerm}
 use Rattle.view_def.specs.declared.written.RawTerm.TheVariants as term
 use Rattle.view_def.specs.declared.written.RawRange.{RawRange}
 use Rattle.view_def.specs.declared.written.RawRange.TheVariants as range
-use Rattle.view_def.specs.declared.written.RawDecl.{RawDecl}
-use Rattle.view_def.specs.RawConditions.{Raw, AnyRaw, AllRaw, NotRaw, CompareRaw, Raws, none, more, raws}
+use Rattle.view_def.specs.RawConditions.{Raw, AnyRaw, AllRaw, NotRaw, CompareRaw, raws}
 use Rattle.view_def.specs.Tree.{Tree}
 use Rattle.view_def.specs.Print.{is_any, is_joined}
 use Rattle.ss_lexer.specs.Lexemes.{Lexeme, Ident, Key, Quoted, Literal, Mark, Finish, Bad_byte, Open_quote, Piece, pieces}
 use Rattle.ss_lexer.proofs.RealLexemes.{IsReal, AllReal, all_real}
-use Rattle.ss_parser.specs.Phrases.{Phrase, next, passes, token, gives, ◌>>=◌, by_next, Listed, last, listed, limit}
+use Rattle.ss_parser.specs.Phrases.{Phrase, next, passes, gives, ◌>>=◌, by_next, Listed, last, listed, limit}
 use Rattle.ss_parser.specs.Phrases.{more as further}
 use Rattle.ss_parser.specs.Terms.{one, just, key, sign, is_key, is_sign, an_ident, ident, a_name, name, some, a_literal, literal, dotted, ident_term, is_ident, a_term}
 use Rattle.ss_parser.specs.Declarations.{decl_of, var, arrow_var, column_var, cell_var, in_relation, in_database, behind_name, named, decl}
-use Rattle.ss_parser.specs.Conditions.{an_operator, operator, comparison, any_of, all_of, all, any, negation, group, starts_term, opens, inside, nested, unit}
+use Rattle.ss_parser.specs.Conditions.{an_operator, operator, comparison, any_of, all_of, all, any, negation, group, starts_term, opens, inside, unit}
 use Rattle.ss_parser.specs.Views.{Head, head_of, columns, target, header, selection, declarations, is_finish, finish, closed, end, filtered, unfiltered, ending, tree_with, view}
 use Rattle.ss_parser.specs.Refused.{AreView, IsRead}
 use Rattle.ss_parser.proofs.Printable.{IsIdent, GoodName, GoodTerm, GoodRange, GoodDecl, Each, SomeEach, Inside, Bare, Members, GoodTree, bare_more, bare_inside}
@@ -26,9 +24,6 @@ use Rattle.ss_parser.proofs.Printable.{IsIdent, GoodName, GoodTerm, GoodRange, G
 -- from real pieces something good is read, and real ones are left
 abbrev Keeps : {A : Type 0} → Phrase Piece A → (A → Type 0) → Type 0
 Keeps {A} p G = (ps : List Piece) (x : A) (rest : List Piece) → p.reads ps x rest → AllReal ps → G x × AllReal rest
-
-anything : {A : Type 0} → A → Type 0
-anything a = Unit {0}
 
 module _ {A : Type 0} (f : Lexeme → Option A) (G : A → Type 0) (h : (l : Lexeme) (x : A) → f l ≡ Some x → IsReal l → G x) where
   one_keeps : Keeps (one f) G

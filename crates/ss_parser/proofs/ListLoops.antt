@@ -11,9 +11,6 @@ pub record GoesOn {A : Type 0} (comma : Piece → Bool) (p : Phrase Piece A) (st
   pub reads : (all : List A) (rest : List Piece) → Listed comma p now all rest → Listed comma p start (before ++ all) rest
   pub stops : (deep : Bool) (rest : List Piece) → ListStops comma p deep now rest → ListStops comma p deep start rest
 
-pub list_start : {A : Type 0} (comma : Piece → Bool) (p : Phrase Piece A) (ts : List Piece) → GoesOn comma p ts ts []
-list_start comma p ts = record { reads = λ all rest l. l; stops = λ deep rest s. s }
-
 module _ {A : Type 0} (comma : Piece → Bool) (p : Phrase Piece A) (start now mid rest : List Piece) (before after : List A) (a : A) (so_far : GoesOn comma p start now before) where
   pub list_last : p.reads now a mid → passes comma (next mid) ≡ false → rest ≡ mid → after ≡ before ++ a ∷ [] → Listed comma p start after rest
   list_last r ends e is =

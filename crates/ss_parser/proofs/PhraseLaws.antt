@@ -382,9 +382,6 @@ module _ {L A : Type 0} (test : L → Bool) (p q : Phrase L A) (ok : Option L �
 
 -- a phrase where the next token passes, and else nothing, or what would be nested too deep
 module _ {L A : Type 0} (test opens : L → Bool) (p : Phrase L A) (ok : Option L → Bool) (sample : L) (lp : Laws p ok sample) (fits : test sample ≡ true) where
-  limited : Phrase L A
-  limited = by_next test p (limit opens)
-
   limited_reads : (ts : List L) (a : A) (rest : List L) → passes test (next ts) ≡ true → p.reads ts a rest → (by_next test p (limit opens)).reads ts a rest
   limited_reads ts a rest e r = subst (λ c. MatchBool c (p.reads ts a rest) ⊥) (sym e) r
 

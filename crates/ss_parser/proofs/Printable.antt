@@ -1,16 +1,15 @@
 -- What a tree is that is read from a text.
-use Rattle.std.proofs.Common.{◌≡◌, ℕ, zero, suc, Bool, true, false, List, [], ◌∷◌, Option, Some, None, refl, sym, ap, ◌∙◌, subst}
+use Rattle.std.proofs.Common.{◌≡◌, ℕ, suc, Bool, true, false, List, [], ◌∷◌, sym, ap, subst}
 use Rattle.std.specs.Prelude.{MatchBool, IfSome}
 use Rattle.std.specs.Str.{str_to_ascii_lowercase}
 use Rattle.ss_text.specs.Texts.{Text, is_in}
 use Rattle.view_def.specs.declared.written.Name.{Name}
-use Rattle.view_def.specs.declared.written.Op.{Op}
 use Rattle.view_def.specs.declared.written.RawTerm.{RawTerm}
 use Rattle.view_def.specs.declared.written.RawTerm.TheVariants as term
 use Rattle.view_def.specs.declared.written.RawRange.{RawRange}
 use Rattle.view_def.specs.declared.written.RawRange.TheVariants as range
 use Rattle.view_def.specs.declared.written.RawDecl.{RawDecl}
-use Rattle.view_def.specs.RawConditions.{Raw, AnyRaw, AllRaw, NotRaw, CompareRaw, Raws, none, more, raws}
+use Rattle.view_def.specs.RawConditions.{Raw, AnyRaw, AllRaw, NotRaw, CompareRaw, Raws, none, more}
 use Rattle.view_def.specs.Tree.{Tree}
 use Rattle.view_def.specs.Print.{is_any, is_joined}
 use Rattle.ss_lexer.specs.Lexemes.{keywords}

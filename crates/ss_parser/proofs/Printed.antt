@@ -1,11 +1,11 @@
 -- The canonical text of a tree is read as that tree: how parts of it are put together.
-use Rattle.std.proofs.Common.{◌≡◌, ℕ, zero, suc, Bool, true, false, List, [], ◌∷◌, ◌++◌, map, Option, Some, None, refl, sym, ap, ◌∙◌, subst, cond, append_assoc}
-use Rattle.std.specs.Prelude.{MatchBool, codes, flat_map, if◌then◌else◌}
+use Rattle.std.proofs.Common.{◌≡◌, Bool, true, false, List, [], ◌∷◌, ◌++◌, map, Option, Some, None, refl, sym, ap, ◌∙◌, subst, append_assoc}
+use Rattle.std.specs.Prelude.{MatchBool, flat_map, if◌then◌else◌}
 use Rattle.ss_text.specs.Texts.{Text}
-use Rattle.ss_lexer.specs.Lexemes.{Lexeme, Piece, piece_in, pieces, lexeme_in, lexemes, place_of}
+use Rattle.ss_lexer.specs.Lexemes.{Lexeme, Piece, piece_in, pieces, lexeme_in, lexemes}
 use Rattle.ss_lexer.specs.Tokens.{Answer, tokens}
 use Rattle.ss_lexer.proofs.Chunks.{Lexes, breaks, says, both, blank, needing, append_none, breaks_append}
-use Rattle.ss_parser.specs.Phrases.{Phrase, next, passes, token, gives, ◌>>=◌, by_next, Listed, last, more, listed}
+use Rattle.ss_parser.specs.Phrases.{Phrase, next, passes, gives, ◌>>=◌, by_next, Listed, last, more, listed}
 use Rattle.ss_parser.specs.Terms.{one, just}
 use Rattle.ss_parser.proofs.PhraseLaws.{always, after_list, no_comma}
 

@@ -1,9 +1,8 @@
 -- The canonical text of a tree that is read from a text is read as that tree.
-use Rattle.std.proofs.Common.{◌≡◌, ℕ, zero, suc, Bool, true, false, List, [], ◌∷◌, ◌++◌, length, map, Option, Some, None, refl, sym, ap, ◌∙◌, subst, cond, append_assoc}
+use Rattle.std.proofs.Common.{◌≡◌, ℕ, zero, suc, Bool, true, false, List, [], ◌∷◌, ◌++◌, map, Option, Some, None, refl, sym, ap, ◌∙◌, subst, append_assoc}
 use Rattle.std.specs.Prelude.{MatchBool, IfSome, codes, flat_map, if◌then◌else◌}
 use Rattle.std.specs.List.{join_by}
-use Rattle.std.specs.Str.{str_to_ascii_lowercase}
-use Rattle.ss_text.specs.Texts.{Text, is_in}
+use Rattle.ss_text.specs.Texts.{Text}
 use Rattle.view_def.specs.declared.written.Name.{Name}
 use Rattle.view_def.specs.declared.written.Op.{Op}
 use Rattle.view_def.specs.declared.written.Op.TheVariants as op
@@ -14,18 +13,18 @@ use Rattle.view_def.specs.declared.written.RawRange.TheVariants as range
 use Rattle.view_def.specs.declared.written.RawDecl.{RawDecl}
 use Rattle.view_def.specs.RawConditions.{Raw, AnyRaw, AllRaw, NotRaw, CompareRaw, Raws, none, more, raws}
 use Rattle.view_def.specs.Tree.{Tree}
-use Rattle.view_def.specs.Print.{in_quotes, name_text, term_text, path_text, range_text, declaration_text, operator_text, comparison_text, is_any, is_joined, in_parentheses, condition_text, member_texts, filter_text, header_text, query_text, print}
+use Rattle.view_def.specs.Print.{in_quotes, name_text, term_text, declaration_text, operator_text, comparison_text, is_any, is_joined, in_parentheses, condition_text, member_texts, filter_text, print}
 use Rattle.ss_lexer.specs.declared.token.Kind.TheVariants as kind
 use Rattle.ss_lexer.specs.Tokens.{answer}
-use Rattle.ss_lexer.specs.Lexemes.{Lexeme, Ident, Key, Quoted, Literal, Mark, Finish, Piece, keywords, word, lexeme_of, pieces, lexemes}
-use Rattle.ss_lexer.proofs.Chunks.{IsWord, Lexes, breaks, says, says_all, says_end, append_none, both, blank, one_token, before_space, word_says, quoted_says, literal_says}
-use Rattle.ss_parser.specs.Phrases.{Phrase, next, passes, gives, ◌>>=◌, by_next, listed, limit}
-use Rattle.ss_parser.specs.Terms.{one, just, key, sign, is_key, is_sign, says_key, says_sign, an_ident, ident, a_name, name, some, a_literal, literal, dotted, ident_term, is_ident, says_ident, a_term}
+use Rattle.ss_lexer.specs.Lexemes.{Lexeme, Ident, Key, Quoted, Literal, Mark, Finish, Piece, word, pieces}
+use Rattle.ss_lexer.proofs.Chunks.{IsWord, Lexes, breaks, says_all, says_end, append_none, both, blank, one_token, before_space, word_says, quoted_says, literal_says}
+use Rattle.ss_parser.specs.Phrases.{Phrase, gives, ◌>>=◌, by_next, listed, limit}
+use Rattle.ss_parser.specs.Terms.{just, key, sign, is_key, is_sign, an_ident, ident, a_name, name, some, a_literal, literal, dotted, ident_term, is_ident, a_term}
 use Rattle.ss_parser.specs.Declarations.{decl_of, var, arrow_var, column_var, cell_var, in_relation, in_database, behind_name, named, decl}
-use Rattle.ss_parser.specs.Conditions.{an_operator, operator, comparison, any_of, all_of, all, any, negation, group, starts, starts_term, opens, inside, nested, unit}
-use Rattle.ss_parser.specs.Views.{Head, head_of, columns, target, header, selection, declarations, says_finish, is_finish, finish, closed, end, filtered, unfiltered, ending, tree_with, view}
+use Rattle.ss_parser.specs.Conditions.{an_operator, operator, comparison, any_of, all_of, all, any, negation, group, starts_term, opens, inside, unit}
+use Rattle.ss_parser.specs.Views.{head_of, columns, target, header, selection, declarations, says_finish, finish, closed, end, filtered, unfiltered, ending, tree_with, view}
 use Rattle.ss_parser.specs.Refused.{AreView, IsRead}
-use Rattle.ss_parser.proofs.PhraseLaws.{always, after_list, no_comma}
+use Rattle.ss_parser.proofs.PhraseLaws.{always, no_comma}
 use Rattle.ss_parser.proofs.ViewLaws.{after_term, after_all, after_any, after_comma}
 use Rattle.ss_parser.proofs.Printable.{IsIdent, GoodName, GoodTerm, GoodRange, GoodDecl, Each, SomeEach, Inside, Two, Bare, Members, GoodTree}
 use Rattle.ss_parser.proofs.Kept.{good_tree}
@@ -217,9 +216,6 @@ cell_var_prints t a x h k =
 
 -- a name that "::" follows
 module _ (n m : Name) (d : RawDecl) (v : Text) (k : Lexeme) (h : GoodName n) (g : GoodName m) (b : Prints (in_relation n m) always d true v k) (apart : breaks v ≡ true) where
-  abbrev rest_text : Text
-  rest_text = codes "::" ++ (name_text m ++ v)
-
   in_database_prints : Prints (in_database n) always d true (codes "::" ++ (name_text m ++ v)) (Mark (codes "::"))
   in_database_prints =
       behind_sign (codes "::") (name >>= λ m. in_relation n m) always d true (codes "::") (name_text m ++ v) (Mark (codes "::")) (name_first m.quoted m.text) colons_prints
@@ -327,7 +323,7 @@ some_printed p ok f G h fits (x ∷ xs) e =
     let a = h x e.0 in (
       a.0,
       same_text (some p) (after_comma ok) (x ∷ xs) true (f x ++ flat_map (λ v. codes ", " ++ v) (map f xs)) (f x ++ flat_map (λ y. codes ", " ++ f y) xs) a.0 (ap (λ t. f x ++ t) (join_texts f (codes ", ") xs))
-      (list_prints p ok (is_sign (codes ",")) (codes ", ") (Mark (codes ",")) comma_space refl (λ pc k. rw k refl) fits x xs (f x) (map f xs) a.0 a.1 (each_printed p ok f G h xs e.1)),
+          (list_prints p ok (is_sign (codes ",")) (codes ", ") (Mark (codes ",")) comma_space refl (λ pc k. rw k refl) fits x xs (f x) (map f xs) a.0 a.1 (each_printed p ok f G h xs e.1)),
     )
 
 names_printed : (ns : List Name) → SomeEach GoodName ns → Printed (some name) (after_comma always) ns (join_by name_text (codes ", ") ns)
@@ -523,15 +519,6 @@ columns_prints ns h =
     (mapped_prints (sign (codes ")")) (λ _. ns) always tt false (codes ")") (Mark (codes ")")) close_prints) (λ pc k. rw k refl) (λ _. refl))
 
 module _ (db label : Name) (ns : List Name) (h : GoodName db) (g : GoodName label) (e : SomeEach GoodName ns) where
-  abbrev the_head : Head
-  the_head = head_of db label ns
-
-  abbrev from_label : Text
-  from_label = name_text label ++ (codes "(" ++ (columns_text ns ++ codes ")"))
-
-  abbrev target_text : Text
-  target_text = name_text db ++ (codes "::" ++ (name_text label ++ (codes "(" ++ (columns_text ns ++ codes ")"))))
-
   label_prints : Prints (name >>= λ label. columns >>= λ cs. gives (head_of db label cs)) always (head_of db label ns) false (name_text label ++ (codes "(" ++ (columns_text ns ++ codes ")"))) (name_first label.quoted label.text)
   label_prints =
       then_prints name (λ label. columns >>= λ cs. gives (head_of db label cs)) always always label (head_of db label ns) true false (name_text label) (codes "(" ++ (columns_text ns ++ codes ")")) (name_first label.quoted label.text) (Mark (codes "(")) (name_prints label g)
@@ -541,9 +528,6 @@ module _ (db label : Name) (ns : List Name) (h : GoodName db) (g : GoodName labe
   target_prints =
       then_prints name (λ db. sign (codes "::") >>= λ _. name >>= λ label. columns >>= λ cs. gives (head_of db label cs)) always always db (head_of db label ns) true false (name_text db) (codes "::" ++ (name_text label ++ (codes "(" ++ (columns_text ns ++ codes ")")))) (name_first db.quoted db.text) (Mark (codes "::")) (name_prints db h)
       (behind_sign (codes "::") (name >>= λ label. columns >>= λ cs. gives (head_of db label cs)) always (head_of db label ns) false (codes "::") (name_text label ++ (codes "(" ++ (columns_text ns ++ codes ")"))) (Mark (codes "::")) (name_first label.quoted label.text) colons_prints label_prints) (λ _ _. refl) (λ _. refl)
-
-  abbrev the_header_text : Text
-  the_header_text = codes "CREATE " ++ (codes "VIEW " ++ ((name_text db ++ (codes "::" ++ (name_text label ++ (codes "(" ++ (columns_text ns ++ codes ")"))))) ++ (32 ∷ codes "AS ")))
 
   header_prints : Prints header always (head_of db label ns) false (codes "CREATE " ++ (codes "VIEW " ++ ((name_text db ++ (codes "::" ++ (name_text label ++ (codes "(" ++ (columns_text ns ++ codes ")"))))) ++ (32 ∷ codes "AS ")))) (Key (codes "create"))
   header_prints =

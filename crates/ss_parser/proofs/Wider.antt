@@ -2,7 +2,7 @@
 use Rattle.std.proofs.Common.{◌≡◌, Bool, true, false, List, [], ◌∷◌, ◌++◌, Option, Some, refl, sym, ◌∙◌, ap, subst, inl, inr, append_assoc}
 use Rattle.std.specs.Prelude.{MatchBool}
 use Rattle.ss_parser.specs.Phrases.{Phrase, next, passes, token, gives, ◌>>=◌, by_next, Listed, last, more, ListStops, here, later, listed, limit}
-use Rattle.ss_parser.proofs.PhraseLaws.{Laws, always, after_list, no_comma, next_append}
+use Rattle.ss_parser.proofs.PhraseLaws.{Laws, after_list, no_comma, next_append}
 
 -- with one more token than before rest a phrase can go on to its end
 pub record GoesPast {L A : Type 0} (p : Phrase L A) (ok : Option L → Bool) (ts rest : List L) : Type 0 where
@@ -81,9 +81,6 @@ limit_stops_at A test ts rest s = subst (λ m. passes test (next m) ≡ true) s.
 -- such a phrase is as wide as it is
 pub shallow_wider : {L A : Type 0} (p : Phrase L A) (ok : Option L → Bool) → IsShallow p → Wider p p ok
 shallow_wider p ok h = record { reads = λ ts a rest r. r; stops = λ ts rest s. s; goes = λ ts rest s. absurd (h ts rest s) }
-
-pub token_wider : {L A : Type 0} (f : L → Option A) → Wider (token f) (token f) always
-token_wider f = record { reads = λ ts a rest r. r; stops = λ ts rest s. s; goes = λ ts rest s. absurd s }
 
 module _ {L A B : Type 0} (p p' : Phrase L A) (f f' : A → Phrase L B) (p_ok q_ok : Option L → Bool) (p_sample q_sample : L) (wp : Wider p p' p_ok) (wf : (a : A) → Wider (f a) (f' a) q_ok) (lp : Laws p' p_ok p_sample) (lf : (a : A) → Laws (f' a) q_ok q_sample) (fits : p_ok (Some q_sample) ≡ true) where
   then_stops : (ts rest : List L) → (p >>= f).stops false ts rest → (p' >>= f').stops false ts rest
