@@ -34,7 +34,11 @@ impl<'a> Model for Fact<'a> {
 
 impl<'a> Fact<'a> {
     /// The fact with these parts.
-    pub(crate) fn of(label: &'a Text, key: Vec<&'a Text>, cell: Option<(&'a Text, &'a Text)>) -> Fact<'a>
+    pub(crate) fn of(
+        label: &'a Text,
+        key: Vec<&'a Text>,
+        cell: Option<(&'a Text, &'a Text)>,
+    ) -> Fact<'a>
         ensures { result ≡ fact_value label.entry key.entry.items cell.entry }
     {
         Fact { label, key, cell }
@@ -124,7 +128,10 @@ pub(crate) fn label_count(facts: &[Fact<'_>], label: &Text) -> usize
     ensures count { result ≡ prefix_len (λ f. text_eq label.now f.label) facts.now }
     ensures within { result ≤ length facts.now }
 {
-    facts.iter().take_while(|fact| label == fact.label()).count()
+    facts
+        .iter()
+        .take_while(|fact| label == fact.label())
+        .count()
 }
 
 /// How many facts at the front have the key of this one.
@@ -132,7 +139,10 @@ pub(crate) fn key_count(facts: &[Fact<'_>], first: &Fact<'_>) -> usize
     ensures count { result ≡ prefix_len (λ f. row_eq first.now.key f.key) facts.now }
     ensures within { result ≤ length facts.now }
 {
-    facts.iter().take_while(|fact| first.has_key_of(fact)).count()
+    facts
+        .iter()
+        .take_while(|fact| first.has_key_of(fact))
+        .count()
 }
 
 impl PartialEq for Fact<'_> {

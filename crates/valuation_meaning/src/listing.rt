@@ -28,7 +28,11 @@ fn text_of<'a>(valuation: &[Element<'a>], place: &'a Place, empty: &'a Text) -> 
 }
 
 /// The values of terms, where each of them is defined.
-fn values_of<'a>(alloc: Global, valuation: &[Element<'a>], terms: &'a [Term]) -> Result<Option<Vec<&'a Text>>, NoMemory>
+fn values_of<'a>(
+    alloc: Global,
+    valuation: &[Element<'a>],
+    terms: &'a [Term],
+) -> Result<Option<Vec<&'a Text>>, NoMemory>
     ensures { IfOk result (λ ts. option_map (λ ts. texts_of ts.items) ts
         ≡ (if are_defined valuation.now terms.now then Some (values_of valuation.now terms.now) else None)) }
 {
@@ -54,7 +58,12 @@ fn holds(valuation: &[Element<'_>], filter: &Option<Cond>) -> bool
 }
 
 /// The column label and the value, where the view has a variable column and its term is defined.
-fn cell_of<'a>(valuation: &[Element<'a>], column: &'a Option<Place>, value: &'a Option<Term>, empty: &'a Text) -> Option<Option<(&'a Text, &'a Text)>>
+fn cell_of<'a>(
+    valuation: &[Element<'a>],
+    column: &'a Option<Place>,
+    value: &'a Option<Term>,
+    empty: &'a Text,
+) -> Option<Option<(&'a Text, &'a Text)>>
     requires { empty.now ≡ [] }
     ensures { option_map cell_value result
         ≡ (if are_defined valuation.now (option_to_list value.now) then Some (cell_of valuation.now column.now value.now) else None) }
@@ -71,7 +80,12 @@ fn cell_of<'a>(valuation: &[Element<'a>], column: &'a Option<Place>, value: &'a 
 }
 
 /// The fact of a valuation, where the valuation counts.
-fn fact_of<'a>(alloc: Global, view: &'a View, empty: &'a Text, valuation: &[Element<'a>]) -> Result<Option<Fact<'a>>, NoMemory>
+fn fact_of<'a>(
+    alloc: Global,
+    view: &'a View,
+    empty: &'a Text,
+    valuation: &[Element<'a>],
+) -> Result<Option<Fact<'a>>, NoMemory>
     requires { empty.now ≡ [] }
     ensures { let query = query_of view.now in
         IfOk result (λ fact. fact ≡ (if counts query valuation.now then Some (fact_of query valuation.now) else None)) }
@@ -107,7 +121,12 @@ struct Source<'a> {
 
 impl<'a> Source<'a> {
     /// Adds the fact of a valuation, where the valuation counts.
-    fn add_fact(&self, alloc: Global, valuation: &[Element<'a>], facts: &mut Vec<Fact<'a>>) -> Result<(), NoMemory>
+    fn add_fact(
+        &self,
+        alloc: Global,
+        valuation: &[Element<'a>],
+        facts: &mut Vec<Fact<'a>>,
+    ) -> Result<(), NoMemory>
         requires { self.now.empty.now ≡ [] }
         ensures { OnOk result (facts.new.items ≡ facts.old.items ++ facts_after self.now.catalogue.now (query_of self.now.view.now) valuation.now []) }
     {
@@ -118,7 +137,12 @@ impl<'a> Source<'a> {
     }
 
     /// Adds the facts of the valuations that begin with these elements.
-    fn add_facts(&self, alloc: Global, valuation: &mut Vec<Element<'a>>, facts: &mut Vec<Fact<'a>>) -> Result<(), NoMemory>
+    fn add_facts(
+        &self,
+        alloc: Global,
+        valuation: &mut Vec<Element<'a>>,
+        facts: &mut Vec<Fact<'a>>,
+    ) -> Result<(), NoMemory>
         requires { self.now.empty.now ≡ [] }
         ensures facts { let query = query_of self.now.view.now in
             let begun = valuation.old.items in
@@ -138,7 +162,12 @@ impl<'a> Source<'a> {
 }
 
 /// The facts of a view, one for each valuation.
-pub(crate) fn facts<'a>(alloc: Global, catalogue: &'a Catalogue, view: &'a View, empty: &'a Text) -> Result<Vec<Fact<'a>>, NoMemory>
+pub(crate) fn facts<'a>(
+    alloc: Global,
+    catalogue: &'a Catalogue,
+    view: &'a View,
+    empty: &'a Text,
+) -> Result<Vec<Fact<'a>>, NoMemory>
     requires { empty.now ≡ [] }
     ensures { IfOk result (λ fs. fs.items ≡ facts catalogue.now (query_of view.now)) }
 {
