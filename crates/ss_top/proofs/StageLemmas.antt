@@ -120,7 +120,7 @@ meaning_fits c q h =
     (λ label. record { some = h.columns; keys = table_keyed (facts_of label (facts c q)) (each_filtered (λ (f : Fact). f.key ≢ []) (λ (f : Fact). text_eq label f.label) (facts c q) (facts_keyed c q h.terms)) })
 
 -- the fields of a refusal, where the first fault is known
-fields : Option IllegalLabel → Option Clash → Option Row
+abbrev fields : Option IllegalLabel → Option Clash → Option Row
 fields label clash = option_or (option_map illegal_fields label) (option_map clash_fields clash)
 
 no_fault : (i : Option IllegalLabel) (k : Option Clash) → first_fault i k ≡ None → fields i k ≡ None
