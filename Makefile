@@ -7,7 +7,7 @@ all: $(PROGRAM)
 
 $(PROGRAM): $(SOURCES)
 	rm -f $@
-	rt run schemasql_cli > build.log 2>&1; test -x $@ || (cat build.log; exit 1)
+	(cd crates/schemasql_cli && rt run) > build.log 2>&1; test -x $@ || (cat build.log; exit 1)
 	rm -f build.log
 
 # Shows the three offices' data in one another's form.
