@@ -9,7 +9,6 @@ pub mod PlaceLemmas
 pub mod FileLemmas
 pub mod KeptLemmas
 pub mod FilesLemmas
-pub mod StoreLemmas
 pub mod DatabaseLemmas
 pub mod PutLemmas
 pub mod LoadLemmas

@@ -9,13 +9,6 @@ use Rattle.schema_model.specs.Sound.{AreNames}
 use Rattle.ss_text.specs.Ascending.{with_element}
 use Rattle.csv_catalog.specs.Loaded.{label_of, by_name}
 
--- folders, files and the counts of writing stay, and the count of failed reads does not fall
-pub record OnlyRead (old new : StoreState) : Type 0 where
-  pub tree : new.tree ≡ old.tree
-  pub writes : new.writes ≡ old.writes
-  pub write_faults : new.write_faults ≡ old.write_faults
-  pub steady : old.read_faults ≤ new.read_faults
-
 -- what holds of its folders and files, where it tells them
 abbrev pub WhereTold : StoreState → (Tree → Type 0) → Type 0
 WhereTold s P = (t : Tree) → s.tree ≡ Some t → P t

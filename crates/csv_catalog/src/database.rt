@@ -3,7 +3,8 @@ ghost use Rattle.std.specs.Prelude.{◌≡◌, ◌≤◌, Some, None, true, leng
 ghost use Rattle.outside.specs.Counts.{Rose};
 ghost use Rattle.schema_model.specs.Catalogue.{database_value};
 ghost use Rattle.csv_catalog.specs.Loaded.{database_folder, database_fault, database_in, is_refusal};
-ghost use Rattle.csv_catalog.specs.Reading.{OnlyRead, WhereTold, AreKept};
+ghost use Rattle.outside.specs.Reading.{OnlyRead};
+ghost use Rattle.csv_catalog.specs.Reading.{WhereTold, AreKept};
 
 use crate::LoadFault;
 use crate::files::read_relations;

@@ -3,7 +3,8 @@ ghost use Rattle.std.specs.Prelude.{◌≡◌, ◌≤◌, [], ◌∷◌, Some, N
 ghost use Rattle.std.specs.Option.{option_to_list};
 ghost use Rattle.outside.specs.Counts.{Rose};
 ghost use Rattle.csv_catalog.specs.Loaded.{files_read, files_fault, relation_of, is_refusal};
-ghost use Rattle.csv_catalog.specs.Reading.{OnlyRead, WhereTold, MayBeKept};
+ghost use Rattle.outside.specs.Reading.{OnlyRead};
+ghost use Rattle.csv_catalog.specs.Reading.{WhereTold, MayBeKept};
 
 use crate::LoadFault;
 use crate::judge::{file_fault, told_fault};

@@ -4,7 +4,8 @@ ghost use Rattle.std.specs.List.Sorted.{IsStrictlySortedBy};
 ghost use Rattle.ss_text.specs.Texts.{text_cmp};
 ghost use Rattle.outside.specs.Counts.{Rose};
 ghost use Rattle.csv_catalog.specs.Loaded.{files_read, files_fault, relation_of, is_refusal};
-ghost use Rattle.csv_catalog.specs.Reading.{OnlyRead, WhereTold, AreKept, all_placed, names_of, rows_counted};
+ghost use Rattle.outside.specs.Reading.{OnlyRead};
+ghost use Rattle.csv_catalog.specs.Reading.{WhereTold, AreKept, all_placed, names_of, rows_counted};
 
 use crate::LoadFault;
 use crate::file::read_relation;

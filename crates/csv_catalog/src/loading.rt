@@ -5,7 +5,8 @@ ghost use Rattle.outside.specs.Counts.{Rose};
 ghost use Rattle.schema_model.specs.Catalogue.{database_names, row_count};
 ghost use Rattle.schema_model.specs.Sound.{AreNames};
 ghost use Rattle.csv_catalog.specs.Loaded.{loaded, databases_in, database_in, database_fault, is_refusal};
-ghost use Rattle.csv_catalog.specs.Reading.{OnlyRead, WhereTold};
+ghost use Rattle.outside.specs.Reading.{OnlyRead};
+ghost use Rattle.csv_catalog.specs.Reading.{WhereTold};
 
 use crate::LoadFault;
 use crate::database::read_database;

@@ -1,5 +1,5 @@
 -- Effects that follow one another, and what broke off.
-use Rattle.std.proofs.Common.{◌≡◌, ℕ, suc, map, get_or, add-one, drop-cons, ◌+◌, ◌≤◌, List, [], ◌∷◌, ◌++◌, length, take, drop, Option, None, Some, ◌⊎◌, inl, inr, refl, sym, ap, ◌∙◌, subst, append_assoc, arith, ◌-◌, ◌<◌, length-drop}
+use Rattle.std.proofs.Common.{◌≡◌, ℕ, suc, map, get_or, add-one, drop-cons, ◌+◌, ◌≤◌, List, [], ◌∷◌, ◌++◌, length, take, drop, Option, None, Some, Result, Ok, Err, ◌⊎◌, inl, inr, refl, sym, ap, ◌∙◌, subst, append_assoc, arith, ◌-◌, ◌<◌, length-drop}
 use Rattle.std.proofs.Math.Seq.{take-add, drop-length}
 use Rattle.std.proofs.lemmas.List.{take_rest, take-append-le}
 use Rattle.std.proofs.Math.Seq.{take-append-add}
@@ -7,7 +7,9 @@ use Rattle.std.proofs.lemmas.Bool.Decides.{leb_tells}
 use Rattle.outside.specs.Streams.{with_bytes}
 use Rattle.outside.specs.States.{StoreState, SinkState}
 use Rattle.outside.specs.Tree.{Tree, folder_path, MayBreakOff}
-use Rattle.effects.specs.Effects.{Effect, Write, Remove, Print, Contents, stored_of, contents, after, performed, Torn, Partly, Doing}
+use Rattle.outside.specs.Reading.{OnlyRead}
+use Rattle.effects.specs.Effects.{Effect, Write, Remove, Print, Contents, stored_of, contents, after, performed, Torn, Partly, Does, Doing}
+use Rattle.effects.specs.declared.stop.Stop.{Stop}
 
 pub performed_append : (es fs : List Effect) (c : Contents) → performed (es ++ fs) c ≡ performed fs (performed es c)
 performed_append [] fs c = refl
@@ -33,6 +35,12 @@ partly_later (e ∷ es) fs old mid new is h = inr (inr (partly_later es fs (afte
 pub unmoved : (es : List Effect) (old new : StoreState) (o : SinkState) → new.tree ≡ old.tree → new.writes ≡ old.writes → Partly es (contents (old, o)) (contents (new, o))
 unfolding contents
 unmoved es old new o t w = nothing_yet es (contents (old, o)) (contents (new, o)) (rw (t, w) refl)
+
+-- a call that only reads has no effect
+pub only_read_does : {A : Type 0} (old new : StoreState) (o : SinkState) (r : Result A Stop) → OnlyRead old new → Does [] (old, o) (new, o) r
+unfolding Partly contents
+only_read_does old new o (Ok a) h = rw (h.tree, h.writes) refl
+only_read_does old new o (Err e) h = rw (h.tree, h.writes) refl
 
 torn : (path : List (List ℕ)) (folder file : List ℕ) (o p : Option Tree) (m n : ℕ) → MayBreakOff path folder file o p → n ≡ m → Torn path folder file (stored_of o m) (stored_of p n)
 torn path folder file None p m n h e = record { untold = λ _. rw h.untold refl; told = λ s is. absurd (cc) }

@@ -1,5 +1,7 @@
 //! The calls on the outside that a run makes.
-ghost use Rattle.std.specs.Prelude.{◌≡◌, [], ◌∷◌, Some, IfOk};
+ghost use Rattle.std.specs.Prelude.{◌≡◌, [], ◌∷◌, Some, IfOk, is_some, if◌then◌else◌};
+ghost use Rattle.outside.specs.Counts.{risen};
+ghost use Rattle.outside.specs.Reading.{OnlyRead};
 ghost use Rattle.outside.specs.Tree.{Tree, file_at, files_of};
 ghost use Rattle.effects.specs.Effects.{Write, Remove, Print, Does};
 ghost use Rattle.effects.specs.Blame.{StoreBlames, SinkBlames};
@@ -20,6 +22,7 @@ pub fn read_file<F: Folders>(
     ensures told { IfOk result (λ bytes. (t : Tree) → (F.state store.old).tree ≡ Some t → bytes ≡ file_at t folder.now file.now) }
     ensures does { (o : _) → Does [] (F.state store.old, o) (F.state store.new, o) result }
     ensures tree { (F.state store.new).tree ≡ (F.state store.old).tree }
+    ensures only_read { OnlyRead (F.state store.old) (F.state store.new) }
     ensures blames { StoreBlames (F.state store.old) (F.state store.new) result }
 {
     match store.read(alloc, folder, file) {
@@ -39,6 +42,7 @@ pub fn write_file<F: Folders>(
     bytes: &[u8],
 ) -> Result<(), Stop>
     ensures does { (o : _) → Does (Write folder.now file.now bytes.now ∷ []) (F.state store.old, o) (F.state store.new, o) result }
+    ensures counted { IfOk result (λ _. (F.state store.new).writes ≡ risen ((F.state store.old).writes) 1) }
     ensures blames { StoreBlames (F.state store.old) (F.state store.new) result }
 {
     match store.write(alloc, folder, file, bytes) {
@@ -48,19 +52,21 @@ pub fn write_file<F: Folders>(
     }
 }
 
-/// Removes a file where it is there.
+/// Removes a file, and answers whether it was there.
 #[tactic(auto, using(crate::proofs::EffectLemmas::unmoved, crate::proofs::EffectLemmas::torn_remove), unfolding(crate::specs::Effects::contents))]
 pub fn remove_file<F: Folders>(
     alloc: Global,
     store: &mut F,
     folder: &Text,
     file: &Text,
-) -> Result<(), Stop>
+) -> Result<bool, Stop>
+    ensures was { IfOk result (λ was. (t : Tree) → (F.state store.old).tree ≡ Some t → was ≡ is_some (file_at t folder.now file.now)) }
     ensures does { (o : _) → Does (Remove folder.now file.now ∷ []) (F.state store.old, o) (F.state store.new, o) result }
+    ensures counted { IfOk result (λ was. (F.state store.new).writes ≡ (if was then risen ((F.state store.old).writes) 1 else (F.state store.old).writes)) }
     ensures blames { StoreBlames (F.state store.old) (F.state store.new) result }
 {
     match store.remove(alloc, folder, file) {
-        Ok(_) => Ok(()),
+        Ok(was) => Ok(was),
         Err(StoreFault::Failed) => Err(Stop::WriteFault),
         Err(StoreFault::NoMemory) => Err(Stop::NoMemory),
     }
@@ -93,6 +99,7 @@ pub fn list_files<F: Folders>(
     ensures told { IfOk result (λ names. (t : Tree) → (F.state store.old).tree ≡ Some t → names.items ≡ files_of t folder.now) }
     ensures does { (o : _) → Does [] (F.state store.old, o) (F.state store.new, o) result }
     ensures tree { (F.state store.new).tree ≡ (F.state store.old).tree }
+    ensures only_read { OnlyRead (F.state store.old) (F.state store.new) }
     ensures blames { StoreBlames (F.state store.old) (F.state store.new) result }
 {
     match store.files(alloc, folder) {

@@ -2,7 +2,7 @@ use Rattle.std.proofs.Common.{◌≡◌, ◌∙◌, [], length, arith}
 use Rattle.std.proofs.lemmas.Grind.{common_steps}
 use Rattle.std.specs.Vec.Iter.{into_iter_items}
 use Rattle.csv_catalog.proofs.KeptLemmas.{kept_none}
-use Rattle.csv_catalog.proofs.StoreLemmas.{only_read_nothing, only_read_then}
+use Rattle.outside.proofs.ReadingLemmas.{only_read_nothing, only_read_then}
 use Rattle.csv_catalog.proofs.FilesLemmas.{reading_starts, reading_more, reading_refused, reading_done, fits_start, fits_more}
 use Rattle.csv_catalog.proofs.files.read_relations.Goals as goal
 

@@ -1,6 +1,7 @@
 use Rattle.std.proofs.Common.{◌≤◌, ◌+◌, length}
 use Rattle.std.specs.Vec.Iter.{into_iter_items}
-use Rattle.csv_catalog.specs.Reading.{OnlyRead, WhereTold, AreKept}
+use Rattle.outside.specs.Reading.{OnlyRead}
+use Rattle.csv_catalog.specs.Reading.{WhereTold, AreKept}
 use Rattle.csv_catalog.proofs.FilesLemmas.{IsReading}
 use Rattle.csv_catalog.proofs.files.read_relations.Given as goal
 

@@ -1,7 +1,7 @@
 use Rattle.std.proofs.Common.{◌≡◌, ◌<◌, ◌≤◌, ◌∙◌, [], length, arith}
 use Rattle.std.proofs.lemmas.Grind.{common_steps}
 use Rattle.std.specs.Vec.Iter.{into_iter_items}
-use Rattle.csv_catalog.proofs.StoreLemmas.{only_read_then}
+use Rattle.outside.proofs.ReadingLemmas.{only_read_then}
 use Rattle.csv_catalog.proofs.LoadLemmas.{loading_more, loading_refused, loading_done, too_many, grows_names, grows_more}
 use Rattle.csv_catalog.proofs.loading.load.Goals as goal
 

@@ -1,5 +1,6 @@
 use Rattle.std.specs.Vec.Iter.{into_iter_items}
-use Rattle.csv_catalog.specs.Reading.{OnlyRead, WhereTold}
+use Rattle.outside.specs.Reading.{OnlyRead}
+use Rattle.csv_catalog.specs.Reading.{WhereTold}
 use Rattle.csv_catalog.proofs.LoadLemmas.{IsLoading, MayGrow}
 use Rattle.csv_catalog.proofs.loading.load.Given as goal
 

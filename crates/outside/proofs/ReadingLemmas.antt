@@ -1,7 +1,7 @@
--- A store that is only read.
+-- Reading after reading.
 use Rattle.std.proofs.Common.{◌≤◌, ◌∙◌, ℕ, refl, arith}
 use Rattle.outside.specs.States.{StoreState}
-use Rattle.csv_catalog.specs.Reading.{OnlyRead}
+use Rattle.outside.specs.Reading.{OnlyRead}
 
 pub only_read_nothing : (s : StoreState) → OnlyRead s s
 only_read_nothing s = record { tree = refl; writes = refl; write_faults = refl; steady = same s.read_faults }
