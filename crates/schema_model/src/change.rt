@@ -1,5 +1,6 @@
 //! Changes of a catalogue, and their lines.
-ghost use Rattle.std.specs.Prelude.{◌≡◌, ◌∷◌, ◌++◌, [], map, IfOk, IfErr, IsErrAnd};
+ghost use Rattle.std.specs.Prelude.{◌≡◌, ◌∷◌, ◌++◌, [], map, IfOk, IfErr, IsErrAnd, IsTrue};
+ghost use Rattle.schema_model.specs.Changes.{is_row_change, is_well_formed};
 ghost use Rattle.schema_model.specs.Reading.{IsAnswer, change_so_far, insert_of, delete_of, wrong_count, line_of, verb_name};
 
 use crate::verb::Verb;
@@ -82,7 +83,9 @@ impl From<NoMemory> for ChangeFault {
 impl Change {
     /// The change that a line of fields says. So far only inserts and deletes are read.
     pub fn read(alloc: Global, line: &Row) -> Result<Change, ChangeFault>
-        ensures { IsAnswer (change_so_far line.now) result }
+        ensures answer { IsAnswer (change_so_far line.now) result }
+        ensures row_change { IfOk result (λ change. IsTrue (is_row_change change)) }
+        ensures well_formed { IfOk result (λ change. IsTrue (is_well_formed change)) }
     {
         let [name, fields @ ..] = line.cells() else {
             return Err(ChangeFault::UnknownVerb);
@@ -128,7 +131,9 @@ impl Change {
 }
 
 fn read_insert(alloc: Global, fields: &[Text]) -> Result<Change, ChangeFault>
-    ensures { IsAnswer (insert_of fields.now) result }
+    ensures answer { IsAnswer (insert_of fields.now) result }
+    ensures row_change { IfOk result (λ change. IsTrue (is_row_change change)) }
+    ensures well_formed { IfOk result (λ change. IsTrue (is_well_formed change)) }
 {
     let [db, rel, row @ ..] = fields else {
         return Err(wrong_count(fields));
@@ -141,7 +146,9 @@ fn read_insert(alloc: Global, fields: &[Text]) -> Result<Change, ChangeFault>
 }
 
 fn read_delete(alloc: Global, fields: &[Text]) -> Result<Change, ChangeFault>
-    ensures { IsAnswer (delete_of fields.now) result }
+    ensures answer { IsAnswer (delete_of fields.now) result }
+    ensures row_change { IfOk result (λ change. IsTrue (is_row_change change)) }
+    ensures well_formed { IfOk result (λ change. IsTrue (is_well_formed change)) }
 {
     let [db, rel, row @ ..] = fields else {
         return Err(wrong_count(fields));
