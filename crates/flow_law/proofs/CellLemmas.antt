@@ -1,15 +1,18 @@
 -- The cells of a row, as their columns find them.
-use Rattle.std.proofs.Common.{◌≡◌, ◌≤◌, ◌∷◌, [], ℕ, Bool, true, false, cond, Option, Some, None, refl, sym, ◌∙◌, ap, subst, zero, suc, length, map, arith, replicate, slice_set}
+use Rattle.std.proofs.Common.{◌≡◌, ◌≤◌, ◌∷◌, [], ℕ, Bool, true, false, cond, Option, Some, None, refl, sym, ◌∙◌, ap, subst, zero, suc, length, map, arith, replicate, slice_set, slice_index_or, ◌<◌}
 use Rattle.std.specs.Prelude.{◌||◌, insert, remove, unwrap_or}
 use Rattle.std.specs.List.{zip}
 use Rattle.std.specs.List.Sorted.{IsStrictlySortedBy}
 use Rattle.std.specs.Map.{lookup}
 use Rattle.std.proofs.lemmas.Bool.{false≢true}
-use Rattle.ss_text.specs.Texts.{Text, Row, text_eq, text_cmp, is_in}
-use Rattle.ss_text.specs.Keys.{IsPlaceOf}
-use Rattle.ss_text.proofs.KeyLemmas.{text_order, equal_itself, equal_is, Lacks, lacks_after, earlier_differs, at_tail}
+use Rattle.ss_text.specs.Texts.{Text, Row, text_eq, text_cmp, row_cmp, is_in}
+use Rattle.ss_text.specs.Keys.{IsPlaceOf, IsPlaceFor}
+use Rattle.ss_text.proofs.KeyLemmas.{text_order, row_order, lookup_at, lookup_lacks, equal_itself, equal_is, Lacks, lacks_after, lacks_for, earlier_differs, at_tail}
+use Rattle.std.proofs.lemmas.List.{get_or_default}
 use Rattle.ss_text.proofs.PairLemmas.{turned}
-use Rattle.flow_law.specs.Tables.{cell_in}
+use Rattle.flow_law.specs.Tables.{TableValue, key_of, row_at, cell_in, cells_of, cell_of}
+use Rattle.flow_law.specs.InOrder.{IsTable}
+use Rattle.flow_law.proofs.TableLemmas.{own_keys}
 
 abbrev pub Missing : Text → Row → Type 0
 Missing c columns = Lacks text_order (λ (x : Text). x) c columns
@@ -136,3 +139,33 @@ same_cells (x ∷ xs) (v ∷ vs) (w ∷ ws) s n m h = cc (here, same_cells xs vs
             let gone : Missing c xs = lacks_after text_order (λ (t : Text). t) c x xs (sym (equal_is text_order c x e)) s.0 in
             ap (λ (o : Option Text). unwrap_or o []) (found_none xs vs c gone ∙ sym (found_none xs ws c gone))
         split false e = rw e at (h c (ap (λ b. text_eq c x || b) there ∙ all (text_eq c x)))
+
+-- the cell of a column at its place
+pub cell_at_place : (columns cells : Row) (k : ℕ) (column : Text) → IsStrictlySortedBy text_cmp (map (λ (x : Text). x) columns) → IsPlaceOf (λ (x : Text). x) column columns k
+    → cell_in columns cells column ≡ slice_index_or cells k []
+unfolding IsStrictlySortedBy
+cell_at_place [] cells k column s at = absurd (omega (arith, at.within))
+cell_at_place (x ∷ xs) [] k column s at = refl
+cell_at_place (x ∷ xs) (v ∷ vs) zero column s at =
+    let same : x ≡ column = at.has_key x in
+    rw (same, equal_itself text_order column) refl
+cell_at_place (x ∷ xs) (v ∷ vs) (suc k) column s at =
+    let later = at_tail text_order (λ (t : Text). t) column x xs k at in
+    rw (earlier_differs text_order (λ (t : Text). t) column x xs k s.0 later) (cell_at_place xs vs k column s.1 later)
+
+-- of a column that is missing
+pub cell_missing : (columns cells : Row) (k : ℕ) (column : Text) → IsPlaceFor text_cmp (λ (x : Text). x) column columns k → cell_in columns cells column ≡ []
+cell_missing columns cells k column gap = ap (λ (o : Option Text). unwrap_or o []) (found_none columns cells column (lacks_for text_order (λ (x : Text). x) column columns k gap))
+
+-- the cells of a key at its place, and of one that is missing
+pub cells_found : (t : TableValue) (key : Row) (i : ℕ) → IsTable t → IsPlaceOf key_of key t.rows i → cells_of t key ≡ (row_at i t).1
+cells_found t key i h at = ap (λ (o : Option Row). unwrap_or o []) (lookup_at row_order key t.rows i ([], []) h.keys at)
+
+pub cells_missing : (t : TableValue) (key : Row) (i : ℕ) → IsPlaceFor row_cmp key_of key t.rows i → cells_of t key ≡ []
+cells_missing t key i gap = ap (λ (o : Option Row). unwrap_or o []) (lookup_lacks row_order key t.rows (lacks_for row_order key_of key t.rows i gap))
+
+-- a cell that a row and a column of a table have at their places
+pub own_cell : (t : TableValue) (i k : ℕ) → IsTable t → i < length t.rows → k < length t.columns → cell_of t (row_at i t).0 (slice_index_or t.columns k []) ≡ slice_index_or (row_at i t).1 k []
+own_cell t i k h row column =
+    ap (λ (cells : Row). cell_in t.columns cells (slice_index_or t.columns k [])) (cells_found t (row_at i t).0 i h (record { within = row; has_key = λ d. ap key_of (get_or_default t.rows i d ([], []) row) }))
+    ∙ cell_at_place t.columns (row_at i t).1 k (slice_index_or t.columns k []) (own_keys t.columns h.columns) (record { within = column; has_key = λ d. get_or_default t.columns k d [] column })

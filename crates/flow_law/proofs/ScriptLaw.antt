@@ -5,20 +5,20 @@ use Rattle.std.specs.List.{AllByRecursion, list_any, filter_map, cons_option}
 use Rattle.std.specs.List.Sorted.{IsStrictlySortedBy}
 use Rattle.std.specs.Map.{keys_of}
 use Rattle.std.specs.Option.{IfSome, option_map_or}
-use Rattle.std.specs.declared.cmp.Ordering.TheVariants.{Less}
+use Rattle.std.specs.declared.cmp.Ordering.TheVariants.{Less, Equal, Greater}
 use Rattle.std.proofs.lemmas.Bool.{false≢true}
 use Rattle.std.proofs.lemmas.List.Folds.{list_any-append}
 use Rattle.ss_text.specs.Texts.{Text, Row, text_eq, text_cmp, is_in}
-use Rattle.ss_text.specs.Ascending.{ascending}
+use Rattle.ss_text.specs.Ascending.{by_order, ascending}
 use Rattle.ss_text.specs.Keys.{IsPlaceFor}
 use Rattle.ss_text.proofs.KeyLemmas.{text_order, equal_itself, less_differs, place_there, place_missing, lacks_for}
 use Rattle.ss_text.proofs.PairLemmas.{lookup_changed, lookup_kept, lookup_gone, lookup_inserted, found_any, same_pairs, ascending_ascends, any_ascending, any_behind, found_each}
 use Rattle.flow_law.specs.Tables.{TableValue, TablesValue, empty_table, table_of, tables_at, label_in, labels_of, row_keys, cell_of}
 use Rattle.flow_law.specs.InOrder.{IsTable, AreTables}
-use Rattle.flow_law.specs.Lines.{table_after, fits_table, at_table, with_table, after_line, after_lines, has_table, fits_line, fit_lines}
+use Rattle.flow_law.specs.Lines.{label_of, table_after, fits_table, at_table, with_table, after_line, after_lines, has_table, fits_line, fit_lines}
 use Rattle.flow_law.specs.Script.{cell_line, changed, lines_for, script, keys_beyond, columns_beyond}
 use Rattle.flow_law.specs.declared.line.TableLine.{TableLine}
-use Rattle.flow_law.specs.declared.line.TableLine.TheVariants.{TablePlus, RowMinus, ColumnMinus, ColumnPlus, RowPlus, Cell}
+use Rattle.flow_law.specs.declared.line.TableLine.TheVariants.{TableMinus, TablePlus, RowMinus, ColumnMinus, ColumnPlus, RowPlus, Cell}
 use Rattle.flow_law.proofs.TableLemmas.{line_in_order}
 use Rattle.flow_law.proofs.LabelLemmas.{table_found, table_removed, table_removed_in_order, table_placed, table_placed_in_order, table_changed, table_changed_in_order, table_at_in_order}
 use Rattle.flow_law.proofs.GroupLemmas.{steps, fit_steps}
@@ -280,3 +280,33 @@ module _ (old new : TablesValue) (i : AreTables new) where
     pub script_fits : fit_lines old (script old new) ≡ true
     unfolding script
     script_fits = whole.fit
+
+-- a line leaves the tables of all other labels
+module _ (q : Text) where
+  new_table_passed : (ts : TablesValue) (label : Text) → text_eq q label ≡ false → table_of (with_table label ts) q ≡ table_of ts q
+  new_table_passed [] label apart = rw apart refl
+  new_table_passed (p ∷ ps) label apart =
+      elim (text_cmp label p.0) as (λ o. table_of (by_order o ((label, empty_table) ∷ p ∷ ps) (p ∷ ps) (p ∷ with_table label ps)) q ≡ table_of (p ∷ ps) q)
+      [ Less ↦ rw apart refl | Equal ↦ refl | Greater ↦ ap (cond (text_eq q p.0) (Some p.1)) (new_table_passed ps label apart) ]
+
+  others_passed : (ts : TablesValue) (line : TableLine) → text_eq q (label_of line) ≡ false → table_of (at_table (label_of line) (table_after line) ts) q ≡ table_of ts q
+  others_passed ts line apart = lookup_changed text_order (table_after line) ts (label_of line) q ∙ ap (λ b. cond b (option_map (table_after line) (table_of ts q)) (table_of ts q)) apart
+
+  line_passed : (ts : TablesValue) (line : TableLine) → text_eq q (label_of line) ≡ false → table_of (after_line ts line) q ≡ table_of ts q
+  line_passed ts (TableMinus label) apart = lookup_kept text_order ts label q apart
+  line_passed ts (TablePlus label) apart = new_table_passed ts label apart
+  line_passed ts (RowMinus label key) apart = others_passed ts (RowMinus label key) apart
+  line_passed ts (ColumnMinus label column) apart = others_passed ts (ColumnMinus label column) apart
+  line_passed ts (ColumnPlus label column) apart = others_passed ts (ColumnPlus label column) apart
+  line_passed ts (RowPlus label key) apart = others_passed ts (RowPlus label key) apart
+  line_passed ts (Cell label column value key) apart = others_passed ts (Cell label column value key) apart
+
+  pub lines_passed : (ts : TablesValue) (lines : List TableLine) → is_in q (map label_of lines) ≡ false → table_of (after_lines ts lines) q ≡ table_of ts q
+  lines_passed ts [] apart = refl
+  lines_passed ts (line ∷ lines) apart =
+      let both = neither (text_eq q (label_of line)) (is_in q (map label_of lines)) apart in
+      lines_passed (after_line ts line) lines both.second ∙ line_passed ts line both.first
+
+  -- a label that no line of the script names
+  pub unnamed_table_stays : (old new : TablesValue) → AreTables old → AreTables new → is_in q (map label_of (script old new)) ≡ false → table_of old q ≡ table_of new q
+  unnamed_table_stays old new h i apart = sym (lines_passed old (script old new) apart) ∙ ap (λ ts. table_of ts q) (script_makes old new i h)

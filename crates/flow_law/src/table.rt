@@ -3,7 +3,7 @@ ghost use Rattle.std.specs.Prelude.{◌≡◌, ◌<◌, [], ◌∷◌, ◌++◌,
 ghost use Rattle.ss_text.specs.Texts.{text_cmp, row_cmp, is_in};
 ghost use Rattle.ss_text.specs.Keys.{IsPlaceOf, IsPlaceFor};
 ghost use Rattle.std.specs.List.Sorted.{IsStrictlySortedBy};
-ghost use Rattle.flow_law.specs.Tables.{table_value, empty_table, row_keys, row_at, key_of, with_last_row};
+ghost use Rattle.flow_law.specs.Tables.{table_value, empty_table, row_keys, row_at, key_of, cells_of, cell_in, with_last_row};
 ghost use Rattle.flow_law.specs.InOrder.{IsTable};
 ghost use Rattle.flow_law.specs.Lines.{has_row, has_column, fits_table, table_after, without_row, with_row, without_column, with_column, with_cell};
 
@@ -108,6 +108,43 @@ impl Table {
         &self.rows[place].cells
     }
 
+    /// The cells of a key, none where there is no row of it.
+    pub fn cells_of(&self, key: &Row) -> &[Text]
+        ensures { result.now ≡ cells_of self.now key.now }
+    {
+        match self.find_row(key) {
+            Ok(place) => &self.rows[place].cells,
+            Err(_) => &[],
+        }
+    }
+
+    /// The text of a column among the cells of a row, empty where the column or the cell is missing.
+    pub fn cell_in<'a>(&self, cells: &'a [Text], column: &Text) -> &'a [u8]
+        ensures { result.now ≡ cell_in self.now.columns cells.now column.now }
+    {
+        let Ok(place) = self.find_column(column) else {
+            return &[];
+        };
+        match cells.get(place) {
+            Some(cell) => cell.as_slice(),
+            None => &[],
+        }
+    }
+
+    /// Whether there is a row of this key.
+    pub fn has_row(&self, key: &Row) -> bool
+        ensures { result ≡ has_row key.now self.now }
+    {
+        self.find_row(key).is_ok()
+    }
+
+    /// Whether there is a dynamic column of this label.
+    pub fn has_column(&self, column: &Text) -> bool
+        ensures { result ≡ has_column column.now self.now }
+    {
+        self.find_column(column).is_ok()
+    }
+
     // The place of a key, or where a row of this key would stand.
     fn find_row(&self, key: &Row) -> Result<usize, usize>
         ensures there { is_ok result ≡ has_row key.now self.now }
@@ -122,6 +159,7 @@ impl Table {
         ensures there { is_ok result ≡ has_column column.now self.now }
         ensures found { IfOk result (IsPlaceOf (λ c. c) column.now self.now.columns) }
         ensures absent { IfErr result (IsPlaceFor text_cmp (λ c. c) column.now self.now.columns) }
+        ensures in_order { IsTable self.now }
     {
         self.columns.binary_search(column)
     }
@@ -138,18 +176,6 @@ impl Table {
             TableLine::RowPlus { key, .. } => !self.has_row(key),
             TableLine::Cell { key, column, .. } => self.has_row(key) && self.has_column(column),
         }
-    }
-
-    fn has_row(&self, key: &Row) -> bool
-        ensures { result ≡ has_row key.now self.now }
-    {
-        self.find_row(key).is_ok()
-    }
-
-    fn has_column(&self, column: &Text) -> bool
-        ensures { result ≡ has_column column.now self.now }
-    {
-        self.find_column(column).is_ok()
     }
 
     /// Makes the step of a line of this table, which names a row or a column.

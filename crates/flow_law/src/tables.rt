@@ -3,7 +3,8 @@ ghost use Rattle.std.specs.Prelude.{◌≡◌, ◌<◌, [], ◌∷◌, ◌++◌,
 ghost use Rattle.ss_text.specs.Texts.{text_cmp};
 ghost use Rattle.ss_text.specs.Keys.{IsPlaceOf, IsPlaceFor};
 ghost use Rattle.std.specs.List.Sorted.{IsStrictlySortedBy};
-ghost use Rattle.flow_law.specs.Tables.{labels_of, label_in, tables_at};
+ghost use Rattle.std.specs.Option.{option_copied};
+ghost use Rattle.flow_law.specs.Tables.{labels_of, label_in, table_of, tables_at};
 ghost use Rattle.flow_law.specs.InOrder.{IsTable, AreTables};
 ghost use Rattle.flow_law.specs.Lines.{has_table, fits_label, fits_line, label_of, table_after, at_table, without_table, with_table, after_line};
 
@@ -119,6 +120,16 @@ impl Tables {
         ensures absent { IfNone result (has_table self.now label.now ≡ false) }
     {
         self.search(label).ok()
+    }
+
+    /// The table of a label, if there is one.
+    pub fn table_of(&self, label: &Text) -> Option<&Table>
+        ensures { option_copied result ≡ table_of self.now label.now }
+    {
+        match self.search(label) {
+            Ok(place) => Some(&self.tables[place].1),
+            Err(_) => None,
+        }
     }
 
     // The place of a label, or where its table would stand.

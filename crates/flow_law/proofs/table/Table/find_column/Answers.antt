@@ -5,4 +5,5 @@ use Rattle.flow_law.proofs.table.Table.find_column.Goals as goal
 pub returns : goal.returns
 returns c =
     let facts = c.binary_search.ensures in
-    rw (← c.self.view_is) (searched text_order (λ x. x) c.args.column.now c.self.inside.columns.items c.binary_search.result (own_keys c.self.inside.columns.items c.self.invariant.columns) (rw c.deref.ensures.value at facts.bound) (rw c.deref.ensures.value at facts.position))
+    let answer = searched text_order (λ x. x) c.args.column.now c.self.inside.columns.items c.binary_search.result (own_keys c.self.inside.columns.items c.self.invariant.columns) (rw c.deref.ensures.value at facts.bound) (rw c.deref.ensures.value at facts.position) in
+    rw (← c.self.view_is) (record { there = answer.there; found = answer.found; absent = answer.absent; in_order = c.self.invariant })

@@ -1,0 +1,149 @@
+//! Scripts of worked examples.
+use crate::{Script, script_lines};
+use flow_law::{TableLine, Tables};
+use ss_text::{NoMemory, Row, Text};
+use std::alloc::Global;
+use std::test::Fail;
+
+// Salaries by departments as columns; the lines of tables are parted by commas.
+const SALARIES: &str =
+    "table+ salInfo,column+ salInfo cs,column+ salInfo math,row+ salInfo Assoc,row+ salInfo Prof,cell salInfo cs 60000 Assoc,cell salInfo cs 72000 Prof,cell salInfo math 65000 Prof";
+
+// The same by departments as tables.
+const OFFICES: &str =
+    "table+ cs,row+ cs Assoc 60000,row+ cs Prof 72000,table+ math,row+ math Prof 65000";
+
+const ONE_CELL: &str = "table+ salInfo,column+ salInfo cs,row+ salInfo Prof,cell salInfo cs 5 Prof";
+
+const NEW_TABLE: &str = "table+ bio,row+ bio Lect 2";
+
+fn text(alloc: Global, of: &str) -> Result<Text, NoMemory> {
+    Text::of(alloc, of.as_bytes())
+}
+
+fn row(alloc: Global, of: &[&str]) -> Result<Row, NoMemory> {
+    let mut texts = Vec::new(alloc);
+    for cell in of {
+        texts.push(text(alloc, cell)?)?;
+    }
+    Ok(Row::of(texts))
+}
+
+// The line that is printed as this row.
+fn line(alloc: Global, of: &[&str]) -> Result<Option<TableLine>, NoMemory> {
+    Ok(match of {
+        ["table-", label] => Some(TableLine::TableMinus {
+            label: text(alloc, label)?,
+        }),
+        ["table+", label] => Some(TableLine::TablePlus {
+            label: text(alloc, label)?,
+        }),
+        ["row-", label, key @ ..] => Some(TableLine::RowMinus {
+            label: text(alloc, label)?,
+            key: row(alloc, key)?,
+        }),
+        ["column-", label, column] => Some(TableLine::ColumnMinus {
+            label: text(alloc, label)?,
+            column: text(alloc, column)?,
+        }),
+        ["column+", label, column] => Some(TableLine::ColumnPlus {
+            label: text(alloc, label)?,
+            column: text(alloc, column)?,
+        }),
+        ["row+", label, key @ ..] => Some(TableLine::RowPlus {
+            label: text(alloc, label)?,
+            key: row(alloc, key)?,
+        }),
+        ["cell", label, column, value, key @ ..] => Some(TableLine::Cell {
+            label: text(alloc, label)?,
+            column: text(alloc, column)?,
+            value: text(alloc, value)?,
+            key: row(alloc, key)?,
+        }),
+        _ => None,
+    })
+}
+
+fn words<'a>(alloc: Global, of: &'a str) -> Result<Vec<&'a str>, NoMemory> {
+    let mut words = Vec::new(alloc);
+    for word in of.split(' ') {
+        words.push(word)?;
+    }
+    Ok(words)
+}
+
+// Makes the step of a line that fits.
+fn make(alloc: Global, tables: &mut Tables, of: &str) -> Result<(), NoMemory> {
+    let Some(line) = line(alloc, &words(alloc, of)?)? else {
+        return Ok(());
+    };
+    let made = if tables.fits(&line) {
+        tables.change(&line)
+    } else {
+        Ok(())
+    };
+    drop(line);
+    made
+}
+
+// What lines make of no tables.
+fn made(alloc: Global, before: &str, then: &str) -> Result<Tables, NoMemory> {
+    let mut tables = Tables::new(alloc);
+    for of in before.split(',') {
+        make(alloc, &mut tables, of)?;
+    }
+    for of in then.split(',') {
+        make(alloc, &mut tables, of)?;
+    }
+    Ok(tables)
+}
+
+fn rows(alloc: Global, lines: &str) -> Result<Vec<Row>, NoMemory> {
+    let mut rows = Vec::new(alloc);
+    for of in lines.split(',') {
+        if !of.is_empty() {
+            rows.push(row(alloc, &words(alloc, of)?)?)?;
+        }
+    }
+    Ok(rows)
+}
+
+// The printed script of tables and of those that further lines make of them.
+fn found(alloc: Global, before: &str, then: &str) -> Result<Vec<Row>, NoMemory> {
+    let old = made(alloc, before, "")?;
+    let new = made(alloc, before, then)?;
+    let script = Script::between(alloc, &old, &new)?;
+    script_lines(alloc, &script)
+}
+
+#[test]
+fn scripts_of_worked_rows(rt: HostRuntime) -> Result<(), Fail> {
+    let alloc = rt.alloc();
+    for (before, script) in [
+        (SALARIES, ""),
+        ("", NEW_TABLE),
+        (NEW_TABLE, "table- bio"),
+        (ONE_CELL, "cell salInfo cs  Prof"),
+        (OFFICES, "table- math"),
+        (OFFICES, "row+ math Lect 1"),
+        (SALARIES, "cell salInfo cs 99 Prof"),
+        (SALARIES, "column- salInfo math"),
+        (
+            SALARIES,
+            "column+ salInfo physics,cell salInfo physics 70000 Prof",
+        ),
+        (
+            SALARIES,
+            "column+ salInfo a/b,row+ salInfo Lect,cell salInfo a/b 1 Lect",
+        ),
+        (
+            SALARIES,
+            "row- salInfo Assoc,row- salInfo Prof,column- salInfo cs,column- salInfo math",
+        ),
+    ] {
+        let found = found(alloc, before, script)?;
+        let wanted = rows(alloc, script)?;
+        assert_eq!(rt; found.as_slice(), wanted.as_slice(), "at {script}");
+    }
+    Ok(())
+}
