@@ -36,6 +36,20 @@ is_equal Greater h = absurd (cc)
 other_folder : (p : Place) (d k : Text) → p.0 ≢ d → eq_by_cmp place_cmp p (d, k) ≡ false
 other_folder p d k ne = false_from_ne_true _ (λ t. ne (ap (λ (q : Place). q.0) (place_exact p (d, k) (is_equal _ t))))
 
+-- a file that is written, and what is there beside it
+pub write_at : (d k bytes : Text) (s : Stored) (q : Text) → file_at (writing d k bytes s).tree d q ≡ cond (text_eq q k) (Some bytes) (file_at s.tree d q)
+write_at d k bytes s q = map.get-insert place_total s.tree.files (d, k) bytes (d, q) ∙ ap (λ b. cond b (Some bytes) (file_at s.tree d q)) (same_name d q k)
+
+pub write_others : (d k bytes : Text) (s : Stored) (p : Place) → p.0 ≢ d → map.get (writing d k bytes s).tree.files p ≡ map.get s.tree.files p
+write_others d k bytes s p ne = map.get-insert place_total s.tree.files (d, k) bytes p ∙ ap (λ b. cond b (Some bytes) (map.get s.tree.files p)) (other_folder p d k ne)
+
+-- a file that is removed, and what is there beside it
+pub remove_at : (d k : Text) (s : Stored) (q : Text) → file_at (removing d k s).tree d q ≡ cond (text_eq q k) None (file_at s.tree d q)
+remove_at d k s q = map.get-remove place_total s.tree.files (d, k) (d, q) ∙ ap (λ b. cond b None (file_at s.tree d q)) (same_name d q k)
+
+pub remove_others : (d k : Text) (s : Stored) (p : Place) → p.0 ≢ d → map.get (removing d k s).tree.files p ≡ map.get s.tree.files p
+remove_others d k s p ne = map.get-remove place_total s.tree.files (d, k) p ∙ ap (λ b. cond b None (map.get s.tree.files p)) (other_folder p d k ne)
+
 -- after these files were written
 abbrev wrote : Text → List File → Stored → Stored
 wrote d [] s = s
@@ -55,7 +69,7 @@ performed_removed d [] s h = refl
 performed_removed d (n ∷ ns) s h = performed_removed d ns (removing d n s) h
 
 -- what is not named stays as it was
-none_named : (fs : List File) (q : Text) → is_named fs q ≡ false → bytes_in fs q ≡ None
+pub none_named : (fs : List File) (q : Text) → is_named fs q ≡ false → bytes_in fs q ≡ None
 none_named [] q h = refl
 none_named (f ∷ fs) q h =
     elim (text_eq q f.name) as (λ b. (b || is_named fs q) ≡ false → cond b (Some f.bytes) (bytes_in fs q) ≡ None) [
@@ -68,7 +82,7 @@ written_at : (d : Text) (fs : List File) (s : Stored) (q : Text) → AreViewFile
 written_at d [] s q h = refl
 written_at d (f ∷ fs) s q h =
     written_at d fs (writing d f.name f.bytes s) q h.2
-    ∙ ap (option_or (bytes_in fs q)) (map.get-insert place_total s.tree.files (d, f.name) f.bytes (d, q) ∙ ap (λ b. cond b (Some f.bytes) (file_at s.tree d q)) (same_name d q f.name))
+    ∙ ap (option_or (bytes_in fs q)) (write_at d f.name f.bytes s q)
     ∙ here_or_later (text_eq q f.name) refl
   where
     here_or_later : (b : Bool) → text_eq q f.name ≡ b → option_or (bytes_in fs q) (cond b (Some f.bytes) (file_at s.tree d q)) ≡ option_or (cond b (Some f.bytes) (bytes_in fs q)) (file_at s.tree d q)
@@ -77,9 +91,7 @@ written_at d (f ∷ fs) s q h =
 
 written_others : (d : Text) (fs : List File) (s : Stored) (p : Place) → p.0 ≢ d → map.get (wrote d fs s).tree.files p ≡ map.get s.tree.files p
 written_others d [] s p ne = refl
-written_others d (f ∷ fs) s p ne =
-    written_others d fs (writing d f.name f.bytes s) p ne
-    ∙ map.get-insert place_total s.tree.files (d, f.name) f.bytes p ∙ ap (λ b. cond b (Some f.bytes) (map.get s.tree.files p)) (other_folder p d f.name ne)
+written_others d (f ∷ fs) s p ne = written_others d fs (writing d f.name f.bytes s) p ne ∙ write_others d f.name f.bytes s p ne
 
 twice : (w n : ℕ) → risen (risen w 1) n ≡ risen w (suc n)
 twice w n = omega arith
@@ -93,7 +105,7 @@ removed_at : (d : Text) (ns : List Text) (s : Stored) (q : Text) → file_at (cl
 removed_at d [] s q = refl
 removed_at d (n ∷ ns) s q =
     removed_at d ns (removing d n s) q
-    ∙ ap (cond (is_in q ns) None) (map.get-remove place_total s.tree.files (d, n) (d, q) ∙ ap (λ b. cond b None (file_at s.tree d q)) (same_name d q n))
+    ∙ ap (cond (is_in q ns) None) (remove_at d n s q)
     ∙ either_gone (text_eq q n) (is_in q ns) (file_at s.tree d q)
   where
     either_gone : (a b : Bool) (o : Option (List ℕ)) → cond b None (cond a None o) ≡ cond (a || b) None o
@@ -103,9 +115,7 @@ removed_at d (n ∷ ns) s q =
 
 removed_others : (d : Text) (ns : List Text) (s : Stored) (p : Place) → p.0 ≢ d → map.get (cleared d ns s).tree.files p ≡ map.get s.tree.files p
 removed_others d [] s p ne = refl
-removed_others d (n ∷ ns) s p ne =
-    removed_others d ns (removing d n s) p ne
-    ∙ map.get-remove place_total s.tree.files (d, n) p ∙ ap (λ b. cond b None (map.get s.tree.files p)) (other_folder p d n ne)
+removed_others d (n ∷ ns) s p ne = removed_others d ns (removing d n s) p ne ∙ remove_others d n s p ne
 
 same_text : (q k : Text) → text_eq q k ≡ text_eq k q
 same_text q k = texts_ties q k ∙ (eq_by_cmp_equiv nat_list_cmp_total).symm q k ∙ sym (texts_ties k q)
@@ -126,7 +136,7 @@ pub there : (t : Tree) (d q : Text) → is_in q (files_of t d) ≡ is_some (file
 there t d q = named_there d q (map.keys t.files) ∙ sym (map.contains_key-keys t.files (d, q))
 
 -- each text once
-abbrev Apart : List Text → Type 0
+abbrev pub Apart : List Text → Type 0
 Apart [] = Unit {0}
 Apart (n ∷ ns) = (is_in n ns ≡ false) × Apart ns
 
@@ -134,7 +144,7 @@ below_apart : (n : Text) (ns : List Text) → AllByRecursion (λ y. text_cmp n y
 below_apart n [] h = refl
 below_apart n (m ∷ ms) h = rw (texts_ties n m, h.0, below_apart n ms h.1) refl
 
-apart_sorted : (ns : List Text) → IsStrictlySortedBy text_cmp ns → Apart ns
+pub apart_sorted : (ns : List Text) → IsStrictlySortedBy text_cmp ns → Apart ns
 unfolding IsStrictlySortedBy
 apart_sorted [] h = tt
 apart_sorted (n ∷ ns) h = (below_apart n ns h.0, apart_sorted ns h.1)
@@ -160,7 +170,7 @@ module _ (p : Text → Bool) where
       either true rest = (not_among n ns h.0, rest)
       either false rest = rest
 
-  in_filter : (q : Text) (ns : List Text) → is_in q (filter p ns) ≡ (p q && is_in q ns)
+  pub in_filter : (q : Text) (ns : List Text) → is_in q (filter p ns) ≡ (p q && is_in q ns)
   in_filter q [] = sym (nothing (p q))
     where
       nothing : (b : Bool) → (b && false) ≡ false
@@ -204,7 +214,7 @@ removed_count d (n ∷ ns) s a h =
     still [] e h = tt
     still (m ∷ ms) e h =
         let parts = or_false (text_eq n m) (is_in n ms) e in
-        let gone : map.get (map.remove s.tree.files (d, n)) (d, m) ≡ file_at s.tree d m = map.get-remove place_total s.tree.files (d, n) (d, m) ∙ ap (λ b. cond b None (file_at s.tree d m)) (same_name d m n ∙ same_text m n ∙ parts.0) in
+        let gone : map.get (map.remove s.tree.files (d, n)) (d, m) ≡ file_at s.tree d m = remove_at d n s m ∙ ap (λ b. cond b None (file_at s.tree d m)) (same_text m n ∙ parts.0) in
         (ap is_some gone ∙ h.0, still ms parts.1 h.1)
 
 less : (o : Ordering) → is_lt o ≡ true → o ≡ Less
@@ -242,7 +252,7 @@ one_named (f ∷ fs) q h =
     ] h
 
 -- a view's file ends in `.csv`
-csv_named : (fs : List File) (q : Text) → AreViewFiles fs → is_csv_name q ≡ false → is_named fs q ≡ false
+pub csv_named : (fs : List File) (q : Text) → AreViewFiles fs → is_csv_name q ≡ false → is_named fs q ≡ false
 csv_named [] q h e = refl
 csv_named (f ∷ fs) q h e =
     elim (text_eq q f.name) as (λ b. text_eq q f.name ≡ b → (b || is_named fs q) ≡ false) [

@@ -1,2 +1,4 @@
 pub mod FolderLemmas
 pub mod TableFileLemmas
+pub mod ComparisonLemmas
+pub mod LaterLemmas

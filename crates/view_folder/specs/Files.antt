@@ -29,3 +29,7 @@ other_names files names = filter (λ name. is_csv_name name && not (is_named fil
 abbrev pub AreViewFiles : List File → Type 0
 AreViewFiles [] = Unit {0}
 AreViewFiles (f ∷ fs) = (is_csv_name f.name ≡ true) × (is_named fs f.name ≡ false) × AreViewFiles fs
+
+-- the name of the file of a label
+abbrev pub file_name : Text → Text
+file_name label = label ++ codes ".csv"

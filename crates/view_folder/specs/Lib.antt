@@ -1,3 +1,4 @@
 pub mod Files
 pub mod Sync
 pub mod TableFiles
+pub mod Comparison

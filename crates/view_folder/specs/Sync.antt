@@ -1,11 +1,15 @@
--- The opening sync of a view folder: what it does, and what is there after it.
-use Rattle.std.specs.Prelude.{◌≡◌, ◌≢◌, ℕ, ◌+◌, true, List, ◌++◌, map, length}
+-- The syncs of a view folder: what they do, and what is there after them.
+use Rattle.std.specs.Prelude.{◌≡◌, ◌≢◌, ℕ, ◌+◌, Bool, true, ◌||◌, is_some, List, ◌++◌, map, filter, length}
+use Rattle.std.specs.Option.{option_map_or}
 use Rattle.std.specs.FinMap as map_of
 use Rattle.ss_text.specs.Texts.{Text}
 use Rattle.outside.specs.Tree.{Tree, Place, file_at}
 use Rattle.effects.specs.Effects.{Effect, Write, Remove}
+use Rattle.flow_law.specs.declared.shape.Shape.{Shape}
+use Rattle.flow_law.specs.Tables.{TablesValue, table_of}
 use Rattle.view_folder.specs.declared.file.File.{File}
-use Rattle.view_folder.specs.Files.{bytes_in, is_csv_name, other_names}
+use Rattle.view_folder.specs.Files.{bytes_in, is_csv_name, other_names, file_name}
+use Rattle.view_folder.specs.TableFiles.{table_text}
 
 -- every file is written
 abbrev pub written : Text → List File → List Effect
@@ -23,8 +27,28 @@ opening_sync folder files names = written folder files ++ removed folder (other_
 abbrev pub opening_count : List File → List Text → ℕ
 opening_count files names = length files + length (other_names files names)
 
--- in the folder the files whose names end in `.csv` are exactly these, and every other file is as it was
+-- the sync of a label: its table's file is written, or is removed where it has no table
+abbrev pub label_synced : Text → Shape → TablesValue → Text → Effect
+label_synced folder shape tables label = option_map_or (λ t. Write folder (file_name label) (table_text shape t)) (table_of tables label) (Remove folder (file_name label))
+
+-- the later sync: that of each of these labels, in order
+abbrev pub later_sync : Text → Shape → TablesValue → List Text → List Effect
+later_sync folder shape tables labels = map (label_synced folder shape tables) labels
+
+-- whether the sync of a label writes a file, or removes one that is there
+abbrev pub is_counted : Text → TablesValue → Tree → Text → Bool
+is_counted folder tables t label = is_some (table_of tables label) || is_some (file_at t folder (file_name label))
+
+-- how many files the sync of distinct labels writes or removes
+abbrev pub later_count : Text → TablesValue → List Text → Tree → ℕ
+later_count folder tables labels t = length (filter (is_counted folder tables t) labels)
+
+-- in the folder the files whose names end in `.csv` are exactly these
+abbrev pub Holds : Text → List File → Tree → Type 0
+Holds folder files t = (name : Text) → is_csv_name name ≡ true → file_at t folder name ≡ bytes_in files name
+
+-- that, and every other file is as it was
 pub record HoldsExactly (folder : Text) (files : List File) (old new : Tree) : Type 0 where
-  pub tables : (name : Text) → is_csv_name name ≡ true → file_at new folder name ≡ bytes_in files name
+  pub tables : Holds folder files new
   pub no_table : (name : Text) → is_csv_name name ≢ true → file_at new folder name ≡ file_at old folder name
   pub others : (p : Place) → p.0 ≢ folder → map_of.get new.files p ≡ map_of.get old.files p

@@ -1,11 +1,12 @@
 -- The files of tables.
-use Rattle.std.specs.Prelude.{◌≢◌, ℕ, List, [], ◌∷◌, ◌++◌, map, take, drop, Option, None, Some, codes}
+use Rattle.std.specs.Prelude.{◌≢◌, ℕ, List, [], ◌∷◌, ◌++◌, map, take, drop, Option, None, Some}
 use Rattle.std.specs.List.{AllByRecursion}
 use Rattle.ss_text.specs.Texts.{Text, Row}
 use Rattle.csv_catalog.specs.RecordText.{csv_text}
 use Rattle.flow_law.specs.declared.shape.Shape.{Shape}
 use Rattle.flow_law.specs.Tables.{TableValue, TablesValue}
 use Rattle.view_folder.specs.declared.file.File.{File}
+use Rattle.view_folder.specs.Files.{file_name}
 
 -- a record: the constant columns' part, with the dynamic columns' part behind as many of them as the spot says
 abbrev pub spliced : Option ℕ → Row → Row → Row
@@ -20,7 +21,7 @@ unfoldable pub table_text : Shape → TableValue → Text
 table_text shape t = csv_text (table_records shape t)
 
 abbrev pub table_file : Shape → Text × TableValue → File
-table_file shape p = record { name = p.0 ++ codes ".csv"; bytes = table_text shape p.1 }
+table_file shape p = record { name = file_name p.0; bytes = table_text shape p.1 }
 
 -- a file for each table, in the order of their labels
 unfoldable pub table_files : Shape → TablesValue → List File

@@ -1,6 +1,6 @@
 //! A file of a view folder.
 ghost use Rattle.std.specs.Prelude.{◌≡◌, IfOk};
-ghost use Rattle.view_folder.specs.Files.{is_csv_name, view_folder};
+ghost use Rattle.view_folder.specs.Files.{is_csv_name, view_folder, file_name};
 
 use ss_text::{NoMemory, Text};
 use std::alloc::Global;
@@ -18,6 +18,15 @@ pub(crate) fn is_csv_name(name: &Text) -> bool
 {
     let bytes = name.as_slice();
     &bytes[bytes.len().saturating_sub(4)..] == b".csv".as_slice()
+}
+
+// The name of the file of a label.
+pub(crate) fn file_name(alloc: Global, label: &Text) -> Result<Text, NoMemory>
+    ensures { IfOk result (λ name. name ≡ file_name label.now) }
+{
+    let mut name = Vec::from_slice(alloc, label.as_slice())?;
+    name.extend_from_slice(b".csv")?;
+    Ok(Text::from(name))
 }
 
 /// The folder of a view's database.

@@ -1,13 +1,18 @@
 //! The files of a view folder.
 //!
-//! Its contract: after the opening sync the folder's `.csv` files are exactly those that are given. It knows
-//! nothing of views, of tables' meaning or of source relations.
+//! Its contract: after the opening sync the folder's `.csv` files are exactly those that are given, after a later
+//! sync those of the tables, and the comparison finds the least difference. It knows nothing of views, of tables'
+//! meaning or of source relations.
 #![tactic(auto)]
 
+mod comparison;
 mod file;
+mod later;
 mod opening;
 mod table_file;
 
+pub use comparison::{Comparison, compare};
 pub use file::{File, folder_of_view};
+pub use later::sync;
 pub use opening::sync_opening;
 pub use table_file::{table_files, table_text};

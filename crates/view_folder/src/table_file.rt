@@ -5,6 +5,7 @@ ghost use Rattle.flow_law.specs.Tables.{row_at};
 ghost use Rattle.view_folder.specs.TableFiles.{spliced, table_text, table_file, table_files, FitsShape, FitShape};
 
 use crate::File;
+use crate::file::file_name;
 use csv_catalog::RecordsText;
 use flow_law::{Shape, Table, Tables};
 use ss_text::{NoMemory, Row, Text};
@@ -44,13 +45,9 @@ fn table_file(alloc: Global, label: &Text, table: &Table, shape: &Shape) -> Resu
     requires { FitsShape shape.now table.now }
     ensures { IfOk result (λ file. file ≡ table_file shape.now (label.now, table.now)) }
 {
-    let mut name = Vec::from_slice(alloc, label.as_slice())?;
-    name.extend_from_slice(b".csv")?;
+    let name = file_name(alloc, label)?;
     let bytes = table_text(alloc, table, shape)?;
-    Ok(File {
-        name: Text::from(name),
-        bytes,
-    })
+    Ok(File { name, bytes })
 }
 
 // A record: the constant part, with the dynamic part behind as many of its texts as the spot says.

@@ -1,0 +1,67 @@
+//! The later sync.
+ghost use Rattle.std.specs.Prelude.{◌≡◌, [], ◌∷◌, Some, IfOk, if◌then◌else◌};
+ghost use Rattle.std.specs.List.Sorted.{IsStrictlySortedBy};
+ghost use Rattle.ss_text.specs.Texts.{text_cmp};
+ghost use Rattle.outside.specs.Counts.{risen};
+ghost use Rattle.outside.specs.Tree.{Tree};
+ghost use Rattle.effects.specs.Effects.{Does};
+ghost use Rattle.effects.specs.Blame.{StoreBlames};
+ghost use Rattle.view_folder.specs.TableFiles.{FitShape};
+ghost use Rattle.view_folder.specs.Sync.{label_synced, later_sync, is_counted, later_count};
+
+use crate::file::file_name;
+use crate::table_file::table_text;
+use effects::{Stop, remove_file, write_file};
+use flow_law::{Shape, Tables};
+use outside::Folders;
+use ss_text::Text;
+use std::alloc::Global;
+
+/// Syncs the files of these labels, in order: a label's file gets the text of its table, or is removed where the
+/// label has no table. Answers how many files were written, or were there and removed.
+#[tactic(auto, using(effects::proofs::EffectLemmas::each_stops, effects::proofs::EffectLemmas::each_ends, effects::proofs::EffectLemmas::doing_all))]
+pub fn sync<F: Folders>(
+    alloc: Global,
+    store: &mut F,
+    folder: &Text,
+    shape: &Shape,
+    tables: &Tables,
+    labels: &[Text],
+) -> Result<usize, Stop>
+    requires { FitShape shape.now tables.now }
+    ensures does { (o : _) → Does (later_sync folder.now shape.now tables.now labels.now) (F.state store.old, o) (F.state store.new, o) result }
+    ensures writes { IfOk result (λ n. (F.state store.new).writes ≡ risen ((F.state store.old).writes) n) }
+    ensures count { IfOk result (λ n. (t : Tree) → (F.state store.old).tree ≡ Some t → IsStrictlySortedBy text_cmp labels.now → n ≡ later_count folder.now tables.now labels.now t) }
+    ensures blames { StoreBlames (F.state store.old) (F.state store.new) result }
+{
+    let mut count = 0;
+    for label in labels {
+        count += usize::from(sync_label(alloc, store, folder, shape, tables, label)?);
+    }
+    Ok(count)
+}
+
+// Syncs the file of a label, and answers whether it was written, or was there and removed.
+#[tactic(auto, using(effects::proofs::EffectLemmas::none_off, effects::proofs::EffectLemmas::nothing_yet, crate::proofs::LaterLemmas::synced_write, crate::proofs::LaterLemmas::synced_remove, crate::proofs::LaterLemmas::fits_of))]
+fn sync_label<F: Folders>(
+    alloc: Global,
+    store: &mut F,
+    folder: &Text,
+    shape: &Shape,
+    tables: &Tables,
+    label: &Text,
+) -> Result<bool, Stop>
+    requires { FitShape shape.now tables.now }
+    ensures does { (o : _) → Does (label_synced folder.now shape.now tables.now label.now ∷ []) (F.state store.old, o) (F.state store.new, o) result }
+    ensures was { IfOk result (λ was. (t : Tree) → (F.state store.old).tree ≡ Some t → was ≡ is_counted folder.now tables.now t label.now) }
+    ensures counted { IfOk result (λ was. (F.state store.new).writes ≡ (if was then risen ((F.state store.old).writes) 1 else (F.state store.old).writes)) }
+    ensures blames { StoreBlames (F.state store.old) (F.state store.new) result }
+{
+    let file = file_name(alloc, label)?;
+    let Some(table) = tables.table_of(label) else {
+        return remove_file(alloc, store, folder, &file);
+    };
+    let text = table_text(alloc, table, shape)?;
+    write_file(alloc, store, folder, &file, text.as_slice())?;
+    Ok(true)
+}
