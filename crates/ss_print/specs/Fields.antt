@@ -1,8 +1,14 @@
 -- The name and the fields of each refusal, as they are printed.
-use Rattle.std.specs.Prelude.{ℕ, List, [], ◌∷◌, ◌++◌, Option, None, Some, option_to_list, codes, decimal}
+use Rattle.std.specs.Prelude.{ℕ, List, [], ◌∷◌, ◌++◌, Option, None, Some, option_to_list, slice_index_or, codes, decimal}
 use Rattle.ss_text.specs.Texts.{Text, Row}
 use Rattle.schema_model.specs.declared.refusal.Which.{Which}
 use Rattle.schema_model.specs.declared.refusal.Which.TheVariants.{Databases, Relations, Attributes, Rows}
+use Rattle.schema_model.specs.declared.change.Change.{Change}
+use Rattle.schema_model.specs.declared.change.Change.TheVariants.{Insert, Delete, AddAttribute, DropAttribute, RenameAttribute, CreateRelation, DropRelation, RenameRelation}
+use Rattle.schema_model.specs.declared.change.ChangeFault.{ChangeFault}
+use Rattle.schema_model.specs.declared.change.ChangeFault.TheVariants as changes
+use Rattle.schema_model.specs.declared.refusal.Refusal.{Refusal}
+use Rattle.schema_model.specs.declared.refusal.Refusal.TheVariants as refusal
 use Rattle.csv_catalog.specs.declared.fault.LoadFault.{LoadFault}
 use Rattle.csv_catalog.specs.declared.fault.LoadFault.TheVariants as load
 use Rattle.ss_parser.specs.declared.fault.ParseFault.{ParseFault}
@@ -57,3 +63,70 @@ type_fields typing.NoConstantColumn = codes "no-constant-column" ∷ []
 type_fields (typing.TooMany name) = codes "too-many" ∷ name ∷ []
 type_fields (typing.BadLabel name) = codes "bad-label" ∷ name ∷ []
 type_fields typing.NoMemory = []
+
+-- a line with a backslash, at this place, that spells nothing
+abbrev pub escape_fields : ℕ → Row
+escape_fields at = codes "bad-escape" ∷ decimal at ∷ []
+
+-- the first field of a line
+abbrev pub first_field : Row → Text
+first_field row = slice_index_or row 0 []
+
+-- a line that says no change; want of memory is no refusal
+abbrev pub line_fields : Row → ChangeFault → Row
+line_fields row changes.UnknownVerb = codes "unknown-verb" ∷ first_field row ∷ []
+line_fields row (changes.FieldCount got) = codes "field-count" ∷ first_field row ∷ decimal got ∷ []
+line_fields row changes.NotYet = codes "not-yet" ∷ first_field row ∷ []
+line_fields row changes.NoMemory = []
+
+-- the database and the relation that a change names
+abbrev pub database_in : Change → Text
+database_in (Insert db rel row) = db
+database_in (Delete db rel row) = db
+database_in (AddAttribute db rel name fill) = db
+database_in (DropAttribute db rel name) = db
+database_in (RenameAttribute db rel name to) = db
+database_in (CreateRelation db rel attributes) = db
+database_in (DropRelation db rel) = db
+database_in (RenameRelation db rel to) = db
+
+abbrev pub relation_in : Change → Text
+relation_in (Insert db rel row) = rel
+relation_in (Delete db rel row) = rel
+relation_in (AddAttribute db rel name fill) = rel
+relation_in (DropAttribute db rel name) = rel
+relation_in (RenameAttribute db rel name to) = rel
+relation_in (CreateRelation db rel attributes) = rel
+relation_in (DropRelation db rel) = rel
+relation_in (RenameRelation db rel to) = rel
+
+-- the relation's name after the change
+abbrev pub new_relation : Change → Text
+new_relation (RenameRelation db rel to) = to
+new_relation g = relation_in g
+
+-- the attribute that a change is for; a change that is for none has its relation's name here
+abbrev pub attribute_in : Change → Text
+attribute_in (AddAttribute db rel name fill) = name
+attribute_in (DropAttribute db rel name) = name
+attribute_in (RenameAttribute db rel name to) = name
+attribute_in g = relation_in g
+
+-- the new attribute at a place in its list of names
+abbrev pub new_attribute : Change → ℕ → Text
+new_attribute (RenameAttribute db rel name to) place = to
+new_attribute (CreateRelation db rel attributes) place = slice_index_or attributes place rel
+new_attribute g place = attribute_in g
+
+-- a change that the catalogue refuses
+abbrev pub refusal_fields : Change → Refusal → Row
+refusal_fields g refusal.NoDatabase = codes "no-database" ∷ database_in g ∷ []
+refusal_fields g refusal.IllegalName = codes "illegal-name" ∷ new_relation g ∷ []
+refusal_fields g refusal.NoRelation = codes "no-relation" ∷ database_in g ∷ relation_in g ∷ []
+refusal_fields g refusal.RelationThere = codes "relation-there" ∷ database_in g ∷ new_relation g ∷ []
+refusal_fields g refusal.NoAttribute = codes "no-attribute" ∷ database_in g ∷ relation_in g ∷ attribute_in g ∷ []
+refusal_fields g (refusal.AttributeThere place) = codes "attribute-there" ∷ database_in g ∷ relation_in g ∷ new_attribute g place ∷ []
+refusal_fields g refusal.LastAttribute = codes "last-attribute" ∷ database_in g ∷ relation_in g ∷ attribute_in g ∷ []
+refusal_fields g (refusal.ArityDiffers want got) = codes "arity-differs" ∷ database_in g ∷ relation_in g ∷ decimal want ∷ decimal got ∷ []
+refusal_fields g refusal.NoRow = codes "no-row" ∷ database_in g ∷ relation_in g ∷ []
+refusal_fields g (refusal.Limit which) = codes "limit" ∷ counted which ∷ []

@@ -4,11 +4,13 @@
 //! nothing of when a refusal comes.
 #![tactic(auto)]
 
+mod change;
 mod definition;
 mod fields;
 mod load;
 mod view;
 
+pub use change::{escape_fields, line_fields, refusal_fields};
 pub use definition::{parse_fields, type_fields};
 pub use load::load_fields;
 pub use view::{clash_fields, illegal_fields};

@@ -1,6 +1,8 @@
 -- What a definition is read as, once.
-use Rattle.std.proofs.Common.{◌≡◌, ◌≢◌, ◌⊎◌, inl, inr, ℕ, List, refl, sym, ap, ◌∙◌}
-use Rattle.std.specs.Prelude.{Result, Ok, Err}
+use Rattle.std.proofs.Common.{◌≡◌, ◌≢◌, inl, inr, ℕ, List, refl, sym, ap, ◌∙◌}
+use Rattle.std.specs.Prelude.{Ok, Err}
+use Rattle.ss_text.specs.Texts.{Text, Row}
+use Rattle.outside.specs.Tree.{Tree}
 use Rattle.view_def.specs.Query.{Query}
 use Rattle.view_def.specs.Tree as tree
 use Rattle.ss_parser.specs.Refused as grammar
@@ -10,7 +12,8 @@ use Rattle.ss_parser.proofs.Refusals.{one_refusal, read_not_refused}
 use Rattle.var_typing.specs.Typed.{typed}
 use Rattle.var_typing.specs.declared.fault.TypeFault.{TypeFault}
 use Rattle.ss_print.specs.Fields.{parse_fields, type_fields}
-use Rattle.ss_top.specs.Stages.{Accepted, Definition, IsRead, typed_or_refused}
+use Rattle.ss_top.specs.Opening.{IsDefinition, definition_bytes, HasDefinition}
+use Rattle.ss_top.specs.Stages.{Definition, IsRead, typed_or_refused}
 
 pub has_type : (v : tree.Tree) (q : Query) → typed v ≡ Ok q → (let d : Definition = Ok (record { written = v; query = q }) in d ≡ typed_or_refused v)
 unfolding typed_or_refused
@@ -31,3 +34,16 @@ pub refused_as : (bytes : List ℕ) (f : ParseFault) (d : Definition) → f ≢ 
 unfolding IsRead
 refused_as bytes f d some refused none (inl (t, read, e)) = absurd (some (none t read))
 refused_as bytes f d some refused none (inr (g, also, h, e)) = ap (λ x. Err (parse_fields x)) (one_refusal bytes f g some also refused h) ∙ sym e
+
+-- what bytes were read as is what they are
+pub is_read : (bytes : List ℕ) (v : tree.Tree) (d : Definition) → grammar.IsRead bytes v → d ≡ typed_or_refused v → IsRead bytes d
+unfolding IsRead
+is_read bytes v d read e = inl (v, read, e)
+
+pub is_refused : (bytes : List ℕ) (f : ParseFault) (row : Row) → f ≢ parse.NoMemory → grammar.IsRefused bytes f → row ≡ parse_fields f → (let d : Definition = Err row in IsRead bytes d)
+unfolding IsRead
+is_refused bytes f row some refused e = inr (f, some, refused, ap Err e)
+
+-- a definition that is there, by its name and by what is asked
+pub has_definition : (name : Text) (t : Tree) (d : Definition) → IsDefinition name (definition_bytes t name) d → HasDefinition name t
+has_definition name t d h = record { definition = d; is = h }

@@ -3,3 +3,11 @@ pub mod RunLemmas
 pub mod StageLemmas
 pub mod ShownLemmas
 pub mod DefinitionLemmas
+pub mod PrintedLemmas
+pub mod MaintainLemmas
+pub mod CheckedLemmas
+pub mod KeptLemmas
+pub mod MaintainedLemmas
+pub mod VerifyLemmas
+pub mod ViewLemmas
+pub mod AnswerLemmas

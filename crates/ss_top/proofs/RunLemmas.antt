@@ -2,26 +2,26 @@
 use Rattle.ss_text.specs.Texts.{Text}
 use Rattle.ss_text.specs.Label.{is_table_label}
 use Rattle.ss_top.specs.Commands.{asked_of, command_named}
-use Rattle.std.proofs.Common.{◌≡◌, ℕ, ◌≤◌, true, length, get_or, List, [], ◌∷◌, ◌++◌, Option, refl, sym, ap, ◌∙◌, subst, arith, inl, inr}
-use Rattle.std.specs.Prelude.{Result, Ok, Err}
+use Rattle.std.proofs.Common.{◌≡◌, ◌≢◌, ℕ, ◌+◌, ◌<◌, length-append, true, length, get_or, List, [], ◌∷◌, ◌++◌, Option, refl, ap, ◌∙◌, arith, inl, inr}
+use Rattle.std.specs.Prelude.{Result, Ok, Err, IfOk}
 use Rattle.course.specs.Machine.{Ending}
-use Rattle.outside.specs.Counts.{Rose}
-use Rattle.effects.specs.Effects.{Effect, World, contents, performed, Partly}
-use Rattle.effects.specs.Blame.{Steady}
+use Rattle.effects.specs.Effects.{Effect, World, contents}
 use Rattle.effects.specs.declared.stop.Stop.{Stop}
 use Rattle.effects.specs.declared.stop.Stop.TheVariants as stop
-use Rattle.effects.proofs.EffectLemmas.{performed_append, partly_more, partly_later}
+use Rattle.effects.proofs.EffectLemmas.{partly_more}
 use Rattle.course.specs.declared.status.Halt.{Halt}
 use Rattle.course.specs.declared.status.Halt.TheVariants as halt
 use Rattle.course.specs.declared.status.Verdict.{Verdict}
 use Rattle.course.specs.declared.status.Verdict.TheVariants as verdict
 use Rattle.course.specs.Machine.{Reply, Goes, Halts, Ended, ending, BlamesRun}
-use Rattle.ss_top.specs.declared.session.Session.{Session}
 use Rattle.ss_top.specs.declared.opening.Opened.TheVariants as opened_as
 use Rattle.ss_top.specs.Open.{OpenValue}
 use Rattle.ss_top.specs.Opening.{done_at_once}
 use Rattle.ss_top.specs.Steps.{Opens}
-use Rattle.ss_top.specs.Course.{Course, unread, number, status_of, Did, Cause, RanBy}
+use Rattle.tab_lines.specs.Taking.{most_taken}
+use Rattle.ss_top.specs.declared.status.Status.{Status}
+use Rattle.ss_top.specs.declared.status.Status.TheVariants as status
+use Rattle.ss_top.specs.Course.{Course, unread, number, status_of, Did, Cause, RanBy, NoFault, Finished, is_ended_status}
 
 pub append_none : (xs : List Effect) → xs ++ [] ≡ xs
 append_none [] = refl
@@ -32,7 +32,7 @@ pub shown_ends : (r : Reply OpenValue) (old new : World) (v : Verdict) → Opens
 shown_ends (Halts es w) old new v h = h
 shown_ends (Goes es a) old new v h = absurd h
 
-pub shown_done : (r : Reply OpenValue) (old new : World) (s : Session) → Opens r old new (Ok (opened_as.Open s)) → Ended (ending done_at_once r) old new (Ok verdict.Done)
+pub shown_done : (r : Reply OpenValue) (old new : World) (s : OpenValue) → Opens r old new (Ok (opened_as.Open s)) → Ended (ending done_at_once r) old new (Ok verdict.Done)
 shown_done (Halts es w) old new s h = absurd h
 shown_done (Goes es a) old new s h = (rw (append_none es) h.0, refl)
 
@@ -80,3 +80,31 @@ two_words [] word name n w m legal = absurd (omega arith)
 two_words (a ∷ []) word name n w m legal = absurd (omega arith)
 two_words (a ∷ b ∷ []) word name n w m legal = rw (← w, ← m, legal) refl
 two_words (a ∷ b ∷ c ∷ rest) word name n w m legal = absurd (omega arith)
+
+-- a run without a fault, over an input that is not too long, finished, or there was no memory
+by_no_fault : (c : Course) (bytes : List ℕ) (rest : Option (List ℕ)) (old new : World) (i j : ℕ) (s : Status) → Did c bytes rest old new s → Cause s i j old new → NoFault i j old new → length bytes < most_taken → s ≢ status.NoMemory → Finished (c.whole bytes) old new s
+by_no_fault c bytes rest old new i j status.Done h cause none few some = h
+by_no_fault c bytes rest old new i j status.SomeRefused h cause none few some = h
+by_no_fault c bytes rest old new i j status.Usage h cause none few some = h
+by_no_fault c bytes rest old new i j status.BadDefinition h cause none few some = h
+by_no_fault c bytes rest old new i j status.BadCatalogue h cause none few some = h
+by_no_fault c bytes rest old new i j status.NoView h cause none few some = h
+by_no_fault c bytes rest old new i j status.ReadFault h cause none few some = elim cause [ inl r ↦ absurd (none.input r) | inr r ↦ absurd (none.reads r) ]
+by_no_fault c bytes rest old new i j status.WriteFault h cause none few some = elim cause [ inl r ↦ absurd (none.writes r) | inr r ↦ absurd (none.prints r) ]
+by_no_fault c bytes rest old new i j status.NoMemory h cause none few some = absurd (some refl)
+by_no_fault c bytes rest old new i j status.TooLong h cause none few some =
+    let long : length bytes ≡ length h.0.taken + length h.0.left = ap length h.0.split ∙ length-append h.0.taken h.0.left in
+    let most : length h.0.taken ≡ most_taken = h.1 in
+    absurd (omega (arith, long, most, few))
+
+pub finishes : (c : Course) (bytes : List ℕ) (rest : Option (List ℕ)) (old new : World) (i j : ℕ) (r : Result Verdict Halt) → RanBy c bytes rest old new r → BlamesRun i j old new r → NoFault i j old new → length bytes < most_taken → status_of r ≢ status.NoMemory → Finished (c.whole bytes) old new (status_of r)
+finishes c bytes rest old new i j r h b none few some = by_no_fault c bytes rest old new i j (status_of r) (by_status c bytes rest old new i j r h b) (by_cause i j old new r b) none few some
+
+-- a run that came to its end
+pub ended_defined : (A : Type 0) (r : Result Verdict Halt) → IfOk r (λ _. A) → is_ended_status (status_of r) ≡ true → A
+ended_defined A (Ok v) h e = h
+ended_defined A (Err halt.InputFault) h e = absurd (cc)
+ended_defined A (Err halt.TooLong) h e = absurd (cc)
+ended_defined A (Err (halt.Stopped stop.ReadFault)) h e = absurd (cc)
+ended_defined A (Err (halt.Stopped stop.WriteFault)) h e = absurd (cc)
+ended_defined A (Err (halt.Stopped stop.NoMemory)) h e = absurd (cc)

@@ -1,26 +1,25 @@
 -- A run of `show` that ended with the status 0 showed the view.
-use Rattle.std.proofs.Common.{◌≡◌, ℕ, List, [], ◌∷◌, ◌++◌, Option, None, Some, refl, sym, ap, ◌∙◌, subst}
+use Rattle.std.proofs.Common.{◌≡◌, ℕ, true, List, [], ◌∷◌, ◌++◌, Option, None, Some, refl, ap, ◌∙◌}
 use Rattle.std.specs.Prelude.{Result, Ok, Err}
 use Rattle.std.specs.Prelude.{codes, decimal}
 use Rattle.ss_text.specs.Texts.{Text, Row}
 use Rattle.tab_lines.specs.Spelling.{spell}
 use Rattle.outside.specs.Streams.{with_bytes}
 use Rattle.outside.specs.Tree.{Tree, files_of}
-use Rattle.effects.specs.Effects.{Effect, World, Stored, Contents, contents, stored_of, performed}
+use Rattle.effects.specs.Effects.{World, Stored, Contents, contents, stored_of, performed}
 use Rattle.effects.proofs.EffectLemmas.{performed_append}
 use Rattle.schema_model.specs.Catalogue.{CatalogueValue}
 use Rattle.view_def.specs.Query.{Query}
 use Rattle.view_folder.specs.Files.{view_folder}
-use Rattle.view_folder.specs.Sync.{opening_sync, opening_count}
+use Rattle.view_folder.specs.Sync.{opening_sync}
 use Rattle.view_folder.proofs.FolderLemmas.{now, synced, holds_exactly, counted}
-use Rattle.course.specs.Machine.{Reply, Goes, Halts, ending}
+use Rattle.course.specs.Machine.{ending}
 use Rattle.ss_top.specs.declared.status.Status.{Status}
 use Rattle.ss_top.specs.declared.status.Status.TheVariants as status
-use Rattle.ss_top.specs.Open.{OpenValue}
 use Rattle.ss_top.specs.Stages.{Definition, Accepted}
 use Rattle.ss_top.specs.Opening.{opening, with_catalogue, with_view, opening_effects, done_at_once}
 use Rattle.ss_top.specs.Printed.{tells_synced}
-use Rattle.ss_top.specs.Course.{Course, Finished, Did}
+use Rattle.ss_top.specs.Course.{Course, Finished, Did, is_done_status}
 use Rattle.ss_top.specs.Commands.{Show}
 use Rattle.ss_top.specs.Runs.{course_of}
 use Rattle.ss_top.specs.Promises.{IsShown, synced_count}
@@ -29,11 +28,11 @@ use Rattle.ss_top.proofs.RunLemmas.{append_none}
 use Rattle.ss_top.proofs.StageLemmas.{are_view_files}
 
 -- a store that tells, and its count of writes
-told_tree : (o : Option Tree) (n : ℕ) (s : Stored) → stored_of o n ≡ Some s → (o ≡ Some s.tree) × (n ≡ s.writes)
+pub told_tree : (o : Option Tree) (n : ℕ) (s : Stored) → stored_of o n ≡ Some s → (o ≡ Some s.tree) × (n ≡ s.writes)
 told_tree None n s e = absurd (cc)
 told_tree (Some t) n s e = let same : record { tree = t; writes = n } ≡ s = cc in (ap (λ (x : Stored). Some x.tree) same, ap (λ (x : Stored). x.writes) same)
 
-contents_told : (w : World) (t : Tree) → w.0.tree ≡ Some t → contents w ≡ record { stored = Some (record { tree = t; writes = w.0.writes }); held = w.1.held }
+pub contents_told : (w : World) (t : Tree) → w.0.tree ≡ Some t → contents w ≡ record { stored = Some (record { tree = t; writes = w.0.writes }); held = w.1.held }
 unfolding contents
 contents_told w t e = ap (λ (o : Option Tree). record { stored = stored_of o w.0.writes; held = w.1.held }) e
 
@@ -91,8 +90,8 @@ module _ (t : Tree) (old new : World) (s : Status) (told : old.0.tree ≡ Some t
   finished_shown (Err fields) f = absurd (cc (f.status))
   finished_shown (Ok a) f = by_catalogue a (loaded_or_refused t) (Ok a) refl refl f
 
--- a status 0 is that of a run that finished
-pub done_finished : (c : Course) (bytes : List ℕ) (rest : Option (List ℕ)) (old new : World) (s : Status) → s ≡ status.Done → Did c bytes rest old new s → Finished (c.whole bytes) old new s
+-- a run that was done finished
+pub done_finished : (c : Course) (bytes : List ℕ) (rest : Option (List ℕ)) (old new : World) (s : Status) → is_done_status s ≡ true → Did c bytes rest old new s → Finished (c.whole bytes) old new s
 done_finished c bytes rest old new status.Done e h = h
 done_finished c bytes rest old new status.SomeRefused e h = h
 done_finished c bytes rest old new status.Usage e h = h
@@ -106,4 +105,4 @@ done_finished c bytes rest old new status.TooLong e h = absurd (cc)
 
 -- the run of `show` by its course
 pub did_show : (name : Text) (t : Tree) (d : Definition) (rest : Option (List ℕ)) (old new : World) (s : Status) → old.0.tree ≡ Some t → s ≡ status.Done → Did (course_of (Show name) t d) [] rest old new s → IsShown d t old new
-did_show name t d rest old new s told done h = finished_shown t old new s told done d (done_finished (course_of (Show name) t d) [] rest old new s done h)
+did_show name t d rest old new s told done h = finished_shown t old new s told done d (done_finished (course_of (Show name) t d) [] rest old new s (ap is_done_status done) h)

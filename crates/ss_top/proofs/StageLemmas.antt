@@ -1,5 +1,5 @@
 -- What a view gives over a catalogue, as its files.
-use Rattle.std.proofs.Common.{◌≡◌, ◌≢◌, ◌+◌, ◌-◌, ◌<◌, ◌∙◌, ℕ, suc, Bool, true, false, List, [], ◌∷◌, ◌++◌, map, filter, length, drop, Option, None, Some, refl, sym, ap, subst, arith, cond, length-append}
+use Rattle.std.proofs.Common.{◌≡◌, ◌≢◌, Bool, true, false, List, [], ◌∷◌, ◌++◌, map, filter, Option, None, Some, refl, subst, cond}
 use Rattle.std.specs.Prelude.{codes, option_map, option_to_list}
 use Rattle.std.specs.Option.{option_or}
 use Rattle.std.specs.List.{AllByRecursion, filter_map}
@@ -16,7 +16,7 @@ use Rattle.ss_text.proofs.AscendingLemmas.{ascending_ascends}
 use Rattle.schema_model.specs.Catalogue.{CatalogueValue}
 use Rattle.view_def.specs.Query.{Query}
 use Rattle.flow_law.specs.Facts.{Fact, illegal, conflict, facts_of, column_of}
-use Rattle.flow_law.specs.Tables.{TableValue, TablesValue}
+use Rattle.flow_law.specs.Tables.{TableValue}
 use Rattle.flow_law.specs.FactTables.{tables, fact_table, value_for}
 use Rattle.flow_law.specs.declared.shape.Shape.{Shape}
 use Rattle.view_def.specs.declared.typed.Term.{Term}
@@ -25,25 +25,14 @@ use Rattle.valuation_meaning.specs.Valuations.{valuations}
 use Rattle.valuation_meaning.specs.Meaning.{facts, fact_of, values_of, shape_of, meaning}
 use Rattle.valuation_meaning.specs.Refusal.{refusal, first_fault}
 use Rattle.valuation_meaning.specs.declared.evaluation.EvalFault.TheVariants as fault
-use Rattle.view_folder.specs.declared.file.File.{File}
-use Rattle.view_folder.specs.Files.{AreViewFiles, is_csv_name, is_named}
+use Rattle.view_folder.specs.Files.{AreViewFiles, is_named}
+use Rattle.view_folder.proofs.LaterLemmas.{file_name_csv}
 use Rattle.view_folder.specs.TableFiles.{table_files, table_file, FitsShape, FitShape}
 use Rattle.ss_print.specs.Fields.{illegal_fields, clash_fields}
 use Rattle.ss_top.specs.Stages.{files_of_view, refusal_of}
 use Rattle.ss_top.specs.Records.{HasRecords}
 use Rattle.flow_law.specs.declared.refused.IllegalLabel.{IllegalLabel}
 use Rattle.flow_law.specs.declared.refused.Clash.{Clash}
-
--- a label and `.csv` ends in `.csv`
-csv_named : (l : Text) → is_csv_name (l ++ codes ".csv") ≡ true
-csv_named l = ap (λ (x : Text). text_eq x (codes ".csv")) (ap (λ n. drop n (l ++ codes ".csv")) (four_less l) ∙ past l (codes ".csv"))
-  where
-    four_less : (l : Text) → length (l ++ codes ".csv") - 4 ≡ length l
-    four_less l = omega (arith, length-append l (codes ".csv"))
-
-    past : (l t : Text) → drop (length l) (l ++ t) ≡ t
-    past [] t = refl
-    past (x ∷ xs) t = past xs t
 
 -- labels that differ give files of other names
 same_front : (l m t : Text) → l ++ t ≡ m ++ t → l ≡ m
@@ -63,7 +52,7 @@ module _ (shape : Shape) (g : Text → TableValue) where
   files_of_labels : (ls : List Text) → IsStrictlySortedBy text_cmp ls → AreViewFiles (map (table_file shape) (map (λ m. (m, g m)) ls))
   unfolding IsStrictlySortedBy
   files_of_labels [] h = tt
-  files_of_labels (l ∷ ls) h = (csv_named l, unnamed l ls h.0, files_of_labels ls h.1)
+  files_of_labels (l ∷ ls) h = (file_name_csv l, unnamed l ls h.0, files_of_labels ls h.1)
 
 -- the files of a view's tables
 pub are_view_files : (c : CatalogueValue) (q : Query) → AreViewFiles (files_of_view c q)
@@ -92,7 +81,7 @@ module _ {A B : Type 0} (P : B → Type 0) (f : A → B) where
   each_mapped [] h = tt
   each_mapped (x ∷ xs) h = (h.0, each_mapped xs h.1)
 
-  all_mapped : (xs : List A) → ((x : A) → P (f x)) → AllByRecursion P (map f xs)
+  pub all_mapped : (xs : List A) → ((x : A) → P (f x)) → AllByRecursion P (map f xs)
   all_mapped [] h = tt
   all_mapped (x ∷ xs) h = (h x, all_mapped xs h)
 

@@ -1,15 +1,22 @@
 -- What the words ask for.
-use Rattle.std.specs.Prelude.{Bool, true, false, ◌&&◌, List, [], ◌∷◌, if◌then◌else◌, codes}
-use Rattle.ss_text.specs.Texts.{Text, Row, text_eq}
+use Rattle.std.specs.Prelude.{Bool, true, false, List, [], ◌∷◌, if◌then◌else◌, codes}
+use Rattle.ss_text.specs.Texts.{Text, text_eq}
 use Rattle.ss_text.specs.Label.{is_table_label}
 
 -- a command with the name of a view, or words that are none of the forms
 pub data Asked : Type 0 where
+  Check : Text → Asked
   Show : Text → Asked
+  Maintain : Text → Asked
+  Verify : Text → Asked
   Other : Asked
 
 abbrev pub command_named : Text → Text → Asked
-command_named word name = if text_eq word (codes "show") then Show name else Other
+command_named word name =
+    if text_eq word (codes "check") then Check name else
+    if text_eq word (codes "show") then Show name else
+    if text_eq word (codes "maintain") then Maintain name else
+    if text_eq word (codes "verify") then Verify name else Other
 
 -- a word and a legal table label
 abbrev pub asked_of : List Text → Asked
@@ -20,10 +27,18 @@ asked_of (word ∷ name ∷ more ∷ rest) = Other
 
 -- whether a command calls the store
 abbrev pub uses_store : Asked → Bool
-uses_store (Show name) = true
 uses_store Other = false
+uses_store asked = true
+
+-- whether it only reads what the store holds
+abbrev pub only_reads : Asked → Bool
+only_reads (Check name) = true
+only_reads (Show name) = false
+only_reads (Maintain name) = false
+only_reads (Verify name) = true
+only_reads Other = true
 
 -- and whether it reads the input
 abbrev pub reads_input : Asked → Bool
-reads_input (Show name) = false
-reads_input Other = false
+reads_input (Maintain name) = true
+reads_input asked = false

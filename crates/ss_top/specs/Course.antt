@@ -1,5 +1,5 @@
 -- What a whole run does, by what it is asked and by what the outside tells.
-use Rattle.std.specs.Prelude.{◌≡◌, ℕ, List, [], ◌∷◌, ◌++◌, ◌⊎◌, Option, None, Some, Result, Ok, Err}
+use Rattle.std.specs.Prelude.{◌≡◌, ℕ, ◌<◌, Bool, true, false, List, [], ◌++◌, length, ◌⊎◌, Option, None, Some, Result, Ok, Err}
 use Rattle.outside.specs.Counts.{Rose}
 use Rattle.effects.specs.Effects.{Effect, World, contents, performed, Partly}
 use Rattle.effects.specs.declared.stop.Stop.TheVariants as stop
@@ -8,6 +8,7 @@ use Rattle.course.specs.declared.status.Verdict.TheVariants as verdict
 use Rattle.course.specs.declared.status.Halt.{Halt}
 use Rattle.course.specs.declared.status.Halt.TheVariants as halt
 use Rattle.tab_lines.specs.Lines.{lines_of, whole_lines}
+use Rattle.tab_lines.specs.Taking.{most_taken}
 use Rattle.course.specs.Machine.{Reply, Goes, Halts, Ending, Ended, follow, course}
 use Rattle.ss_top.specs.declared.status.Status.{Status}
 use Rattle.ss_top.specs.declared.status.Status.TheVariants as status
@@ -36,6 +37,12 @@ by_lines step finish (Goes es a) = record {
   whole = λ bytes. first es (course step finish a (lines_of bytes));
   so_far = λ taken. goes_so_far es (follow step (whole_lines taken) (Goes [] a));
 }
+
+-- whether all was done, though some line may have been refused
+abbrev pub is_done : Verdict → Bool
+is_done verdict.Done = true
+is_done verdict.SomeRefused = true
+is_done v = false
 
 -- the status of a verdict
 abbrev pub number : Verdict → Status
@@ -70,12 +77,12 @@ pub record Finished (e : Ending) (old new : World) (s : Status) : Type 0 where
   pub status : s ≡ number e.status
   pub done : contents new ≡ performed e.effects (contents old)
 
--- what was done where a run ends so: all of it; or up to some place, where the one effect under way may have broken off; or exactly what the bytes taken ask for
+-- what was done where a run ends so: all of it; or up to some place, where the one effect under way may have broken off; or exactly what the bytes taken ask for, which are 2^32 where the input is too long
 abbrev pub Did : Course → List ℕ → Option (List ℕ) → World → World → Status → Type 0
 Did c bytes rest old new status.ReadFault = (Rose old.0.read_faults new.0.read_faults × Partly (c.whole bytes).effects (contents old) (contents new)) ⊎ GaveOut c bytes rest old new
 Did c bytes rest old new status.WriteFault = Partly (c.whole bytes).effects (contents old) (contents new)
 Did c bytes rest old new status.NoMemory = Partly (c.whole bytes).effects (contents old) (contents new)
-Did c bytes rest old new status.TooLong = GaveOut c bytes rest old new
+Did c bytes rest old new status.TooLong = (g : GaveOut c bytes rest old new) × (length g.taken ≡ most_taken)
 Did c bytes rest old new s = Finished (c.whole bytes) old new s
 
 -- a fault comes only where a count of faults rose: i and j are those of the input
@@ -84,9 +91,40 @@ Cause status.ReadFault i j old new = Rose i j ⊎ Rose old.0.read_faults new.0.r
 Cause status.WriteFault i j old new = Rose old.0.write_faults new.0.write_faults ⊎ Rose old.1.faults new.1.faults
 Cause s i j old new = Unit {0}
 
+-- no count of faults rose: i and j are those of the input
+pub record NoFault (i j : ℕ) (old new : World) : Type 0 where
+  pub input : Rose i j → ⊥
+  pub reads : Rose old.0.read_faults new.0.read_faults → ⊥
+  pub writes : Rose old.0.write_faults new.0.write_faults → ⊥
+  pub prints : Rose old.1.faults new.1.faults → ⊥
+
 -- what a command did
 abbrev pub RanBy : Course → List ℕ → Option (List ℕ) → World → World → Result Verdict Halt → Type 0
 RanBy c bytes rest old new (Ok v) = Ended (c.whole bytes) old new (Ok v)
 RanBy c bytes rest old new (Err halt.InputFault) = GaveOut c bytes rest old new
-RanBy c bytes rest old new (Err halt.TooLong) = GaveOut c bytes rest old new
+RanBy c bytes rest old new (Err halt.TooLong) = (g : GaveOut c bytes rest old new) × (length g.taken ≡ most_taken)
 RanBy c bytes rest old new (Err (halt.Stopped e)) = Partly (c.whole bytes).effects (contents old) (contents new)
+
+-- the whole input was read, and it was no longer than an input may be
+pub record IsReadWhole (bytes : List ℕ) (rest : Option (List ℕ)) : Type 0 where
+  pub read : rest ≡ Some []
+  pub few : length bytes < most_taken
+
+-- that, where all was done
+abbrev pub IsWholeInput : List ℕ → Option (List ℕ) → Result Verdict Halt → Type 0
+IsWholeInput bytes rest (Ok v) = is_done v ≡ true → IsReadWhole bytes rest
+IsWholeInput bytes rest (Err h) = Unit {0}
+
+-- whether a status says that a run came to its end
+abbrev pub is_ended_status : Status → Bool
+is_ended_status status.ReadFault = false
+is_ended_status status.WriteFault = false
+is_ended_status status.NoMemory = false
+is_ended_status status.TooLong = false
+is_ended_status s = true
+
+-- whether a status says that all was done, though some line may have been refused
+abbrev pub is_done_status : Status → Bool
+is_done_status status.Done = true
+is_done_status status.SomeRefused = true
+is_done_status s = false

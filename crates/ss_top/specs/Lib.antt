@@ -4,6 +4,9 @@ pub mod Stages
 pub mod Open
 pub mod Opening
 pub mod Records
+pub mod Checking
+pub mod Verifying
+pub mod Answers
 pub mod Steps
 pub mod Course
 pub mod Runs

@@ -11,7 +11,7 @@ use Rattle.view_folder.specs.Sync.{opening_sync, opening_count}
 use Rattle.course.specs.declared.status.Verdict.{Verdict}
 use Rattle.course.specs.declared.status.Verdict.TheVariants as verdict
 use Rattle.course.specs.Machine.{Reply, Goes, Halts, Ending}
-use Rattle.ss_top.specs.Open.{OpenValue}
+use Rattle.ss_top.specs.Open.{OpenValue, just_opened}
 use Rattle.ss_top.specs.Printed.{refuses, tells_synced}
 use Rattle.ss_top.specs.Stages.{Definition, IsRead, loaded_or_refused, refusal_of, files_of_view}
 
@@ -24,6 +24,11 @@ abbrev pub IsDefinition : Text → Option (List ℕ) → Definition → Type 0
 IsDefinition name None d = d ≡ Err (codes "no-definition" ∷ name ∷ [])
 IsDefinition name (Some bytes) d = IsRead bytes d
 
+-- a definition is there to be judged
+pub record HasDefinition (name : Text) (t : Tree) : Type 0 where
+  pub definition : Definition
+  pub is : IsDefinition name (definition_bytes t name) definition
+
 abbrev pub halts : Row → Verdict → Reply OpenValue
 halts fields v = Halts (refuses fields ∷ []) v
 
@@ -32,7 +37,7 @@ abbrev pub opening_effects : Text → List File → List Text → List Effect
 opening_effects folder files names = opening_sync folder files names ++ tells_synced (opening_count files names) ∷ []
 
 abbrev pub opened : Tree → Query → CatalogueValue → Reply OpenValue
-opened t q c = Goes (opening_effects (view_folder q.view_db) (files_of_view c q) (files_of t (view_folder q.view_db))) (record { query = q; catalogue = c })
+opened t q c = Goes (opening_effects (view_folder q.view_db) (files_of_view c q) (files_of t (view_folder q.view_db))) (just_opened q c)
 
 -- the view over a catalogue is refused, or it is opened
 abbrev pub with_view : Tree → Query → CatalogueValue → Option Row → Reply OpenValue

@@ -1,23 +1,39 @@
 -- The course of a run by what is asked.
-use Rattle.std.specs.Prelude.{◌≡◌, ℕ, Bool, true, List, [], ◌∷◌, Option, Some, Result, Ok, Err}
-use Rattle.ss_text.specs.Texts.{Text, Row}
+use Rattle.std.specs.Prelude.{◌≡◌, Bool, true, [], ◌∷◌, Option, Some}
 use Rattle.outside.specs.Tree.{Tree}
 use Rattle.course.specs.declared.status.Verdict.TheVariants as verdict
 use Rattle.course.specs.Machine.{ending}
-use Rattle.ss_top.specs.Commands.{Asked, Show, Other}
+use Rattle.ss_top.specs.Commands.{Asked, Check, Show, Maintain, Verify, Other}
 use Rattle.ss_top.specs.Printed.{tells_usage}
 use Rattle.ss_top.specs.Stages.{Definition}
-use Rattle.ss_top.specs.Opening.{IsDefinition, definition_bytes, opening, done_at_once}
-use Rattle.ss_top.specs.Course.{Course, unread}
+use Rattle.ss_top.specs.Opening.{IsDefinition, definition_bytes, HasDefinition, opening, done_at_once}
+use Rattle.ss_top.specs.Checking.{checked}
+use Rattle.ss_top.specs.Verifying.{verified}
+use Rattle.ss_top.specs.Answers.{step, finish}
+use Rattle.ss_top.specs.Course.{Course, unread, by_lines}
 
 -- what the definition that is asked for is
 abbrev pub IsAsked : Asked → Tree → Definition → Type 0
+IsAsked (Check name) t d = IsDefinition name (definition_bytes t name) d
 IsAsked (Show name) t d = IsDefinition name (definition_bytes t name) d
+IsAsked (Maintain name) t d = IsDefinition name (definition_bytes t name) d
+IsAsked (Verify name) t d = IsDefinition name (definition_bytes t name) d
 IsAsked Other t d = Unit {0}
+
+-- the definition that is asked for is there to be judged
+abbrev pub IsDefined : Asked → Tree → Type 0
+IsDefined (Check name) t = HasDefinition name t
+IsDefined (Show name) t = HasDefinition name t
+IsDefined (Maintain name) t = HasDefinition name t
+IsDefined (Verify name) t = HasDefinition name t
+IsDefined Other t = Unit {0}
 
 -- the course of a run
 abbrev pub course_of : Asked → Tree → Definition → Course
+course_of (Check name) t d = unread (checked d)
 course_of (Show name) t d = unread (ending done_at_once (opening t d))
+course_of (Maintain name) t d = by_lines step finish (opening t d)
+course_of (Verify name) t d = unread (verified t d)
 course_of Other t d = unread (record { effects = tells_usage ∷ []; status = verdict.Usage })
 
 -- the content is told, where it is wanted

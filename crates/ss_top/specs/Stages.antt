@@ -1,7 +1,7 @@
 -- What a definition, the source folders and a view over them are, or the fields of their refusals.
-use Rattle.std.specs.Prelude.{◌≡◌, ◌≢◌, ◌⊎◌, ℕ, List, Option, None, Some, option_map, Result, Ok, Err}
+use Rattle.std.specs.Prelude.{◌≡◌, ◌≢◌, ◌⊎◌, ℕ, List, Option, option_map, Result, Ok, Err}
 use Rattle.std.specs.Option.{option_or}
-use Rattle.ss_text.specs.Texts.{Text, Row}
+use Rattle.ss_text.specs.Texts.{Row}
 use Rattle.outside.specs.Tree.{Tree}
 use Rattle.schema_model.specs.Catalogue.{CatalogueValue}
 use Rattle.csv_catalog.specs.Loaded.{loaded}
@@ -13,7 +13,7 @@ use Rattle.ss_parser.specs.declared.fault.ParseFault.{ParseFault}
 use Rattle.ss_parser.specs.declared.fault.ParseFault.TheVariants as parse
 use Rattle.var_typing.specs.Typed.{typed}
 use Rattle.var_typing.specs.declared.fault.TypeFault.{TypeFault}
-use Rattle.flow_law.specs.Facts.{Fact, illegal, conflict}
+use Rattle.flow_law.specs.Facts.{illegal, conflict}
 use Rattle.valuation_meaning.specs.Meaning.{facts, shape_of, meaning}
 use Rattle.view_folder.specs.declared.file.File.{File}
 use Rattle.view_folder.specs.TableFiles.{table_files}

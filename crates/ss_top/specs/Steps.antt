@@ -1,6 +1,6 @@
--- What the steps of an opening answer, against the definitions.
-use Rattle.std.specs.Prelude.{◌≡◌, List, Option, None, Some, Result, Ok, Err}
-use Rattle.ss_text.specs.Texts.{Text, Row}
+-- What the steps of a run answer, against the definitions.
+use Rattle.std.specs.Prelude.{◌≡◌, false, List, Option, None, Some, Result, Ok, Err}
+use Rattle.ss_text.specs.Texts.{Row}
 use Rattle.schema_model.specs.Catalogue.{CatalogueValue}
 use Rattle.view_def.specs.Query.{Query, query_of}
 use Rattle.view_def.specs.Tree.{tree_of}
@@ -8,7 +8,14 @@ use Rattle.view_folder.specs.declared.file.File.{File}
 use Rattle.effects.specs.Effects.{World, contents, performed, Partly}
 use Rattle.effects.specs.declared.stop.Stop.{Stop}
 use Rattle.course.specs.Machine.{Reply, Goes, Halts, effects_of}
-use Rattle.ss_top.specs.Open.{OpenValue}
+use Rattle.schema_model.specs.declared.change.Change.{Change}
+use Rattle.view_session.specs.declared.fault.OpenFault.{OpenFault}
+use Rattle.view_session.specs.declared.fault.OpenFault.TheVariants as open_fault
+use Rattle.view_session.specs.declared.fault.Refused.{Refused}
+use Rattle.view_session.specs.declared.fault.Refused.TheVariants as refused
+use Rattle.ss_print.specs.Fields.{refusal_fields, illegal_fields, clash_fields}
+use Rattle.ss_top.specs.Course.{is_done}
+use Rattle.ss_top.specs.Open.{OpenValue, just_opened}
 use Rattle.ss_top.specs.Stages.{Definition}
 use Rattle.ss_top.specs.declared.definition.Understood.{Understood}
 use Rattle.ss_top.specs.declared.definition.Understood.TheVariants as understood
@@ -16,7 +23,8 @@ use Rattle.ss_top.specs.declared.sources.Loading.{Loading}
 use Rattle.ss_top.specs.declared.sources.Loading.TheVariants as loading
 use Rattle.ss_top.specs.declared.tables.Showing.{Showing}
 use Rattle.ss_top.specs.declared.tables.Showing.TheVariants as showing
-use Rattle.ss_top.specs.declared.session.Session.{Session}
+use Rattle.ss_top.specs.declared.opening.Viewing.{Viewing}
+use Rattle.ss_top.specs.declared.opening.Viewing.TheVariants as viewing
 use Rattle.ss_top.specs.declared.opening.Opened.{Opened}
 use Rattle.ss_top.specs.declared.opening.Opened.TheVariants as opened_as
 
@@ -37,13 +45,34 @@ Shows (showing.Files fs) (Some fields) files = ⊥
 Shows (showing.Refused row) None files = ⊥
 Shows (showing.Refused row) (Some fields) files = row ≡ fields
 
--- an opened view as plain data
-abbrev pub open_value : Session → OpenValue
-open_value s = record { query = query_of s.definition.view.value; catalogue = s.catalogue }
+-- a view that was just opened over a catalogue, or the fields of its refusal
+abbrev pub Views : Viewing → Query → CatalogueValue → Option Row → Type 0
+Views (viewing.View v) q c None = v ≡ just_opened q c
+Views (viewing.View v) q c (Some fields) = ⊥
+Views (viewing.Refused row) q c None = ⊥
+Views (viewing.Refused row) q c (Some fields) = row ≡ fields
+
+-- the fields of a view that is not opened
+abbrev pub IsOpenFieldsOf : OpenFault → Row → Type 0
+IsOpenFieldsOf (open_fault.Illegal e) row = row ≡ illegal_fields e
+IsOpenFieldsOf (open_fault.Conflict e) row = row ≡ clash_fields e
+IsOpenFieldsOf open_fault.NoMemory row = ⊥
+
+-- the fields of a change that is refused
+abbrev pub IsFieldsOf : Change → Refused → Row → Type 0
+IsFieldsOf g (refused.Change r) row = row ≡ refusal_fields g r
+IsFieldsOf g (refused.Illegal e) row = row ≡ illegal_fields e
+IsFieldsOf g (refused.Conflict e) row = row ≡ clash_fields e
+IsFieldsOf g refused.NoMemory row = ⊥
+
+-- a run that an opening ended was not done
+abbrev pub IsNoDone : Opened → Type 0
+IsNoDone (opened_as.Open v) = Unit {0}
+IsNoDone (opened_as.Ended v) = is_done v ≡ false
 
 -- what an opening did
 abbrev pub Opens : Reply OpenValue → World → World → Result Opened Stop → Type 0
-Opens (Goes es a) old new (Ok (opened_as.Open s)) = (contents new ≡ performed es (contents old)) × (open_value s ≡ a)
+Opens (Goes es a) old new (Ok (opened_as.Open s)) = (contents new ≡ performed es (contents old)) × (s ≡ a)
 Opens (Goes es a) old new (Ok (opened_as.Ended v)) = ⊥
 Opens (Halts es w) old new (Ok (opened_as.Open s)) = ⊥
 Opens (Halts es w) old new (Ok (opened_as.Ended v)) = (contents new ≡ performed es (contents old)) × (v ≡ w)

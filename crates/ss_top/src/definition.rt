@@ -1,6 +1,7 @@
 //! The definition of a view.
 ghost use Rattle.std.specs.Prelude.{◌≡◌, ◌≢◌, ◌∷◌, ◌++◌, [], OnOk, List, ℕ, Some, IfOk, codes};
 ghost use Rattle.ss_text.specs.Texts.{Row};
+ghost use Rattle.outside.specs.Reading.{OnlyRead};
 ghost use Rattle.outside.specs.Tree.{Tree};
 ghost use Rattle.effects.specs.Effects.{Does};
 ghost use Rattle.effects.specs.Blame.{StoreBlames};
@@ -38,8 +39,9 @@ pub(crate) fn read_definition<F: Folders>(
     name: &Text,
 ) -> Result<Understood, Stop>
     ensures told { IfOk result (λ r. (t : Tree) (d : Stages.Definition) → (F.state store.old).tree ≡ Some t → IsDefinition name.now (definition_bytes t name.now) d → definition_of r ≡ d) }
+    ensures defined { IfOk result (λ r. (t : Tree) → (F.state store.old).tree ≡ Some t → IsDefinition name.now (definition_bytes t name.now) (definition_of r)) }
     ensures does { (o : _) → Does [] (F.state store.old, o) (F.state store.new, o) result }
-    ensures tree { (F.state store.new).tree ≡ (F.state store.old).tree }
+    ensures only_read { OnlyRead (F.state store.old) (F.state store.new) }
     ensures blames { StoreBlames (F.state store.old) (F.state store.new) result }
 {
     let folder = Text::of(alloc, b"defs")?;
@@ -57,9 +59,10 @@ pub(crate) fn read_definition<F: Folders>(
 }
 
 // What the bytes of a definition are read as.
-#[tactic(auto, using(crate::proofs::DefinitionLemmas::read_as, crate::proofs::DefinitionLemmas::refused_as))]
+#[tactic(auto, using(crate::proofs::DefinitionLemmas::read_as, crate::proofs::DefinitionLemmas::refused_as, crate::proofs::DefinitionLemmas::is_read, crate::proofs::DefinitionLemmas::is_refused))]
 fn understand(alloc: Global, bytes: &[u8]) -> Result<Understood, NoMemory>
-    ensures { IfOk result (λ r. (d : Stages.Definition) → IsRead bytes.now d → definition_of r ≡ d) }
+    ensures only { IfOk result (λ r. (d : Stages.Definition) → IsRead bytes.now d → definition_of r ≡ d) }
+    ensures read { IfOk result (λ r. IsRead bytes.now (definition_of r)) }
 {
     match parse(alloc, bytes) {
         Ok(text) => {

@@ -1,36 +1,40 @@
 //! Opens a view.
-ghost use Rattle.std.specs.Prelude.{◌≡◌, ◌++◌, [], ◌∷◌, List, Some, IfOk};
-ghost use Rattle.ss_text.specs.Texts.{Text};
-ghost use Rattle.outside.specs.Tree.{Tree, files_of};
-ghost use Rattle.effects.specs.Effects.{Does};
-ghost use Rattle.effects.specs.Blame.{Blames, SinkBlames};
+ghost use Rattle.std.specs.Prelude.{◌≡◌, ◌∷◌, [], List, Some, IfOk};
+ghost use Rattle.outside.specs.Tree.{Tree};
+ghost use Rattle.effects.specs.Blame.{Blames};
 ghost use Rattle.view_def.specs.Query.{query_of};
-ghost use Rattle.view_folder.specs.Files.{view_folder};
-ghost use Rattle.ss_top.specs.Printed.{refuses, tells_synced};
 ghost use Rattle.ss_top.specs.Stages.{refusal_of, loaded_or_refused};
 ghost use Rattle.ss_top.specs.Stages.{Definition};
-ghost use Rattle.ss_top.specs.Opening.{IsDefinition, definition_bytes, opening, with_catalogue, with_view, opening_effects};
-ghost use Rattle.ss_top.specs.Steps.{Opens};
+ghost use Rattle.ss_top.specs.Opening.{IsDefinition, definition_bytes, HasDefinition, opening, with_catalogue, with_view};
+ghost use Rattle.ss_top.specs.Steps.{Opens, Views, IsOpenFieldsOf, IsNoDone};
 
 use crate::accepted;
 use crate::definition::{Understood, read_definition};
-use crate::printed::{refuse, tell_synced};
-use crate::session::Session;
+use crate::printed::refuse;
 use crate::sources::{Loading, load_sources};
-use crate::tables::{Showing, show_tables};
+use crate::view::OpenView;
 use course::Verdict;
 use effects::Stop;
 use outside::{Folders, Sink};
 use schema_model::Catalogue;
-use ss_text::{Row, Text};
+use ss_print::{clash_fields, illegal_fields};
+use ss_text::{NoMemory, Row, Text};
 use std::alloc::Global;
-use view_folder::{File, folder_of_view, sync_opening};
+use view_folder::folder_of_view;
+use view_session::{OpenFault, Session};
 
 /// What an opening gives: an open view, or the end of the run.
 #[derive(Drop)]
 pub(crate) enum Opened {
-    Open(Session),
+    Open(OpenView),
     Ended(Verdict),
+}
+
+/// What a view gives over a catalogue: it can be opened, or is refused with these fields.
+#[derive(Drop)]
+pub(crate) enum Viewing {
+    View(OpenView),
+    Refused(Row),
 }
 
 // Opens the view of this name: reads what it stands on, writes its folder and prints that it did.
@@ -42,6 +46,8 @@ pub(crate) fn open<F: Folders, K: Sink>(
     name: &Text,
 ) -> Result<Opened, Stop>
     ensures opens { (t : Tree) (d : Definition) → (F.state store.old).tree ≡ Some t → IsDefinition name.now (definition_bytes t name.now) d → Opens (opening t d) (F.state store.old, K.state output.old) (F.state store.new, K.state output.new) result }
+    ensures defined { IfOk result (λ _. (t : Tree) → (F.state store.old).tree ≡ Some t → HasDefinition name.now t) }
+    ensures refused { IfOk result IsNoDone }
     ensures blames { Blames (F.state store.old, K.state output.old) (F.state store.new, K.state output.new) result }
 {
     match read_definition(alloc, store, name)? {
@@ -65,6 +71,7 @@ fn open_view<F: Folders, K: Sink>(
     definition: accepted::Definition,
 ) -> Result<Opened, Stop>
     ensures opens { (t : Tree) → (F.state store.old).tree ≡ Some t → Opens (with_catalogue t (query_of definition.view.value) (loaded_or_refused t)) (F.state store.old, K.state output.old) (F.state store.new, K.state output.new) result }
+    ensures refused { IfOk result IsNoDone }
     ensures blames { Blames (F.state store.old, K.state output.old) (F.state store.new, K.state output.new) result }
 {
     match load_sources(alloc, store)? {
@@ -89,37 +96,50 @@ fn open_session<F: Folders, K: Sink>(
     catalogue: Catalogue,
 ) -> Result<Opened, Stop>
     ensures opens { (t : Tree) → (F.state store.old).tree ≡ Some t → Opens (with_view t (query_of definition.view.value) catalogue (refusal_of catalogue (query_of definition.view.value))) (F.state store.old, K.state output.old) (F.state store.new, K.state output.new) result }
+    ensures refused { IfOk result IsNoDone }
     ensures blames { Blames (F.state store.old, K.state output.old) (F.state store.new, K.state output.new) result }
 {
-    match show_tables(alloc, &catalogue, &definition.view)? {
-        Showing::Refused(fields) => {
+    match view_over(alloc, definition, catalogue)? {
+        Viewing::Refused(fields) => {
             refuse(alloc, output, &fields)?;
             Ok(Opened::Ended(Verdict::NoView))
         }
-        Showing::Files(files) => {
-            fill_folder(alloc, store, output, &definition.view.view_db, &files)?;
-            Ok(Opened::Open(Session {
-                definition,
-                catalogue,
-            }))
+        Viewing::View(view) => {
+            view.fill_folder(alloc, store, output)?;
+            Ok(Opened::Open(view))
         }
     }
 }
 
-// Writes the folder of a view, and prints that it did.
-#[tactic(auto, using(effects::proofs::Following::following, effects::proofs::EffectLemmas::partly_more, effects::proofs::EffectLemmas::partly_later, effects::proofs::EffectLemmas::performed_append))]
-fn fill_folder<F: Folders, K: Sink>(
+// A view over a catalogue, whose folder is not synced yet.
+#[tactic(auto, using(crate::proofs::StageLemmas::not_refused, crate::proofs::AnswerLemmas::refused_views))]
+fn view_over(
     alloc: Global,
-    store: &mut F,
-    output: &mut K,
-    view_db: &Text,
-    files: &[File],
-) -> Result<(), Stop>
-    ensures does { (t : Tree) → (F.state store.old).tree ≡ Some t → Does (opening_effects (view_folder view_db.now) files.now (files_of t (view_folder view_db.now))) (F.state store.old, K.state output.old) (F.state store.new, K.state output.new) result }
-    ensures blames { Blames (F.state store.old, K.state output.old) (F.state store.new, K.state output.new) result }
+    definition: accepted::Definition,
+    catalogue: Catalogue,
+) -> Result<Viewing, NoMemory>
+    ensures { IfOk result (λ r. Views r (query_of definition.view.value) catalogue (refusal_of catalogue (query_of definition.view.value))) }
 {
-    let folder = folder_of_view(alloc, view_db)?;
-    let count = sync_opening(alloc, store, &folder, files)?;
-    tell_synced(alloc, output, count)?;
-    Ok(())
+    let folder = folder_of_view(alloc, &definition.view.view_db)?;
+    match Session::open(alloc, catalogue, definition.view) {
+        Ok(session) => {
+            let view = OpenView::of(alloc, session, folder)?;
+            Ok(Viewing::View(view))
+        }
+        Err(fault) => {
+            let fields = fault_fields(alloc, &fault)?;
+            Ok(Viewing::Refused(fields))
+        }
+    }
+}
+
+// The fields of a view that is not opened.
+fn fault_fields(alloc: Global, fault: &OpenFault) -> Result<Row, NoMemory>
+    ensures { IfOk result (λ row. IsOpenFieldsOf fault.now row) }
+{
+    match fault {
+        OpenFault::Illegal(label) => illegal_fields(alloc, label),
+        OpenFault::Conflict(clash) => clash_fields(alloc, clash),
+        OpenFault::NoMemory => Err(NoMemory),
+    }
 }

@@ -1,10 +1,12 @@
 //! What a run prints.
-ghost use Rattle.std.specs.Prelude.{◌≡◌, ◌≢◌, ◌++◌, [], ◌∷◌, IfOk, codes, decimal};
+ghost use Rattle.std.specs.Prelude.{◌≡◌, ◌≢◌, ◌++◌, [], ◌∷◌, IfOk, codes, decimal, flat_map};
 ghost use Rattle.tab_lines.specs.Spelling.{spell};
 ghost use Rattle.effects.specs.Effects.{Print, Does};
 ghost use Rattle.effects.specs.Blame.{SinkBlames};
-ghost use Rattle.ss_top.specs.Printed.{says, refuses, tells_synced, tells_usage};
+ghost use Rattle.std.specs.List.{All};
+ghost use Rattle.ss_top.specs.Printed.{says, refuses, tells_synced, tells_usage, tells_script, script_rows, lines_text, tells_same, tells_difference, length_text};
 
+use change_script::{Script, script_lines};
 use effects::{Stop, print};
 use itoa::Buffer;
 use outside::Sink;
@@ -72,19 +74,111 @@ pub(crate) fn tell_synced<K: Sink>(alloc: Global, output: &mut K, count: usize) 
     ensures does { (s : _) → Does (tells_synced count ∷ []) (s, K.state output.old) (s, K.state output.new) result }
     ensures blames { SinkBlames (K.state output.old) (K.state output.new) result }
 {
-    let row = synced_row(alloc, count)?;
+    let row = counted_row(alloc, b"synced", count)?;
     say(alloc, output, &row)?;
     Ok(())
 }
 
-// The row of a sync.
-fn synced_row(alloc: Global, count: usize) -> Result<Row, NoMemory>
-    ensures { IfOk result (λ row. row ≡ codes "synced" ∷ decimal count ∷ []) }
+// Prints the lines of a script, and how many they are.
+#[tactic(auto, using(effects::proofs::Following::following))]
+pub(crate) fn tell_script<K: Sink>(
+    alloc: Global,
+    output: &mut K,
+    script: &Script,
+) -> Result<(), Stop>
+    ensures does { (s : _) → Does (tells_script script.now ∷ []) (s, K.state output.old) (s, K.state output.new) result }
+    ensures blames { SinkBlames (K.state output.old) (K.state output.new) result }
+{
+    let text = script_text(alloc, script)?;
+    print(alloc, output, text.as_slice())?;
+    Ok(())
+}
+
+// The lines of a script, and how many they are.
+#[tactic(auto, using(crate::proofs::PrintedLemmas::rows_have_fields))]
+fn script_text(alloc: Global, script: &Script) -> Result<Vec<u8>, NoMemory>
+    ensures { IfOk result (λ text. text.items ≡ lines_text (script_rows script.now)) }
+{
+    let mut rows = script_lines(alloc, script)?;
+    rows.push(counted_row(alloc, b"done", script.lines().len())?)?;
+    lines_text(alloc, &rows)
+}
+
+// Rows as lines, each with its LF.
+fn lines_text(alloc: Global, rows: &[Row]) -> Result<Vec<u8>, NoMemory>
+    requires { All (λ row. row ≢ []) rows.now }
+    ensures { IfOk result (λ text. text.items ≡ lines_text rows.now) }
+{
+    let mut text = Vec::new(alloc);
+    for row in rows {
+        text.extend_from_slice(line_of(alloc, row)?.as_slice())?;
+    }
+    Ok(text)
+}
+
+// A word and a number.
+fn counted_row(alloc: Global, word: &[u8], count: usize) -> Result<Row, NoMemory>
+    ensures { IfOk result (λ row. row ≡ word.now ∷ decimal count ∷ []) }
 {
     let mut row = Vec::new(alloc);
-    row.push(Text::of(alloc, b"synced")?)?;
+    row.push(Text::of(alloc, word)?)?;
     row.push(number_text(alloc, count)?)?;
     Ok(Row::of(row))
+}
+
+// Prints that a folder holds what is meant.
+#[tactic(auto, using(effects::proofs::Following::following))]
+pub(crate) fn tell_same<K: Sink>(alloc: Global, output: &mut K, count: usize) -> Result<(), Stop>
+    ensures does { (s : _) → Does (tells_same count ∷ []) (s, K.state output.old) (s, K.state output.new) result }
+    ensures blames { SinkBlames (K.state output.old) (K.state output.new) result }
+{
+    let row = counted_row(alloc, b"same", count)?;
+    say(alloc, output, &row)?;
+    Ok(())
+}
+
+// Prints that a file differs.
+#[tactic(auto, using(effects::proofs::Following::following))]
+pub(crate) fn tell_difference<K: Sink>(
+    alloc: Global,
+    output: &mut K,
+    file: &Text,
+    held: Option<usize>,
+    meant: Option<usize>,
+) -> Result<(), Stop>
+    ensures does { (s : _) → Does (tells_difference file.now held meant ∷ []) (s, K.state output.old) (s, K.state output.new) result }
+    ensures blames { SinkBlames (K.state output.old) (K.state output.new) result }
+{
+    let row = difference_row(alloc, file, held, meant)?;
+    say(alloc, output, &row)?;
+    Ok(())
+}
+
+// The row of a difference.
+fn difference_row(
+    alloc: Global,
+    file: &Text,
+    held: Option<usize>,
+    meant: Option<usize>,
+) -> Result<Row, NoMemory>
+    ensures { IfOk result (λ row. row ≡ codes "differs" ∷ file.now ∷ length_text held ∷ length_text meant ∷ []) }
+{
+    let mut row = Vec::new(alloc);
+    row.push(Text::of(alloc, b"differs")?)?;
+    row.push(file.copy()?)?;
+    row.push(length_text(alloc, held)?)?;
+    row.push(length_text(alloc, meant)?)?;
+    Ok(Row::of(row))
+}
+
+// The length of a file, `-` where it is missing.
+fn length_text(alloc: Global, length: Option<usize>) -> Result<Text, NoMemory>
+    ensures { IfOk result (λ text. text ≡ length_text length) }
+{
+    match length {
+        None => Text::of(alloc, b"-"),
+        Some(length) => number_text(alloc, length),
+    }
 }
 
 // Prints which words are asked for.

@@ -1,5 +1,6 @@
 //! The source relations.
 ghost use Rattle.std.specs.Prelude.{◌≡◌, [], Some, IfOk};
+ghost use Rattle.outside.specs.Reading.{OnlyRead};
 ghost use Rattle.outside.specs.Tree.{Tree};
 ghost use Rattle.effects.specs.Effects.{Does};
 ghost use Rattle.effects.specs.Blame.{StoreBlames};
@@ -26,7 +27,7 @@ pub(crate) enum Loading {
 pub(crate) fn load_sources<F: Folders>(alloc: Global, store: &mut F) -> Result<Loading, Stop>
     ensures told { IfOk result (λ r. (t : Tree) → (F.state store.old).tree ≡ Some t → loading_of r ≡ loaded_or_refused t) }
     ensures does { (o : _) → Does [] (F.state store.old, o) (F.state store.new, o) result }
-    ensures tree { (F.state store.new).tree ≡ (F.state store.old).tree }
+    ensures only_read { OnlyRead (F.state store.old) (F.state store.new) }
     ensures blames { StoreBlames (F.state store.old) (F.state store.new) result }
 {
     match load(alloc, store) {

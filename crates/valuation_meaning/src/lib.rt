@@ -14,8 +14,10 @@ mod listing;
 mod lookup;
 mod ranges;
 mod refused;
+mod shape;
 mod tables;
 mod truth;
 mod value;
 
 pub use evaluation::{EvalFault, evaluate};
+pub use shape::shape_of;

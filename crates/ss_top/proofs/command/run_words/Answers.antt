@@ -6,3 +6,8 @@ pub returns-in-len2-clause-ran : goal.returns-in-len2-clause-ran
 returns-in-len2-clause-ran g c =
     let asked = two_words c.args.words.now c.word-item.result c.name-item.result (omega arith) c.word-item.is c.name-item.is (sym c.table_label_legal.ensures ∙ c.if-table_label_legal.true) in
     rw asked c.run_named.ensures.ran
+
+pub returns-in-len2-clause-defined : goal.returns-in-len2-clause-defined
+returns-in-len2-clause-defined g c =
+    let asked = two_words c.args.words.now c.word-item.result c.name-item.result (omega arith) c.word-item.is c.name-item.is (sym c.table_label_legal.ensures ∙ c.if-table_label_legal.true) in
+    rw asked c.run_named.ensures.defined

@@ -1,0 +1,142 @@
+//! The command `verify`.
+ghost use Rattle.std.specs.Prelude.{◌≡◌, Some, IfOk};
+ghost use Rattle.outside.specs.Reading.{OnlyRead};
+ghost use Rattle.outside.specs.Tree.{Tree};
+ghost use Rattle.effects.specs.Blame.{Blames, SinkBlames};
+ghost use Rattle.view_def.specs.Query.{query_of};
+ghost use Rattle.view_folder.specs.Comparison.{comparison};
+ghost use Rattle.view_folder.specs.Files.{view_folder};
+ghost use Rattle.course.specs.Machine.{Ended};
+ghost use Rattle.ss_top.specs.Stages.{Definition, loaded_or_refused, refusal_of};
+ghost use Rattle.ss_top.specs.Opening.{IsDefinition, definition_bytes, HasDefinition};
+ghost use Rattle.ss_top.specs.Records.{HasRecords};
+ghost use Rattle.ss_top.specs.Verifying.{by_comparison, verified, verified_over, verified_view};
+
+use crate::definition::{Understood, read_definition};
+use crate::printed::{refuse, tell_difference, tell_same};
+use crate::sources::{Loading, load_sources};
+use crate::tables::{Showing, show_tables};
+use course::Verdict;
+use effects::Stop;
+use outside::{Folders, Sink};
+use schema_model::Catalogue;
+use ss_text::Text;
+use std::alloc::Global;
+use view_def::View;
+use view_folder::{Comparison, File, compare, folder_of_view};
+
+// Compares the folder of the view of this name with the files that are meant.
+#[tactic(auto, using(effects::proofs::Following::following, outside::proofs::ReadingLemmas::only_read_then, outside::proofs::ReadingLemmas::only_read_nothing))]
+pub(crate) fn verify<F: Folders, K: Sink>(
+    alloc: Global,
+    store: &mut F,
+    output: &mut K,
+    name: &Text,
+) -> Result<Verdict, Stop>
+    ensures ended { (t : Tree) (d : Definition) → (F.state store.old).tree ≡ Some t → IsDefinition name.now (definition_bytes t name.now) d → Ended (verified t d) (F.state store.old, K.state output.old) (F.state store.new, K.state output.new) result }
+    ensures defined { IfOk result (λ _. (t : Tree) → (F.state store.old).tree ≡ Some t → HasDefinition name.now t) }
+    ensures only_read { OnlyRead (F.state store.old) (F.state store.new) }
+    ensures blames { Blames (F.state store.old, K.state output.old) (F.state store.new, K.state output.new) result }
+{
+    match read_definition(alloc, store, name)? {
+        Understood::Refused(fields) => {
+            refuse(alloc, output, &fields)?;
+            Ok(Verdict::BadDefinition)
+        }
+        Understood::Accepted(definition) => {
+            let verdict = verify_view(alloc, store, output, &definition.view)?;
+            Ok(verdict)
+        }
+    }
+}
+
+// Compares the folder of a view.
+#[tactic(auto, using(effects::proofs::Following::following, outside::proofs::ReadingLemmas::only_read_then, outside::proofs::ReadingLemmas::only_read_nothing))]
+fn verify_view<F: Folders, K: Sink>(
+    alloc: Global,
+    store: &mut F,
+    output: &mut K,
+    view: &View,
+) -> Result<Verdict, Stop>
+    requires { HasRecords (query_of view.now) }
+    ensures ended { (t : Tree) → (F.state store.old).tree ≡ Some t → Ended (verified_over t (query_of view.now) (loaded_or_refused t)) (F.state store.old, K.state output.old) (F.state store.new, K.state output.new) result }
+    ensures only_read { OnlyRead (F.state store.old) (F.state store.new) }
+    ensures blames { Blames (F.state store.old, K.state output.old) (F.state store.new, K.state output.new) result }
+{
+    match load_sources(alloc, store)? {
+        Loading::Refused(fields) => {
+            refuse(alloc, output, &fields)?;
+            Ok(Verdict::BadCatalogue)
+        }
+        Loading::Catalogue(catalogue) => {
+            let verdict = verify_over(alloc, store, output, view, &catalogue)?;
+            Ok(verdict)
+        }
+    }
+}
+
+// Compares the folder of a view with its files over a catalogue.
+#[tactic(auto, using(effects::proofs::Following::following, outside::proofs::ReadingLemmas::only_read_then, outside::proofs::ReadingLemmas::only_read_nothing))]
+fn verify_over<F: Folders, K: Sink>(
+    alloc: Global,
+    store: &mut F,
+    output: &mut K,
+    view: &View,
+    catalogue: &Catalogue,
+) -> Result<Verdict, Stop>
+    requires { HasRecords (query_of view.now) }
+    ensures ended { (t : Tree) → (F.state store.old).tree ≡ Some t → Ended (verified_view t (query_of view.now) catalogue.now (refusal_of catalogue.now (query_of view.now))) (F.state store.old, K.state output.old) (F.state store.new, K.state output.new) result }
+    ensures only_read { OnlyRead (F.state store.old) (F.state store.new) }
+    ensures blames { Blames (F.state store.old, K.state output.old) (F.state store.new, K.state output.new) result }
+{
+    match show_tables(alloc, catalogue, view)? {
+        Showing::Refused(fields) => {
+            refuse(alloc, output, &fields)?;
+            Ok(Verdict::NoView)
+        }
+        Showing::Files(files) => {
+            let verdict = compare_folder(alloc, store, output, &view.view_db, &files)?;
+            Ok(verdict)
+        }
+    }
+}
+
+// Compares the folder of a view with these files.
+#[tactic(auto, using(effects::proofs::Following::following, outside::proofs::ReadingLemmas::only_read_then, outside::proofs::ReadingLemmas::only_read_nothing, crate::proofs::VerifyLemmas::compared_ends, crate::proofs::VerifyLemmas::nothing_ended))]
+fn compare_folder<F: Folders, K: Sink>(
+    alloc: Global,
+    store: &mut F,
+    output: &mut K,
+    view_db: &Text,
+    files: &[File],
+) -> Result<Verdict, Stop>
+    ensures ended { (t : Tree) → (F.state store.old).tree ≡ Some t → Ended (by_comparison (comparison (view_folder view_db.now) files.now t)) (F.state store.old, K.state output.old) (F.state store.new, K.state output.new) result }
+    ensures only_read { OnlyRead (F.state store.old) (F.state store.new) }
+    ensures blames { Blames (F.state store.old, K.state output.old) (F.state store.new, K.state output.new) result }
+{
+    let folder = folder_of_view(alloc, view_db)?;
+    let comparison = compare(alloc, store, &folder, files)?;
+    tell_comparison(alloc, output, comparison)
+}
+
+// Prints how a folder compares.
+#[tactic(auto, using(effects::proofs::Following::following))]
+fn tell_comparison<K: Sink>(
+    alloc: Global,
+    output: &mut K,
+    comparison: Comparison,
+) -> Result<Verdict, Stop>
+    ensures ended { (s : _) → Ended (by_comparison comparison) (s, K.state output.old) (s, K.state output.new) result }
+    ensures blames { SinkBlames (K.state output.old) (K.state output.new) result }
+{
+    match comparison {
+        Comparison::Same { count } => {
+            tell_same(alloc, output, count)?;
+            Ok(Verdict::Done)
+        }
+        Comparison::Differs { file, held, meant } => {
+            tell_difference(alloc, output, &file, held, meant)?;
+            Ok(Verdict::NoView)
+        }
+    }
+}

@@ -1,0 +1,374 @@
+//! An opened view, and its answers.
+ghost use Rattle.std.specs.Prelude.{◌≡◌, ◌≢◌, ◌||◌, ◌∷◌, ◌++◌, [], map, filter, length, false, Some, IfOk, OnOk, IsTrue};
+ghost use Rattle.std.specs.List.{list_any};
+ghost use Rattle.ss_text.specs.Texts.{is_in};
+ghost use Rattle.tab_lines.specs.Lines.{has_feed};
+ghost use Rattle.effects.specs.Effects.{Does};
+ghost use Rattle.effects.specs.Blame.{Blames, SinkBlames, StoreBlames};
+ghost use Rattle.schema_model.specs.Changes.{is_row_change};
+ghost use Rattle.schema_model.specs.Reading.{change_so_far};
+ghost use Rattle.schema_model.specs.Refusals.{fault};
+ghost use Rattle.flow_law.specs.Tables.{labels_of};
+ghost use Rattle.valuation_meaning.specs.Meaning.{shape_of};
+ghost use Rattle.view_folder.specs.Files.{view_folder};
+ghost use Rattle.view_folder.specs.Sync.{later_sync};
+ghost use Rattle.view_session.specs.Session.{tables_of};
+ghost use Rattle.course.specs.Machine.{Answered, Ended};
+ghost use Rattle.ss_print.specs.Fields.{first_field, line_fields};
+ghost use Rattle.schema_model.specs.declared.change.ChangeFault.TheVariants.{NoMemory as LacksMemory};
+ghost use Rattle.ss_top.specs.Printed.{refuses, tells_synced};
+ghost use Rattle.outside.specs.Tree.{Tree, files_of};
+ghost use Rattle.ss_top.specs.Opening.{opening_effects};
+ghost use Rattle.ss_top.specs.Stages.{files_of_view};
+ghost use Rattle.ss_top.specs.Steps.{IsFieldsOf};
+ghost use Rattle.ss_top.specs.Records.{HasRecords};
+ghost use Rattle.ss_top.specs.Answers.{step, finish, answer, by_spelling, by_row, by_sync, by_change, by_fault, refusing, syncing, sync_effects, sync_count, is_sync};
+
+use crate::printed::{refuse, tell_script, tell_synced};
+use change_script::Script;
+use course::{Machine, Verdict};
+use effects::Stop;
+use flow_law::Tables;
+use outside::{Folders, Sink};
+use schema_model::{Change, ChangeFault};
+use ss_print::{clash_fields, escape_fields, illegal_fields, line_fields, refusal_fields};
+use ss_text::{NoMemory, Row, Text};
+use std::alloc::Global;
+use std::marker::Model;
+use tab_lines::{LineFault, read_line};
+use view_folder::{sync, sync_opening, table_files};
+use view_session::{Refused, Session};
+
+/// An opened view, which contracts see as the view over its catalogue, the labels of its tables at the last
+/// sync, and whether some line was refused.
+#[derive(Drop)]
+pub(crate) struct OpenView {
+    session: Session,
+    folder: Text,
+    synced: Vec<Text>,
+    some_refused: bool,
+    ghost records: { HasRecords session.query },
+}
+
+impl Model for OpenView {
+    ghost use Rattle.std.specs.Prelude.{◌≡◌};
+    ghost use Rattle.view_folder.specs.Files.{view_folder};
+    ghost use Rattle.ss_top.specs.Open.{OpenValue};
+    ghost use Rattle.std.specs.Coded.{Coded, codes};
+    ghost use Rattle.view_session.specs.ConditionCode.{Mark, condition_code};
+
+    ghost Value = { OpenValue };
+
+    ghost coded = { let mark_code : Coded Mark = Prim.hlevel codes in Prim.hlevel (codes, condition_code mark_code) };
+
+    ghost view = { λ v. record { session = v.session; synced = v.synced.items; refused = v.some_refused } };
+
+    ghost invariant = { λ v. v.folder ≡ view_folder v.session.query.view_db };
+}
+
+// The labels of tables, ascending.
+fn labels_of(alloc: Global, tables: &Tables) -> Result<Vec<Text>, NoMemory>
+    ensures { IfOk result (λ labels. labels.items ≡ labels_of tables.now) }
+{
+    let mut labels = Vec::with_capacity(alloc, tables.count())?;
+    for place in 0..tables.count() {
+        labels.push(tables.label(place).copy()?)?;
+    }
+    Ok(labels)
+}
+
+// Whether the first field of a line is `sync`.
+fn is_sync(row: &Row) -> bool
+    ensures { result ≡ is_sync row.now }
+{
+    match row.cells() {
+        [first, ..] => first.as_slice() == b"sync".as_slice(),
+        [] => false,
+    }
+}
+
+impl OpenView {
+    ghost use Rattle.std.specs.Prelude.{◌≡◌, IfOk};
+    ghost use Rattle.view_folder.specs.Files.{view_folder};
+    ghost use Rattle.view_session.specs.Session.{SessionState, opened};
+    ghost use Rattle.ss_top.specs.Open.{just_opened};
+
+    // The view that was just opened, whose files are in this folder.
+    pub(crate) fn of(alloc: Global, session: Session, folder: Text) -> Result<OpenView, NoMemory>
+        requires new { session ≡ opened session.query session.catalogue }
+        requires folder { folder ≡ view_folder session.query.view_db }
+        requires records { HasRecords session.query }
+        ensures { IfOk result (λ view. view ≡ just_opened session.query session.catalogue) }
+    {
+        let synced = labels_of(alloc, session.tables())?;
+        Ok(OpenView {
+            session,
+            folder,
+            synced,
+            some_refused: false,
+        })
+    }
+
+    // Writes the folder of a view that was just opened, and prints that it did.
+    #[tactic(auto, using(effects::proofs::Following::following, effects::proofs::EffectLemmas::partly_more, effects::proofs::EffectLemmas::partly_later, effects::proofs::EffectLemmas::performed_append, crate::proofs::StageLemmas::meaning_fits), unfolding(crate::specs::Stages::files_of_view))]
+    pub(crate) fn fill_folder<F: Folders, K: Sink>(
+        &self,
+        alloc: Global,
+        store: &mut F,
+        output: &mut K,
+    ) -> Result<(), Stop>
+        ensures does { (t : Tree) → (F.state store.old).tree ≡ Some t → Does (opening_effects (view_folder self.now.session.query.view_db) (files_of_view self.now.session.catalogue self.now.session.query) (files_of t (view_folder self.now.session.query.view_db))) (F.state store.old, K.state output.old) (F.state store.new, K.state output.new) result }
+        ensures blames { Blames (F.state store.old, K.state output.old) (F.state store.new, K.state output.new) result }
+    {
+        let files = table_files(alloc, self.session.tables(), self.session.shape())?;
+        let count = sync_opening(alloc, store, &self.folder, &files)?;
+        tell_synced(alloc, output, count)?;
+        Ok(())
+    }
+
+    // Refuses a line.
+    fn refuse<K: Sink>(&mut self, alloc: Global, output: &mut K, fields: &Row) -> Result<(), Stop>
+        ensures does { (s : _) → Does (refuses fields.now ∷ []) (s, K.state output.old) (s, K.state output.new) result }
+        ensures view { OnOk result (self.new ≡ (refusing self.old fields.now).view) }
+        ensures blames { SinkBlames (K.state output.old) (K.state output.new) result }
+    {
+        refuse(alloc, output, fields)?;
+        self.some_refused = true;
+        Ok(())
+    }
+
+    // Of the labels that were named, how many have a table, or had one at the last sync.
+    fn sync_count(&self) -> usize
+        ensures { result ≡ sync_count self.now }
+    {
+        self.session
+            .changed_labels()
+            .iter()
+            .filter(|label| self.has_file(label))
+            .count()
+    }
+
+    // Whether a label has a table, or had one at the last sync.
+    fn has_file(&self, label: &Text) -> bool
+        ensures { result ≡ (is_in label.now (labels_of (tables_of self.now.session)) || is_in label.now self.now.synced) }
+    {
+        self.has_table(label) || self.had_table(label)
+    }
+
+    // Whether a label has a table.
+    #[tactic(auto, using(crate::proofs::ViewLemmas::has_label))]
+    fn has_table(&self, label: &Text) -> bool
+        ensures { result ≡ is_in label.now (labels_of (tables_of self.now.session)) }
+    {
+        self.session.tables().table_of(label).is_some()
+    }
+
+    // Whether a label had a table at the last sync.
+    fn had_table(&self, label: &Text) -> bool
+        ensures { result ≡ is_in label.now self.now.synced }
+    {
+        self.synced.iter().any(|name| label == name)
+    }
+
+    // Syncs the files of the labels that were named, and prints how many they are.
+    #[tactic(auto, using(effects::proofs::Following::following, effects::proofs::EffectLemmas::partly_more, effects::proofs::EffectLemmas::partly_later, effects::proofs::EffectLemmas::performed_append, crate::proofs::StageLemmas::meaning_fits))]
+    fn write_named<F: Folders, K: Sink>(
+        &self,
+        alloc: Global,
+        store: &mut F,
+        output: &mut K,
+    ) -> Result<(), Stop>
+        ensures does { Does (sync_effects self.now) (F.state store.old, K.state output.old) (F.state store.new, K.state output.new) result }
+        ensures blames { Blames (F.state store.old, K.state output.old) (F.state store.new, K.state output.new) result }
+    {
+        let session = &self.session;
+        sync(
+            alloc,
+            store,
+            &self.folder,
+            session.shape(),
+            session.tables(),
+            session.changed_labels(),
+        )?;
+        tell_synced(alloc, output, self.sync_count())?;
+        Ok(())
+    }
+
+    // A sync.
+    #[tactic(auto, using(effects::proofs::Following::following))]
+    fn sync<F: Folders, K: Sink>(
+        &mut self,
+        alloc: Global,
+        store: &mut F,
+        output: &mut K,
+    ) -> Result<(), Stop>
+        ensures does { Does (syncing self.old).effects (F.state store.old, K.state output.old) (F.state store.new, K.state output.new) result }
+        ensures view { OnOk result (self.new ≡ (syncing self.old).view) }
+        ensures blames { Blames (F.state store.old, K.state output.old) (F.state store.new, K.state output.new) result }
+    {
+        let synced = labels_of(alloc, self.session.tables())?;
+        self.write_named(alloc, store, output)?;
+        self.session.clear_changed();
+        self.synced = synced;
+        Ok(())
+    }
+
+    // Answers a change.
+    #[tactic(auto, using(effects::proofs::Following::following, crate::proofs::AnswerLemmas::accepted_view, crate::proofs::AnswerLemmas::refused_view))]
+    fn change<K: Sink>(
+        &mut self,
+        alloc: Global,
+        output: &mut K,
+        change: &Change,
+    ) -> Result<(), Stop>
+        requires { IsTrue (is_row_change change.now) }
+        ensures does { (s : _) → Does (by_fault self.old change.now (fault self.old.session.catalogue change.now)).effects (s, K.state output.old) (s, K.state output.new) result }
+        ensures view { OnOk result (self.new ≡ (by_fault self.old change.now (fault self.old.session.catalogue change.now)).view) }
+        ensures blames { SinkBlames (K.state output.old) (K.state output.new) result }
+    {
+        match self.session.apply(alloc, change) {
+            Ok(script) => tell_script(alloc, output, &script),
+            Err(refused) => {
+                let fields = refused_fields(alloc, change, &refused)?;
+                self.refuse(alloc, output, &fields)
+            }
+        }
+    }
+
+    // Answers a line that is no sync.
+    #[tactic(auto, using(effects::proofs::Following::following, crate::proofs::AnswerLemmas::unread_view))]
+    fn change_line<K: Sink>(&mut self, alloc: Global, output: &mut K, row: &Row) -> Result<(), Stop>
+        ensures does { (s : _) → Does (by_change self.old row.now (change_so_far row.now)).effects (s, K.state output.old) (s, K.state output.new) result }
+        ensures view { OnOk result (self.new ≡ (by_change self.old row.now (change_so_far row.now)).view) }
+        ensures blames { SinkBlames (K.state output.old) (K.state output.new) result }
+    {
+        match Change::read(alloc, row) {
+            Ok(change) => self.change(alloc, output, &change),
+            Err(fault) => {
+                let fields = line_refusal(alloc, row, fault)?;
+                self.refuse(alloc, output, &fields)
+            }
+        }
+    }
+
+    // Answers a line whose first field is `sync`.
+    #[tactic(auto, using(effects::proofs::Following::following, crate::proofs::AnswerLemmas::one_sync_does, crate::proofs::AnswerLemmas::no_sync_does, crate::proofs::AnswerLemmas::one_sync_view, crate::proofs::AnswerLemmas::no_sync_view))]
+    fn sync_line<F: Folders, K: Sink>(
+        &mut self,
+        alloc: Global,
+        store: &mut F,
+        output: &mut K,
+        row: &Row,
+    ) -> Result<(), Stop>
+        ensures does { Does (by_sync self.old row.now).effects (F.state store.old, K.state output.old) (F.state store.new, K.state output.new) result }
+        ensures view { OnOk result (self.new ≡ (by_sync self.old row.now).view) }
+        ensures blames { Blames (F.state store.old, K.state output.old) (F.state store.new, K.state output.new) result }
+    {
+        let got = row.cells().len();
+        if got == 1 {
+            return self.sync(alloc, store, output);
+        }
+        let fields = line_fields(alloc, row, ChangeFault::FieldCount { got })?;
+        self.refuse(alloc, output, &fields)
+    }
+
+    // Answers the row of a line.
+    #[tactic(auto, using(effects::proofs::Following::following, crate::proofs::AnswerLemmas::syncs_does))]
+    fn row<F: Folders, K: Sink>(
+        &mut self,
+        alloc: Global,
+        store: &mut F,
+        output: &mut K,
+        row: &Row,
+    ) -> Result<(), Stop>
+        ensures does { Does (by_row self.old row.now).effects (F.state store.old, K.state output.old) (F.state store.new, K.state output.new) result }
+        ensures view { OnOk result (self.new ≡ (by_row self.old row.now).view) }
+        ensures blames { Blames (F.state store.old, K.state output.old) (F.state store.new, K.state output.new) result }
+    {
+        if is_sync(row) {
+            self.sync_line(alloc, store, output, row)
+        } else {
+            self.change_line(alloc, output, row)
+        }
+    }
+
+    // Answers a line.
+    #[tactic(auto, using(effects::proofs::Following::following, crate::proofs::AnswerLemmas::spelled_does, crate::proofs::AnswerLemmas::unspelled_does))]
+    fn answer<F: Folders, K: Sink>(
+        &mut self,
+        alloc: Global,
+        store: &mut F,
+        output: &mut K,
+        line: &[u8],
+    ) -> Result<(), Stop>
+        requires { has_feed line.now ≡ false }
+        ensures does { Does (answer self.old line.now).effects (F.state store.old, K.state output.old) (F.state store.new, K.state output.new) result }
+        ensures view { OnOk result (self.new ≡ (answer self.old line.now).view) }
+        ensures blames { Blames (F.state store.old, K.state output.old) (F.state store.new, K.state output.new) result }
+    {
+        match read_line(alloc, line) {
+            Ok(row) => self.row(alloc, store, output, &row),
+            Err(LineFault::BadEscape { at }) => {
+                let fields = escape_fields(alloc, at)?;
+                self.refuse(alloc, output, &fields)
+            }
+            Err(LineFault::NoMemory) => Err(Stop::NoMemory),
+        }
+    }
+}
+
+// The fields of a line that says no change.
+fn line_refusal(alloc: Global, row: &Row, fault: ChangeFault) -> Result<Row, NoMemory>
+    ensures some { OnOk result (fault ≢ LacksMemory) }
+    ensures row { IfOk result (λ fields. fields ≡ line_fields row.now fault) }
+{
+    match fault {
+        ChangeFault::NoMemory => Err(NoMemory),
+        _ => line_fields(alloc, row, fault),
+    }
+}
+
+// The fields of a refused change.
+fn refused_fields(alloc: Global, change: &Change, refused: &Refused) -> Result<Row, NoMemory>
+    ensures { IfOk result (λ row. IsFieldsOf change.now refused.now row) }
+{
+    match refused {
+        Refused::Change(refusal) => refusal_fields(alloc, change, *refusal),
+        Refused::Illegal(label) => illegal_fields(alloc, label),
+        Refused::Conflict(clash) => clash_fields(alloc, clash),
+        Refused::NoMemory => Err(NoMemory),
+    }
+}
+
+impl Machine for OpenView {
+    ghost use Rattle.ss_top.specs.Answers.{step, finish};
+
+    ghost step = { step };
+
+    ghost finish = { finish };
+
+    fn line<F: Folders, K: Sink>(
+        &mut self,
+        alloc: Global,
+        store: &mut F,
+        output: &mut K,
+        line: &[u8],
+    ) -> Result<Option<Verdict>, Stop> {
+        self.answer(alloc, store, output, line)?;
+        Ok(None)
+    }
+
+    fn end<F: Folders, K: Sink>(
+        &mut self,
+        alloc: Global,
+        store: &mut F,
+        output: &mut K,
+    ) -> Result<Verdict, Stop> {
+        self.write_named(alloc, store, output)?;
+        if self.some_refused {
+            Ok(Verdict::SomeRefused)
+        } else {
+            Ok(Verdict::Done)
+        }
+    }
+}

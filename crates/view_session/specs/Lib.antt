@@ -1,0 +1,2 @@
+pub mod ConditionCode
+pub mod Session

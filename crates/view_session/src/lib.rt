@@ -1,0 +1,12 @@
+//! A view that is kept up to date.
+//!
+//! Its contract: a session's tables are the meaning of its view over its catalogue, after any changes, and each
+//! change is answered by its refusal, changing nothing, or by the script from the former tables to the present
+//! ones. It knows nothing of lines, of files or of how a script is printed.
+#![tactic(auto)]
+
+mod fault;
+mod session;
+
+pub use fault::{OpenFault, Refused};
+pub use session::Session;
