@@ -1,0 +1,547 @@
+//! Definitions that are checked, folders that are verified, and more views.
+use crate::row::{Row, Want, difference};
+use outside::StoreFault;
+use std::alloc::Global;
+
+// Definitions that are refused: by their text, and by the kinds of their names.
+const REFUSED: [Row; 6] = [
+    Row {
+        words: &["check", "V"],
+        files: &[(
+            "defs",
+            "V.ssql",
+            "create view V::t(a) as select T.a from d::r",
+        )],
+        want: Want {
+            status: 3,
+            printed: "refused\tunexpected\t43\n",
+            folder: "views/V",
+            held: &[],
+        },
+    },
+    Row {
+        words: &["check", "V"],
+        files: &[(
+            "defs",
+            "V.ssql",
+            "create view V::t(a) as select T.a # from d::r T",
+        )],
+        want: Want {
+            status: 3,
+            printed: "refused\tbad-byte\t34\n",
+            folder: "views/V",
+            held: &[],
+        },
+    },
+    Row {
+        words: &["check", "V"],
+        files: &[("defs", "V.ssql", "create view V::t(a) as select 'x")],
+        want: Want {
+            status: 3,
+            printed: "refused\topen-quote\t30\n",
+            folder: "views/V",
+            held: &[],
+        },
+    },
+    Row {
+        words: &["check", "V"],
+        files: &[(
+            "defs",
+            "V.ssql",
+            "create view V::t(a) as select B.x from d::r T",
+        )],
+        want: Want {
+            status: 3,
+            printed: "refused\tnot-declared\tB\n",
+            folder: "views/V",
+            held: &[],
+        },
+    },
+    Row {
+        words: &["check", "V"],
+        files: &[(
+            "defs",
+            "V.ssql",
+            "create view V::T(a) as select T.a from d::r T",
+        )],
+        want: Want {
+            status: 3,
+            printed: "refused\twrong-kind\tT\n",
+            folder: "views/V",
+            held: &[],
+        },
+    },
+    Row {
+        words: &["check", "V"],
+        files: &[(
+            "defs",
+            "V.ssql",
+            "create view V::t(a) as select T.a from d::r T, d::s T",
+        )],
+        want: Want {
+            status: 3,
+            printed: "refused\tdeclared-twice\tT\n",
+            folder: "views/V",
+            held: &[],
+        },
+    },
+];
+
+// Definitions that are refused for their header or for a fold.
+const REFUSED_HEADERS: [Row; 6] = [
+    Row {
+        words: &["check", "V"],
+        files: &[(
+            "defs",
+            "V.ssql",
+            "create view V::t(a, D, E) as select T.a, T.b, T.c from d::r T, T.b D, T.c E",
+        )],
+        want: Want {
+            status: 3,
+            printed: "refused\ttwo-variable-columns\tE\n",
+            folder: "views/V",
+            held: &[],
+        },
+    },
+    Row {
+        words: &["check", "V"],
+        files: &[(
+            "defs",
+            "V.ssql",
+            "create view V::t(a, b) as select T.D, T.E from d::r -> D, d::r -> E, d::r T",
+        )],
+        want: Want {
+            status: 3,
+            printed: "refused\ttwo-folds\tT\n",
+            folder: "views/V",
+            held: &[],
+        },
+    },
+    Row {
+        words: &["check", "V"],
+        files: &[(
+            "defs",
+            "V.ssql",
+            "create view V::t(a, a) as select T.a, T.b from d::r T",
+        )],
+        want: Want {
+            status: 3,
+            printed: "refused\tcolumn-twice\ta\n",
+            folder: "views/V",
+            held: &[],
+        },
+    },
+    Row {
+        words: &["check", "V"],
+        files: &[(
+            "defs",
+            "V.ssql",
+            "create view V::t(a) as select T.a, T.b from d::r T",
+        )],
+        want: Want {
+            status: 3,
+            printed: "refused\tcount-differs\t1\t2\n",
+            folder: "views/V",
+            held: &[],
+        },
+    },
+    Row {
+        words: &["check", "V"],
+        files: &[(
+            "defs",
+            "V.ssql",
+            "create view V::t(D) as select T.a from d::r T, T.b D",
+        )],
+        want: Want {
+            status: 3,
+            printed: "refused\tno-constant-column\n",
+            folder: "views/V",
+            held: &[],
+        },
+    },
+    Row {
+        words: &["check", "V"],
+        files: &[(
+            "defs",
+            "V.ssql",
+            "create view V::\".x\"(a) as select T.a from d::r T",
+        )],
+        want: Want {
+            status: 3,
+            printed: "refused\tbad-label\t.x\n",
+            folder: "views/V",
+            held: &[],
+        },
+    },
+];
+
+// Definitions that are printed, and one that is too deep.
+const CHECKED: [Row; 5] = [
+    Row {
+        words: &["check", "V"],
+        files: &[(
+            "defs",
+            "V.ssql",
+            "create view V::t(a) as select T.a from d::r T where T.a=1 and T.a<>-2 and T.a<3 and T.a<=4 and T.a>5 and T.a>=007",
+        )],
+        want: Want {
+            status: 0,
+            printed: "CREATE VIEW V::t(a) AS SELECT T.a FROM d::r T WHERE T.a = '1' AND T.a <> '-2' AND T.a < '3' AND T.a <= '4' AND T.a > '5' AND T.a >= '007'\n",
+            folder: "views/V",
+            held: &[],
+        },
+    },
+    Row {
+        words: &["check", "V"],
+        files: &[(
+            "defs",
+            "V.ssql",
+            "create view V::t(a) as select T.a from d::r T where not (T.a = 5 or T.b < 'k') and T.c <> 'q';",
+        )],
+        want: Want {
+            status: 0,
+            printed: "CREATE VIEW V::t(a) AS SELECT T.a FROM d::r T WHERE NOT (T.a = '5' OR T.b < 'k') AND T.c <> 'q'\n",
+            folder: "views/V",
+            held: &[],
+        },
+    },
+    Row {
+        words: &["check", "V"],
+        files: &[(
+            "defs",
+            "V.ssql",
+            "create view V::t(a) as select T.a from d::r T where not (not T.a = 5);",
+        )],
+        want: Want {
+            status: 0,
+            printed: "CREATE VIEW V::t(a) AS SELECT T.a FROM d::r T WHERE NOT NOT T.a = '5'\n",
+            folder: "views/V",
+            held: &[],
+        },
+    },
+    Row {
+        words: &["check", "V"],
+        files: &[(
+            "defs",
+            "V.ssql",
+            "create view V::t(a) as select T.a from d::r T where (((((((((((((((((((((((((((((((((((((((((((((((((((((((((((((((((",
+        )],
+        want: Want {
+            status: 3,
+            printed: "refused\ttoo-deep\t116\n",
+            folder: "views/V",
+            held: &[],
+        },
+    },
+    Row {
+        words: &["check", "V"],
+        files: &[(
+            "defs",
+            "V.ssql",
+            "create view V::t(a) as select T.a from d::r T where T.a = 'x\ty\nz\\w''' ",
+        )],
+        want: Want {
+            status: 0,
+            printed: "CREATE VIEW V::t(a) AS SELECT T.a FROM d::r T WHERE T.a = 'x\ty\nz\\w'''\n",
+            folder: "views/V",
+            held: &[],
+        },
+    },
+];
+
+// Folders that hold what they should, and some that do not.
+const VERIFIED: [Row; 5] = [
+    Row {
+        words: &["verify", "AtoB"],
+        files: &[
+            (
+                "defs",
+                "AtoB.ssql",
+                "create view AtoB::salInfo(category, D) as select A.category, A.salFloor from univ-A::salInfo A, A.dept D",
+            ),
+            (
+                "sources/univ-A",
+                "salInfo.csv",
+                "category,dept,salFloor\nProf,cs,72000\nProf,math,65000\nAssoc,cs,60000\n",
+            ),
+            (
+                "views/AtoB",
+                "salInfo.csv",
+                "category,cs,math\nAssoc,60000,\nProf,72000,65000\n",
+            ),
+        ],
+        want: Want {
+            status: 0,
+            printed: "same\t1\n",
+            folder: "views/AtoB",
+            held: &[(
+                "salInfo.csv",
+                "category,cs,math\nAssoc,60000,\nProf,72000,65000\n",
+            )],
+        },
+    },
+    Row {
+        words: &["verify", "AtoB"],
+        files: &[
+            (
+                "defs",
+                "AtoB.ssql",
+                "create view AtoB::salInfo(category, D) as select A.category, A.salFloor from univ-A::salInfo A, A.dept D",
+            ),
+            (
+                "sources/univ-A",
+                "salInfo.csv",
+                "category,dept,salFloor\nProf,cs,72000\nProf,math,65000\nAssoc,cs,60000\n",
+            ),
+            ("views/AtoB", "salInfo.csv", "category\n"),
+        ],
+        want: Want {
+            status: 5,
+            printed: "differs\tsalInfo.csv\t9\t47\n",
+            folder: "views/AtoB",
+            held: &[("salInfo.csv", "category\n")],
+        },
+    },
+    Row {
+        words: &["verify", "AtoB"],
+        files: &[
+            (
+                "defs",
+                "AtoB.ssql",
+                "create view AtoB::salInfo(category, D) as select A.category, A.salFloor from univ-A::salInfo A, A.dept D",
+            ),
+            (
+                "sources/univ-A",
+                "salInfo.csv",
+                "category,dept,salFloor\nProf,cs,72000\nProf,math,65000\nAssoc,cs,60000\n",
+            ),
+        ],
+        want: Want {
+            status: 5,
+            printed: "differs\tsalInfo.csv\t-\t47\n",
+            folder: "views/AtoB",
+            held: &[],
+        },
+    },
+    Row {
+        words: &["verify", "AtoB"],
+        files: &[
+            (
+                "defs",
+                "AtoB.ssql",
+                "create view AtoB::salInfo(category, D) as select A.category, A.salFloor from univ-A::salInfo A, A.dept D",
+            ),
+            (
+                "sources/univ-A",
+                "salInfo.csv",
+                "category,dept,salFloor\nProf,cs,72000\nProf,math,65000\nAssoc,cs,60000\n",
+            ),
+            ("views/AtoB", "other.csv", "xy\n"),
+            (
+                "views/AtoB",
+                "salInfo.csv",
+                "category,cs,math\nAssoc,60000,\nProf,72000,65000\n",
+            ),
+        ],
+        want: Want {
+            status: 5,
+            printed: "differs\tother.csv\t3\t-\n",
+            folder: "views/AtoB",
+            held: &[
+                ("other.csv", "xy\n"),
+                (
+                    "salInfo.csv",
+                    "category,cs,math\nAssoc,60000,\nProf,72000,65000\n",
+                ),
+            ],
+        },
+    },
+    Row {
+        words: &["verify", "AtoB"],
+        files: &[
+            (
+                "defs",
+                "AtoB.ssql",
+                "create view AtoB::salInfo(category, D) as select A.category, A.salFloor from univ-A::salInfo A, A.dept D",
+            ),
+            (
+                "sources/univ-A",
+                "salInfo.csv",
+                "category,dept,salFloor\nProf,cs,72000\nProf,math,65000\nAssoc,cs,60000\nProf,cs,99\n",
+            ),
+            (
+                "views/AtoB",
+                "salInfo.csv",
+                "category,cs,math\nAssoc,60000,\nProf,72000,65000\n",
+            ),
+        ],
+        want: Want {
+            status: 5,
+            printed: "refused\tconflict\tsalInfo\tcs\t72000\t99\tProf\n",
+            folder: "views/AtoB",
+            held: &[(
+                "salInfo.csv",
+                "category,cs,math\nAssoc,60000,\nProf,72000,65000\n",
+            )],
+        },
+    },
+];
+
+// More views that are shown.
+const SHOWN: [Row; 5] = [
+    Row {
+        words: &["show", "BtoA"],
+        files: &[
+            (
+                "defs",
+                "BtoA.ssql",
+                "create view BtoA::salInfo(category, dept, salFloor) as select T.category, D, T.\"D\" from univ-B::salInfo -> D, univ-B::salInfo T where D <> 'category'",
+            ),
+            (
+                "sources/univ-B",
+                "salInfo.csv",
+                "category,cs,math\nAssoc,60000,\nProf,72000,65000\n",
+            ),
+        ],
+        want: Want {
+            status: 0,
+            printed: "synced\t1\n",
+            folder: "views/BtoA",
+            held: &[("salInfo.csv", "category,dept,salFloor\n")],
+        },
+    },
+    Row {
+        words: &["show", "AtoB"],
+        files: &[
+            (
+                "defs",
+                "AtoB.ssql",
+                "create view AtoB::salInfo(category, D) as select A.category, A.salFloor from univ-A::salInfo A, A.dept D",
+            ),
+            (
+                "sources/univ-A",
+                "salInfo.csv",
+                "category,dept,salFloor\nProf,cs,\nProf,cs,5\n",
+            ),
+        ],
+        want: Want {
+            status: 0,
+            printed: "synced\t1\n",
+            folder: "views/AtoB",
+            held: &[("salInfo.csv", "category,cs\nProf,5\n")],
+        },
+    },
+    Row {
+        words: &["show", "P"],
+        files: &[
+            (
+                "defs",
+                "P.ssql",
+                "create view P::t(D, category) as select A.salFloor, A.category from univ-A::salInfo A, A.dept D",
+            ),
+            (
+                "sources/univ-A",
+                "salInfo.csv",
+                "category,dept,salFloor\nProf,cs,72000\nProf,math,65000\nAssoc,cs,60000\n",
+            ),
+        ],
+        want: Want {
+            status: 0,
+            printed: "synced\t1\n",
+            folder: "views/P",
+            held: &[(
+                "t.csv",
+                "cs,math,category\n60000,,Assoc\n72000,65000,Prof\n",
+            )],
+        },
+    },
+    Row {
+        words: &["show", "All"],
+        files: &[
+            (
+                "defs",
+                "All.ssql",
+                "create view All::t(db, category) as select X, T.category from -> X, X::salInfo T",
+            ),
+            (
+                "sources/univ-A",
+                "salInfo.csv",
+                "category,dept,salFloor\nProf,cs,72000\nProf,math,65000\nAssoc,cs,60000\n",
+            ),
+            (
+                "sources/univ-B",
+                "salInfo.csv",
+                "category,cs,math\nAssoc,60000,\nProf,72000,65000\n",
+            ),
+        ],
+        want: Want {
+            status: 0,
+            printed: "synced\t1\n",
+            folder: "views/All",
+            held: &[(
+                "t.csv",
+                "db,category\nuniv-A,Assoc\nuniv-A,Prof\nuniv-B,Assoc\nuniv-B,Prof\n",
+            )],
+        },
+    },
+    Row {
+        words: &["show", "V"],
+        files: &[
+            (
+                "defs",
+                "V.ssql",
+                "create view V::t(a) as select A.x from d::r A, d::r B, d::r C, d::r D, d::r E",
+            ),
+            (
+                "sources/univ-A",
+                "salInfo.csv",
+                "category,dept,salFloor\nProf,cs,72000\nProf,math,65000\nAssoc,cs,60000\n",
+            ),
+        ],
+        want: Want {
+            status: 3,
+            printed: "refused\ttoo-many\tE\n",
+            folder: "views/V",
+            held: &[],
+        },
+    },
+];
+
+// The first row that leaves what it does not want, with its place.
+fn first_difference(
+    alloc: Global,
+    rows: &[Row],
+) -> Result<Option<(usize, &'static str)>, StoreFault> {
+    for (place, row) in rows.iter().enumerate() {
+        let differs = difference(alloc, row)?;
+        if differs != "nothing" {
+            return Ok(Some((place, differs)));
+        }
+    }
+    Ok(None)
+}
+
+#[test]
+fn definitions_are_refused(rt: HostRuntime) -> Result<(), StoreFault> {
+    assert_eq!(rt; first_difference(rt.alloc(), &REFUSED)?, None);
+    assert_eq!(rt; first_difference(rt.alloc(), &REFUSED_HEADERS)?, None);
+    Ok(())
+}
+
+#[test]
+fn definitions_are_checked(rt: HostRuntime) -> Result<(), StoreFault> {
+    assert_eq!(rt; first_difference(rt.alloc(), &CHECKED)?, None);
+    Ok(())
+}
+
+#[test]
+fn folders_are_verified(rt: HostRuntime) -> Result<(), StoreFault> {
+    assert_eq!(rt; first_difference(rt.alloc(), &VERIFIED)?, None);
+    Ok(())
+}
+
+#[test]
+fn more_views_are_shown(rt: HostRuntime) -> Result<(), StoreFault> {
+    assert_eq!(rt; first_difference(rt.alloc(), &SHOWN)?, None);
+    Ok(())
+}

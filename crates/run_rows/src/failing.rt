@@ -1,0 +1,202 @@
+//! Runs of which one call fails: the first, the second, and so on, until none does.
+use crate::place::{File, failing_folders, holds, run_over, texts};
+use crate::row::{Want, unwanted};
+use outside::{MemFolders, MemSink, StoreFault, SureSource};
+use std::alloc::Global;
+
+const SOURCE: &str = "category,dept,salFloor\nProf,cs,72000\nProf,math,65000\nAssoc,cs,60000\n";
+
+const FILES: [File; 4] = [
+    (
+        "defs",
+        "AtoC.ssql",
+        "create view AtoC::D(category, salFloor) as select A.category, A.salFloor from univ-A::salInfo A, A.dept D",
+    ),
+    ("sources/univ-A", "salInfo.csv", SOURCE),
+    ("views/AtoC", "notes.txt", "keep\n"),
+    ("views/AtoC", "old.csv", "x\n"),
+];
+
+const CS: &str = "category,salFloor\nAssoc,60000\nProf,72000\n";
+
+const MATH: &str = "category,salFloor\nProf,65000\n";
+
+// Where no call fails, and where a call that reads does: the definition, the databases, the relations, a relation,
+// the view folder.
+const SHOWN: Want = Want {
+    status: 0,
+    printed: "synced\t3\n",
+    folder: "views/AtoC",
+    held: &[("cs.csv", CS), ("math.csv", MATH), ("notes.txt", "keep\n")],
+};
+
+const UNREAD: Want = Want {
+    status: 6,
+    printed: "",
+    folder: "views/AtoC",
+    held: &[("notes.txt", "keep\n"), ("old.csv", "x\n")],
+};
+
+const READS: [(u8, Want); 6] = [
+    (1, UNREAD),
+    (2, UNREAD),
+    (3, UNREAD),
+    (4, UNREAD),
+    (5, UNREAD),
+    (6, SHOWN),
+];
+
+// Where a call that writes fails: two files, of which half is left, and a removal.
+const WRITES: [(u8, Want); 4] = [
+    (
+        1,
+        Want {
+            status: 7,
+            printed: "",
+            folder: "views/AtoC",
+            held: &[
+                ("cs.csv", "category,salFloor\nAs"),
+                ("notes.txt", "keep\n"),
+                ("old.csv", "x\n"),
+            ],
+        },
+    ),
+    (
+        2,
+        Want {
+            status: 7,
+            printed: "",
+            folder: "views/AtoC",
+            held: &[
+                ("cs.csv", CS),
+                ("math.csv", "category,salFl"),
+                ("notes.txt", "keep\n"),
+                ("old.csv", "x\n"),
+            ],
+        },
+    ),
+    (
+        3,
+        Want {
+            status: 7,
+            printed: "",
+            folder: "views/AtoC",
+            held: &[
+                ("cs.csv", CS),
+                ("math.csv", MATH),
+                ("notes.txt", "keep\n"),
+                ("old.csv", "x\n"),
+            ],
+        },
+    ),
+    (4, SHOWN),
+];
+
+// Where a call that prints fails. The output takes four bytes a call.
+const PRINTS: [(u8, Want); 4] = [
+    (
+        1,
+        Want {
+            status: 7,
+            printed: "",
+            ..SHOWN
+        },
+    ),
+    (
+        2,
+        Want {
+            status: 7,
+            printed: "sync",
+            ..SHOWN
+        },
+    ),
+    (
+        3,
+        Want {
+            status: 7,
+            printed: "synced\t3",
+            ..SHOWN
+        },
+    ),
+    (4, SHOWN),
+];
+
+// What a run over these folders left that is not wanted.
+fn difference(
+    alloc: Global,
+    store: &mut MemFolders,
+    output: &mut MemSink,
+    want: &Want,
+) -> Result<&'static str, StoreFault> {
+    let words = texts(alloc, &["show", "AtoC"])?;
+    let mut input = SureSource::of(Vec::new(alloc));
+    let status = run_over(alloc, &words, store, &mut input, output);
+    if !holds(alloc, store, "sources/univ-A", &[("salInfo.csv", SOURCE)])? {
+        return Ok("the sources");
+    }
+    unwanted(alloc, store, status, output.bytes(), want)
+}
+
+fn failing_read(alloc: Global, call: u8, want: &Want) -> Result<&'static str, StoreFault> {
+    let mut store = failing_folders(
+        alloc,
+        &FILES,
+        vec![in alloc; u64::from(call)]?,
+        Vec::new(alloc),
+    )?;
+    let mut output = MemSink::of(alloc, 4, Vec::new(alloc));
+    difference(alloc, &mut store, &mut output, want)
+}
+
+fn failing_write(alloc: Global, call: u8, want: &Want) -> Result<&'static str, StoreFault> {
+    let mut store = failing_folders(
+        alloc,
+        &FILES,
+        Vec::new(alloc),
+        vec![in alloc; u64::from(call)]?,
+    )?;
+    let mut output = MemSink::of(alloc, 4, Vec::new(alloc));
+    difference(alloc, &mut store, &mut output, want)
+}
+
+fn failing_print(alloc: Global, call: u8, want: &Want) -> Result<&'static str, StoreFault> {
+    let mut store = failing_folders(alloc, &FILES, Vec::new(alloc), Vec::new(alloc))?;
+    let mut output = MemSink::of(alloc, 4, vec![in alloc; u64::from(call)]?);
+    difference(alloc, &mut store, &mut output, want)
+}
+
+#[test]
+fn each_read_fails(rt: HostRuntime) -> Result<(), StoreFault> {
+    for (call, want) in &READS {
+        assert_eq!(rt;
+            failing_read(rt.alloc(), *call, want)?,
+            "nothing",
+            "at {call}"
+        );
+    }
+    Ok(())
+}
+
+#[test]
+fn each_write_fails(rt: HostRuntime) -> Result<(), StoreFault> {
+    for (call, want) in &WRITES {
+        assert_eq!(rt;
+            failing_write(rt.alloc(), *call, want)?,
+            "nothing",
+            "at {call}"
+        );
+    }
+    Ok(())
+}
+
+#[test]
+fn each_print_fails(rt: HostRuntime) -> Result<(), StoreFault> {
+    for (call, want) in &PRINTS {
+        assert_eq!(rt;
+            failing_print(rt.alloc(), *call, want)?,
+            "nothing",
+            "at {call}"
+        );
+    }
+    Ok(())
+}

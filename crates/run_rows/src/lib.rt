@@ -1,0 +1,21 @@
+//! Worked rows of the whole program, over folders and streams in memory, and each of their calls failing in turn.
+//!
+//! It has tests alone. What they want comes from outside, never from the program.
+#![tactic(auto)]
+
+#[cfg(test)]
+mod answered;
+#[cfg(test)]
+mod commands;
+#[cfg(test)]
+mod failing;
+#[cfg(test)]
+mod maintained;
+#[cfg(test)]
+mod maintained_failing;
+#[cfg(test)]
+mod place;
+#[cfg(test)]
+mod row;
+#[cfg(test)]
+mod rows;

@@ -1,0 +1,95 @@
+//! Runs of `maintain`: answers in order, an input that is cut anywhere, and a call that fails.
+use crate::place::{File, texts};
+use crate::row::{Row, Want, difference_over};
+use outside::{MemSource, StoreFault, SureSource};
+use ss_text::{NoMemory, Text};
+use std::alloc::Global;
+
+const SOURCE: File = (
+    "sources/univ-A",
+    "salInfo.csv",
+    "category,dept,salFloor\nProf,cs,72000\nProf,math,65000\nAssoc,cs,60000\n",
+);
+
+// Constant columns alone, where rows come and go and a verb is not yet known.
+const NAMES: Row = Row {
+    words: &["maintain", "Q"],
+    files: &[
+        (
+            "defs",
+            "Q.ssql",
+            "create view Q::names(category) as select A.category from univ-A::salInfo A",
+        ),
+        SOURCE,
+    ],
+    want: Want {
+        status: 1,
+        printed: "synced\t1\nrow+\tnames\tLect\ndone\t1\ndone\t0\nrow-\tnames\tProf\ndone\t1\nrefused\tnot-yet\tadd-attribute\nsynced\t1\n",
+        folder: "views/Q",
+        held: &[("names.csv", "category\nAssoc\nLect\n")],
+    },
+};
+
+const NAME_CHANGES: &str =
+    "insert\tuniv-A\tsalInfo\tLect\tcs\t1\ndelete\tuniv-A\tsalInfo\tProf\tcs\t72000\ndelete\tuniv-A\tsalInfo\tProf\tmath\t65000\nadd-attribute\tuniv-A\tsalInfo\tx\ty\n";
+
+// Two changes, and then a read that fails: the file is as the opening left it.
+const UNREAD_END: Row = Row {
+    words: &["maintain", "AtoB"],
+    files: &[
+        (
+            "defs",
+            "AtoB.ssql",
+            "create view AtoB::salInfo(category, D) as select A.category, A.salFloor from univ-A::salInfo A, A.dept D",
+        ),
+        SOURCE,
+    ],
+    want: Want {
+        status: 6,
+        printed: "synced\t1\ncolumn+\tsalInfo\tphysics\ncell\tsalInfo\tphysics\t70000\tProf\ndone\t2\ncolumn-\tsalInfo\tmath\ndone\t1\n",
+        folder: "views/AtoB",
+        held: &[(
+            "salInfo.csv",
+            "category,cs,math\nAssoc,60000,\nProf,72000,65000\n",
+        )],
+    },
+};
+
+// The text with each byte a piece of its own.
+fn cut(alloc: Global, text: &str) -> Result<Vec<Text>, NoMemory> {
+    let mut pieces = Vec::new(alloc);
+    for byte in text.as_bytes() {
+        pieces.push(Text::of(alloc, &[*byte])?)?;
+    }
+    Ok(pieces)
+}
+
+fn maintained(alloc: Global, pieces: Vec<Text>) -> Result<&'static str, StoreFault> {
+    let mut input = SureSource::of(pieces);
+    difference_over(alloc, &NAMES, &mut input)
+}
+
+#[test]
+fn lines_are_answered(rt: HostRuntime) -> Result<(), StoreFault> {
+    let alloc = rt.alloc();
+    let whole = texts(alloc, &[NAME_CHANGES])?;
+    assert_eq!(rt; maintained(alloc, whole)?, "nothing");
+    let bytes = cut(alloc, NAME_CHANGES)?;
+    assert_eq!(rt; maintained(alloc, bytes)?, "nothing");
+    Ok(())
+}
+
+#[test]
+fn a_read_of_the_input_fails(rt: HostRuntime) -> Result<(), StoreFault> {
+    let alloc = rt.alloc();
+    let pieces = texts(
+        alloc,
+        &[
+            "insert\tuniv-A\tsalInfo\tProf\tphysics\t70000\n",
+            "delete\tuniv-A\tsalInfo\tProf\tmath\t65000\n",
+        ],
+    )?;
+    let mut input = MemSource::of(pieces, vec![in alloc; 3]?);
+    assert_eq!(rt; difference_over(alloc, &UNREAD_END, &mut input)?, "nothing");
+    Ok(())
+}

@@ -1,0 +1,266 @@
+//! Runs of `maintain` of which one call fails: the first, the second, and so on, until none does.
+ghost use Rattle.std.specs.Prelude.{◌<◌, All};
+
+use crate::place::{File, failing_folders, holds, run_over, texts};
+use crate::row::{Want, unwanted};
+use outside::{MemFolders, MemSink, MemSource, StoreFault};
+use std::alloc::Global;
+
+const SOURCE: &str = "category,dept,salFloor\nProf,cs,72000\nProf,math,65000\nAssoc,cs,60000\n";
+
+const FILES: [File; 2] = [
+    (
+        "defs",
+        "AtoC.ssql",
+        "create view AtoC::D(category, salFloor) as select A.category, A.salFloor from univ-A::salInfo A, A.dept D",
+    ),
+    ("sources/univ-A", "salInfo.csv", SOURCE),
+];
+// A change, a sync, and a table that comes and goes before the next one.
+const LINES: [&str; 4] = [
+    "insert\tuniv-A\tsalInfo\tLect\tmath\t1\n",
+    "sync\n",
+    "insert\tuniv-A\tsalInfo\tLect\tbio\t2\n",
+    "delete\tuniv-A\tsalInfo\tLect\tbio\t2\n",
+];
+
+const CS: &str = "category,salFloor\nAssoc,60000\nProf,72000\n";
+
+const MATH: &str = "category,salFloor\nProf,65000\n";
+
+const MORE_MATH: &str = "category,salFloor\nLect,1\nProf,65000\n";
+
+const OPENED: &str = "synced\t2\n";
+
+const CHANGED: &str = "synced\t2\nrow+\tmath\tLect\t1\ndone\t1\n";
+
+const SYNCED: &str = "synced\t2\nrow+\tmath\tLect\t1\ndone\t1\nsynced\t1\n";
+
+const INSERTED: &str =
+    "synced\t2\nrow+\tmath\tLect\t1\ndone\t1\nsynced\t1\ntable+\tbio\nrow+\tbio\tLect\t2\ndone\t2\n";
+
+const DELETED: &str =
+    "synced\t2\nrow+\tmath\tLect\t1\ndone\t1\nsynced\t1\ntable+\tbio\nrow+\tbio\tLect\t2\ndone\t2\ntable-\tbio\ndone\t1\n";
+
+const ENDED: &str =
+    "synced\t2\nrow+\tmath\tLect\t1\ndone\t1\nsynced\t1\ntable+\tbio\nrow+\tbio\tLect\t2\ndone\t2\ntable-\tbio\ndone\t1\nsynced\t0\n";
+
+// Where no call fails, and where a call that reads the folders does.
+const DONE: Want = Want {
+    status: 0,
+    printed: ENDED,
+    folder: "views/AtoC",
+    held: &[("cs.csv", CS), ("math.csv", MORE_MATH)],
+};
+
+const UNREAD: Want = Want {
+    status: 6,
+    printed: "",
+    folder: "views/AtoC",
+    held: &[],
+};
+
+const READS: [(u8, Want); 6] = [
+    (1, UNREAD),
+    (2, UNREAD),
+    (3, UNREAD),
+    (4, UNREAD),
+    (5, UNREAD),
+    (6, DONE),
+];
+
+// Where a call that writes fails: two files of the opening, one at the sync line, and the removal at the end.
+const WRITES: [(u8, Want); 5] = [
+    (
+        1,
+        Want {
+            status: 7,
+            printed: "",
+            folder: "views/AtoC",
+            held: &[("cs.csv", "category,salFloor\nAs")],
+        },
+    ),
+    (
+        2,
+        Want {
+            status: 7,
+            printed: "",
+            folder: "views/AtoC",
+            held: &[("cs.csv", CS), ("math.csv", "category,salFl")],
+        },
+    ),
+    (
+        3,
+        Want {
+            status: 7,
+            printed: CHANGED,
+            folder: "views/AtoC",
+            held: &[("cs.csv", CS), ("math.csv", "category,salFloor\n")],
+        },
+    ),
+    (
+        4,
+        Want {
+            status: 7,
+            printed: DELETED,
+            folder: "views/AtoC",
+            held: &[("cs.csv", CS), ("math.csv", MORE_MATH)],
+        },
+    ),
+    (5, DONE),
+];
+
+// Where a read of the input fails: each line comes by a read of its own, and then the end.
+const INPUTS: [(u8, Want); 6] = [
+    (
+        1,
+        Want {
+            status: 6,
+            printed: OPENED,
+            folder: "views/AtoC",
+            held: &[("cs.csv", CS), ("math.csv", MATH)],
+        },
+    ),
+    (
+        2,
+        Want {
+            status: 6,
+            printed: CHANGED,
+            folder: "views/AtoC",
+            held: &[("cs.csv", CS), ("math.csv", MATH)],
+        },
+    ),
+    (
+        3,
+        Want {
+            status: 6,
+            printed: SYNCED,
+            ..DONE
+        },
+    ),
+    (
+        4,
+        Want {
+            status: 6,
+            printed: INSERTED,
+            ..DONE
+        },
+    ),
+    (
+        5,
+        Want {
+            status: 6,
+            printed: DELETED,
+            ..DONE
+        },
+    ),
+    (6, DONE),
+];
+
+// What a run over these folders and this input left that is not wanted.
+fn difference(
+    alloc: Global,
+    store: &mut MemFolders,
+    fails: Vec<u64>,
+    want: &Want,
+) -> Result<&'static str, StoreFault>
+    requires { All (λ k. k < 18446744073709551615) fails.items }
+{
+    let words = texts(alloc, &["maintain", "AtoC"])?;
+    let mut input = MemSource::of(texts(alloc, &LINES)?, fails);
+    let mut output = MemSink::of(alloc, 7, Vec::new(alloc));
+    let status = run_over(alloc, &words, store, &mut input, &mut output);
+    if !holds(alloc, store, "sources/univ-A", &[("salInfo.csv", SOURCE)])? {
+        return Ok("the sources");
+    }
+    unwanted(alloc, store, status, output.bytes(), want)
+}
+
+fn failing_read(alloc: Global, call: u8, want: &Want) -> Result<&'static str, StoreFault> {
+    let mut store = failing_folders(
+        alloc,
+        &FILES,
+        vec![in alloc; u64::from(call)]?,
+        Vec::new(alloc),
+    )?;
+    difference(alloc, &mut store, Vec::new(alloc), want)
+}
+
+fn failing_write(alloc: Global, call: u8, want: &Want) -> Result<&'static str, StoreFault> {
+    let mut store = failing_folders(
+        alloc,
+        &FILES,
+        Vec::new(alloc),
+        vec![in alloc; u64::from(call)]?,
+    )?;
+    difference(alloc, &mut store, Vec::new(alloc), want)
+}
+
+fn failing_input(alloc: Global, call: u8, want: &Want) -> Result<&'static str, StoreFault> {
+    let mut store = failing_folders(alloc, &FILES, Vec::new(alloc), Vec::new(alloc))?;
+    difference(alloc, &mut store, vec![in alloc; u64::from(call)]?, want)
+}
+
+// How a run ends of which a call that prints fails: its status, or 100 where its output is no front of the whole.
+fn failing_print(alloc: Global, call: u8) -> Result<u8, StoreFault> {
+    let words = texts(alloc, &["maintain", "AtoC"])?;
+    let mut store = failing_folders(alloc, &FILES, Vec::new(alloc), Vec::new(alloc))?;
+    let mut input = MemSource::of(texts(alloc, &LINES)?, Vec::new(alloc));
+    let mut output = MemSink::of(alloc, 7, vec![in alloc; u64::from(call)]?);
+    let status = run_over(alloc, &words, &mut store, &mut input, &mut output);
+    if ENDED.as_bytes().starts_with(output.bytes()) {
+        Ok(status.number())
+    } else {
+        Ok(100)
+    }
+}
+
+#[test]
+fn each_read_fails(rt: HostRuntime) -> Result<(), StoreFault> {
+    for (call, want) in &READS {
+        assert_eq!(rt;
+            failing_read(rt.alloc(), *call, want)?,
+            "nothing",
+            "at {call}"
+        );
+    }
+    Ok(())
+}
+
+#[test]
+fn each_write_fails(rt: HostRuntime) -> Result<(), StoreFault> {
+    for (call, want) in &WRITES {
+        assert_eq!(rt;
+            failing_write(rt.alloc(), *call, want)?,
+            "nothing",
+            "at {call}"
+        );
+    }
+    Ok(())
+}
+
+#[test]
+fn each_read_of_the_input_fails(rt: HostRuntime) -> Result<(), StoreFault> {
+    for (call, want) in &INPUTS {
+        assert_eq!(rt;
+            failing_input(rt.alloc(), *call, want)?,
+            "nothing",
+            "at {call}"
+        );
+    }
+    Ok(())
+}
+
+// The output takes seven bytes a call.
+#[test]
+fn each_print_fails(rt: HostRuntime) -> Result<(), StoreFault> {
+    for call in 1..u8::MAX {
+        let status = failing_print(rt.alloc(), call)?;
+        if status == 0 {
+            return Ok(());
+        }
+        assert_eq!(rt; status, 7, "at {call}");
+    }
+    assert!(rt; false, "no run ended well");
+    Ok(())
+}
