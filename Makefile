@@ -26,10 +26,16 @@ check:
 cases: $(PROGRAM)
 	cases/run
 
+# How long the program takes.
+bench: $(PROGRAM)
+	bench/show.py
+	bench/check.py
+	bench/maintain.py
+
 install: $(PROGRAM)
 	install -D $(PROGRAM) $(DESTDIR)$(PREFIX)/bin/schemasql
 
 clean:
 	rm -rf crates/*/out build.log
 
-.PHONY: all demo test check cases install clean
+.PHONY: all demo test check cases bench install clean

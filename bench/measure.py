@@ -1,0 +1,63 @@
+"""What the measurements share: a folder of its own, a timed run, and a line of figures."""
+
+import os
+import pathlib
+import subprocess
+import sys
+import tempfile
+import time
+
+HERE = pathlib.Path(__file__).resolve().parent
+PROGRAM = HERE.parent / "crates" / "schemasql_cli" / "out" / "schemasql_cli"
+
+
+def program():
+    """The program that is measured: the first argument, or the one that `make` builds."""
+    return str(pathlib.Path(sys.argv[1] if len(sys.argv) > 1 else PROGRAM).resolve())
+
+
+def folder():
+    """A new folder, which is gone at the end of a `with`."""
+    return tempfile.TemporaryDirectory()
+
+
+def write(root, path, lines):
+    """Writes a file below a folder, and makes the folders above it.
+
+    The lines are not kept, since what this process holds counts in what a run is said to need.
+    """
+    target = pathlib.Path(root) / path
+    target.parent.mkdir(parents=True, exist_ok=True)
+    with open(target, "w") as file:
+        file.writelines(lines)
+    return target
+
+
+def run(words, root, given=None):
+    """Runs these words in a folder: the seconds, the megabytes at their most, the status, and the output's lines."""
+    with tempfile.TemporaryFile() as output:
+        begun = time.perf_counter()
+        child = subprocess.Popen(
+            words,
+            cwd=root,
+            stdin=open(given, "rb") if given else subprocess.DEVNULL,
+            stdout=output,
+        )
+        _, status, usage = os.wait4(child.pid, 0)
+        seconds = time.perf_counter() - begun
+        child.returncode = os.waitstatus_to_exitcode(status)
+        output.seek(0)
+        lines = output.read().decode(errors="replace").splitlines()
+    return seconds, usage.ru_maxrss / 1024, child.returncode, lines
+
+
+def report(name, seconds, megabytes, more=""):
+    print(f"{name}: {seconds:.2f} s, {megabytes:.0f} MB{more}", flush=True)
+
+
+def wanted(answer, status, last):
+    """Stops where a run did not end as it should, since its time then says nothing."""
+    _, _, ended, lines = answer
+    if ended != status or lines[-1:] != [last]:
+        sys.exit(f"ended with status {ended} and {lines[-1:]}")
+    return answer

@@ -1,0 +1,50 @@
+#!/usr/bin/env python3
+"""`show` of 1,000,000 rows: values to columns, and values to tables, against Miller where it is there.
+
+usage: bench/show.py [PROGRAM]
+"""
+
+import shutil
+import sys
+
+from measure import folder, program, report, run, wanted, write
+
+ROWS = 1_000_000
+COLUMNS = 8
+
+
+def rows():
+    """A header, and rows of a key, one of eight values and a number, in no order."""
+    yield "k,d,v\n"
+    for step in range(ROWS):
+        place = step * 611_953 % ROWS
+        yield f"k{place // COLUMNS},d{place % COLUMNS},{place}\n"
+
+
+def main():
+    with folder() as root:
+        source = write(root, "sources/g/r.csv", rows())
+        write(root, "defs/C.ssql", "create view C::t(k, D) as select T.k, T.v from g::r T, T.d D")
+        write(root, "defs/T.ssql", "create view T::D(k, v) as select T.k, T.v from g::r T, T.d D")
+        shown = {}
+        for name, what, synced in [
+            ("C", "values to columns", 1),
+            ("T", "values to tables", COLUMNS),
+        ]:
+            answer = wanted(run([program(), "show", name], root), 0, f"synced\t{synced}")
+            shown[name] = answer[0]
+            report(f"show, {ROWS} rows, {what}", *answer[:2])
+        if not shutil.which("mlr"):
+            print("mlr is not installed")
+            return
+        for name, what, words in [
+            ("C", "reshape -s", ["reshape", "-s", "d,v"]),
+            ("T", "split", ["split", "-g", "d", "then", "nothing"]),
+        ]:
+            answer = run(["mlr", "--icsv", "--ocsv", *words, str(source)], root)
+            if answer[2] != 0:
+                sys.exit(f"mlr {what} ended with status {answer[2]}")
+            report(f"mlr {what}", *answer[:2], f"; show takes {shown[name] / answer[0]:.1f} times as long")
+
+
+main()
