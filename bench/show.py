@@ -25,11 +25,11 @@ def main():
     with folder() as root:
         source = write(root, "sources/g/r.csv", rows())
         write(root, "defs/C.ssql", "create view C::t(k, D) as select T.k, T.v from g::r T, T.d D")
-        write(root, "defs/T.ssql", "create view T::D(k, v) as select T.k, T.v from g::r T, T.d D")
+        write(root, "defs/S.ssql", "create view S::D(k, v) as select T.k, T.v from g::r T, T.d D")
         shown = {}
         for name, what, synced in [
             ("C", "values to columns", 1),
-            ("T", "values to tables", COLUMNS),
+            ("S", "values to tables", COLUMNS),
         ]:
             answer = wanted(run([program(), "show", name], root), 0, f"synced\t{synced}")
             shown[name] = answer[0]
@@ -39,7 +39,7 @@ def main():
             return
         for name, what, words in [
             ("C", "reshape -s", ["reshape", "-s", "d,v"]),
-            ("T", "split", ["split", "-g", "d", "then", "nothing"]),
+            ("S", "split", ["split", "-g", "d", "then", "nothing"]),
         ]:
             answer = run(["mlr", "--icsv", "--ocsv", *words, str(source)], root)
             if answer[2] != 0:
