@@ -28,9 +28,7 @@ cases: $(PROGRAM)
 
 # How long the program takes.
 bench: $(PROGRAM)
-	bench/show.py
-	bench/check.py
-	bench/maintain.py
+	bench/run
 
 install: $(PROGRAM)
 	install -D $(PROGRAM) $(DESTDIR)$(PREFIX)/bin/schemasql

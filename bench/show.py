@@ -1,5 +1,5 @@
 #!/usr/bin/env python3
-"""`show` of 1,000,000 rows: values to columns, and values to tables, against Miller where it is there.
+"""`show` of 1,000,000 rows: two columns of them, values to columns, and values to tables, against Miller where it is there.
 
 usage: bench/show.py [PROGRAM]
 """
@@ -26,8 +26,10 @@ def main():
         source = write(root, "sources/g/r.csv", rows())
         write(root, "defs/C.ssql", "create view C::t(k, D) as select T.k, T.v from g::r T, T.d D")
         write(root, "defs/S.ssql", "create view S::D(k, v) as select T.k, T.v from g::r T, T.d D")
+        write(root, "defs/P.ssql", "create view P::t(k, d) as select T.k, T.d from g::r T")
         shown = {}
         for name, what, synced in [
+            ("P", "two columns", 1),
             ("C", "values to columns", 1),
             ("S", "values to tables", COLUMNS),
         ]:
@@ -38,6 +40,7 @@ def main():
             print("mlr is not installed")
             return
         for name, what, words in [
+            ("P", "cut, uniq and sort", "cut -o -f k,d then uniq -a then sort -f k -f d".split()),
             ("C", "reshape -s", ["reshape", "-s", "d,v"]),
             ("S", "split", ["split", "-g", "d", "then", "nothing"]),
         ]:
