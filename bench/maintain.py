@@ -1,8 +1,12 @@
 #!/usr/bin/env python3
 """`maintain` with inserts and deletes in turn, over few and over many rows: the time of one change.
 
-usage: bench/maintain.py [PROGRAM]
+usage: bench/maintain.py [PROGRAM [CHANGES]]
+
+There are 10,000 changes where no other number is given. Over many rows that takes a quarter of an hour.
 """
+
+import sys
 
 from measure import folder, program, report, run, wanted, write
 
@@ -38,8 +42,9 @@ def time_of_change(rows, count):
 
 
 def main():
-    few = time_of_change(1_000, 2_000)
-    many = time_of_change(100_000, 40)
+    count = int(sys.argv[2]) if len(sys.argv) > 2 else 10_000
+    few = time_of_change(1_000, count)
+    many = time_of_change(100_000, count)
     print(f"a change over 100 times as many rows takes {many / few:.1f} times as long")
 
 
