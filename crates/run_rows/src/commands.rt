@@ -176,7 +176,21 @@ const REFUSED_HEADERS: [Row; 6] = [
 ];
 
 // Definitions that are printed, and one that is too deep.
-const CHECKED: [Row; 5] = [
+const CHECKED: [Row; 6] = [
+    Row {
+        words: &["check", "AtoB"],
+        files: &[(
+            "defs",
+            "AtoB.ssql",
+            "create view AtoB::salInfo(category, D) as select A.category, A.salFloor from univ-A::salInfo A, A.dept D",
+        )],
+        want: Want {
+            status: 0,
+            printed: "CREATE VIEW AtoB::salInfo(category, D) AS SELECT A.category, A.salFloor FROM univ-A::salInfo A, A.dept D\n",
+            folder: "views/AtoB",
+            held: &[],
+        },
+    },
     Row {
         words: &["check", "V"],
         files: &[(
@@ -387,8 +401,54 @@ const VERIFIED: [Row; 5] = [
     },
 ];
 
-// More views that are shown.
-const SHOWN: [Row; 5] = [
+// Words that are none of the forms, and a definition that is missing.
+const WORDS: [Row; 3] = [
+    Row {
+        words: &[],
+        files: &[(
+            "sources/univ-A",
+            "salInfo.csv",
+            "category,dept,salFloor\nProf,cs,72000\nProf,math,65000\nAssoc,cs,60000\n",
+        )],
+        want: Want {
+            status: 2,
+            printed: "usage: schemasql check|show|maintain|verify|apply NAME, or schemasql load N SEED\n",
+            folder: "views/AtoB",
+            held: &[],
+        },
+    },
+    Row {
+        words: &["show"],
+        files: &[(
+            "sources/univ-A",
+            "salInfo.csv",
+            "category,dept,salFloor\nProf,cs,72000\nProf,math,65000\nAssoc,cs,60000\n",
+        )],
+        want: Want {
+            status: 2,
+            printed: "usage: schemasql check|show|maintain|verify|apply NAME, or schemasql load N SEED\n",
+            folder: "views/AtoB",
+            held: &[],
+        },
+    },
+    Row {
+        words: &["show", "nosuch"],
+        files: &[(
+            "sources/univ-A",
+            "salInfo.csv",
+            "category,dept,salFloor\nProf,cs,72000\nProf,math,65000\nAssoc,cs,60000\n",
+        )],
+        want: Want {
+            status: 3,
+            printed: "refused\tno-definition\tnosuch\n",
+            folder: "views/nosuch",
+            held: &[],
+        },
+    },
+];
+
+// More views that are shown, and some that are refused.
+const SHOWN: [Row; 7] = [
     Row {
         words: &["show", "BtoA"],
         files: &[
@@ -485,6 +545,48 @@ const SHOWN: [Row; 5] = [
         },
     },
     Row {
+        words: &["show", "AtoB"],
+        files: &[
+            (
+                "defs",
+                "AtoB.ssql",
+                "create view AtoB::salInfo(category, D) as select A.category, A.salFloor from univ-A::salInfo A, A.dept D",
+            ),
+            (
+                "sources/univ-A",
+                "salInfo.csv",
+                "category,dept,salFloor\nProf,cs,72000\nProf,math,65000\nAssoc,cs,60000\nProf,cs,99\n",
+            ),
+        ],
+        want: Want {
+            status: 5,
+            printed: "refused\tconflict\tsalInfo\tcs\t72000\t99\tProf\n",
+            folder: "views/AtoB",
+            held: &[],
+        },
+    },
+    Row {
+        words: &["show", "V"],
+        files: &[
+            (
+                "defs",
+                "V.ssql",
+                "create view V::t(a) as select T.a, \"T\".\"b\" from d::r T",
+            ),
+            (
+                "sources/univ-A",
+                "salInfo.csv",
+                "category,dept,salFloor\nProf,cs,72000\nProf,math,65000\nAssoc,cs,60000\n",
+            ),
+        ],
+        want: Want {
+            status: 3,
+            printed: "refused\tunexpected\t35\n",
+            folder: "views/V",
+            held: &[],
+        },
+    },
+    Row {
         words: &["show", "V"],
         files: &[
             (
@@ -537,6 +639,12 @@ fn definitions_are_checked(rt: HostRuntime) -> Result<(), StoreFault> {
 #[test]
 fn folders_are_verified(rt: HostRuntime) -> Result<(), StoreFault> {
     assert_eq!(rt; first_difference(rt.alloc(), &VERIFIED)?, None);
+    Ok(())
+}
+
+#[test]
+fn words_are_refused(rt: HostRuntime) -> Result<(), StoreFault> {
+    assert_eq!(rt; first_difference(rt.alloc(), &WORDS)?, None);
     Ok(())
 }
 
