@@ -8,10 +8,11 @@ use ss_text::{NoMemory, Row, Text};
 use std::alloc::Global;
 use std::marker::Model;
 
-/// Records that were written one after another, which contracts see as their canonical text.
+/// Records that were written one after another, which contracts see as their canonical text. The writer is large, and
+/// stands apart so that it need not move with each record.
 #[derive(Drop)]
 pub struct RecordsText {
-    writer: Writer<Vec<u8>>,
+    writer: Box<Writer<Vec<u8>>>,
 }
 
 impl Model for RecordsText {
@@ -21,19 +22,18 @@ impl Model for RecordsText {
 
     ghost use Rattle.csv_catalog.specs.Written.{written, IsBetweenRecords};
 
-    ghost view = { λ t. written t.writer };
+    ghost view = { λ t. written t.writer.value };
 
-    ghost invariant = { λ t. IsBetweenRecords t.writer };
+    ghost invariant = { λ t. IsBetweenRecords t.writer.value };
 }
 
 impl RecordsText {
     /// No record.
-    pub fn new(alloc: Global) -> RecordsText
-        ensures { result ≡ [] }
+    pub fn new(alloc: Global) -> Result<RecordsText, NoMemory>
+        ensures { IfOk result (λ text. text ≡ []) }
     {
-        RecordsText {
-            writer: new_writer(alloc),
-        }
+        let writer = Box::new(alloc, new_writer(alloc))?;
+        Ok(RecordsText { writer })
     }
 
     /// One more record, which has a field.
@@ -49,6 +49,6 @@ impl RecordsText {
     pub fn into_text(self) -> Result<Text, NoMemory>
         ensures { IfOk result (λ text. text ≡ self) }
     {
-        text_of(self.writer)
+        text_of(Box::into_inner(self.writer))
     }
 }

@@ -1,13 +1,9 @@
 -- What the folder of an opened view holds while lines are answered.
 use Rattle.std.proofs.Common.{◌≡◌, ℕ, true, false, ◌||◌, map, length, List, [], ◌∷◌, ◌++◌, Option, None, Some, refl, sym, ap, ◌∙◌, subst, append_assoc, ◌+◌, arith, filter}
-use Rattle.std.specs.Prelude.{Result, Ok, Err, option_to_list, if◌then◌else◌}
+use Rattle.std.specs.Prelude.{Result, Ok, Err, if◌then◌else◌}
 use Rattle.std.specs.Option.{option_map_or}
-use Rattle.std.specs.List.{filter_map}
-use Rattle.std.specs.List.Sorted.{IsStrictlySortedBy}
-use Rattle.std.specs.Map.{keys_of}
-use Rattle.std.specs.Cmp.Lexicographic.{nat_list_cmp_total, lists_total}
-use Rattle.std.proofs.lemmas.List.{length-map}
-use Rattle.ss_text.specs.Texts.{Text, Row, text_eq, text_cmp, row_cmp, is_in}
+use Rattle.std.specs.Cmp.Lexicographic.{nat_list_cmp_total}
+use Rattle.ss_text.specs.Texts.{Text, Row, text_eq, text_cmp, is_in}
 use Rattle.ss_text.specs.Ascending.{ascending}
 use Rattle.ss_text.proofs.AscendingLemmas.{ascending_ascends}
 use Rattle.ss_text.proofs.SetLemmas.{same_ascending}
@@ -27,19 +23,16 @@ use Rattle.schema_model.specs.Reading.{change_so_far}
 use Rattle.tab_lines.specs.Spelling.{unspell}
 use Rattle.view_def.specs.Query.{Query}
 use Rattle.flow_law.specs.declared.shape.Shape.{Shape}
-use Rattle.flow_law.specs.Facts.{Fact, column_of, facts_of}
-use Rattle.flow_law.specs.Tables.{TableValue, TablesValue, table_of, labels_of}
-use Rattle.flow_law.specs.InOrder.{IsTable, AreTables}
+use Rattle.flow_law.specs.Tables.{TablesValue, table_of, labels_of}
 use Rattle.flow_law.specs.Lines.{label_of}
-use Rattle.flow_law.specs.FactTables.{tables, fact_table, value_for}
 use Rattle.flow_law.proofs.ScriptLaw.{script_makes, script_fits, unnamed_table_stays}
-use Rattle.valuation_meaning.specs.Meaning.{meaning, facts, shape_of}
+use Rattle.valuation_meaning.specs.Meaning.{meaning, shape_of}
 use Rattle.view_folder.specs.declared.file.File.{File}
-use Rattle.view_folder.specs.Files.{view_folder, file_name, other_names}
+use Rattle.view_folder.specs.Files.{view_folder, file_name, other_names, Apart}
 use Rattle.view_folder.specs.TableFiles.{table_files, table_text}
 use Rattle.view_folder.specs.Sync.{HoldsExactly, written, removed, opening_sync, opening_count, label_synced, later_sync}
 use Rattle.outside.specs.Counts.{risen}
-use Rattle.view_folder.proofs.FolderLemmas.{Apart, apart_sorted, now, synced, counted, holds_exactly}
+use Rattle.view_folder.proofs.FolderLemmas.{apart_sorted, now, synced, counted, holds_exactly}
 use Rattle.view_folder.proofs.LaterLemmas.{later, later_synced, later_holds, later_counted}
 use Rattle.view_session.specs.Session.{tables_of, lines_to, SessionState}
 use Rattle.course.specs.Machine.{Goes, follow}
@@ -50,35 +43,7 @@ use Rattle.ss_top.specs.Printed.{tells_synced}
 use Rattle.ss_top.specs.Stages.{refusal_of, files_of_view}
 use Rattle.ss_top.specs.Answers.{Answer, answer, by_spelling, by_row, by_sync, by_change, by_fault, by_view, refusing, changing, syncing, sync_effects, sync_count, counts, is_sync, step}
 use Rattle.ss_top.specs.Promises.{printed_by, synced_count, Takes}
-use Rattle.ss_top.proofs.StageLemmas.{all_mapped, are_view_files}
-
--- the tables of facts are in order
-keys_mapped : {K X : Type 0} (g : K → X) (ks : List K) → keys_of (map (λ (k : K). let entry : K × X = (k, g k) in entry) ks) ≡ ks
-keys_mapped g [] = refl
-keys_mapped g (k ∷ ks) = ap (λ t. k ∷ t) (keys_mapped g ks)
-
-fact_table_in_order : (fs : List Fact) → IsTable (fact_table fs)
-fact_table_in_order fs =
-    let columns : Row = ascending text_cmp (filter_map column_of fs) in
-    let keys : List Row = ascending row_cmp (map (λ (f : Fact). f.key) fs) in
-    record {
-      columns = ascending_ascends text_cmp nat_list_cmp_total (filter_map column_of fs);
-      keys = subst (IsStrictlySortedBy row_cmp) (sym (keys_mapped (λ (key : Row). map (value_for fs key) columns) keys)) (ascending_ascends row_cmp (lists_total nat_list_cmp_total) (map (λ (f : Fact). f.key) fs));
-      cells = all_mapped (λ (r : Row × Row). length r.1 ≡ length columns) (λ (key : Row). (key, map (value_for fs key) columns)) keys (λ key. length-map columns (value_for fs key));
-    }
-
-tables_in_order : (shape : Shape) (fs : List Fact) → AreTables (tables shape fs)
-unfolding tables
-tables_in_order shape fs =
-    let labels : List Text = option_to_list shape.label ++ map (λ (f : Fact). f.label) fs in
-    record {
-      labels = subst (IsStrictlySortedBy text_cmp) (sym (keys_mapped (λ (label : Text). fact_table (facts_of label fs)) (ascending text_cmp labels))) (ascending_ascends text_cmp nat_list_cmp_total labels);
-      tables = all_mapped (λ (p : Text × TableValue). IsTable p.1) (λ (label : Text). (label, fact_table (facts_of label fs))) (ascending text_cmp labels) (λ label. fact_table_in_order (facts_of label fs));
-    }
-
-pub meaning_in_order : (c : CatalogueValue) (q : Query) → AreTables (meaning c q)
-unfolding meaning
-meaning_in_order c q = tables_in_order (shape_of q) (facts c q)
+use Rattle.ss_top.proofs.StageLemmas.{meaning_in_order, are_view_files}
 
 -- the script of two meanings takes the one to the other
 pub script_takes : (o : SessionState) (c : CatalogueValue) → Takes (tables_of o) (meaning c o.query) (lines_to o c)
@@ -99,7 +64,7 @@ in_ascending l xs = sym ((same_ascending text_order.total text_order.same xs).sa
 held_later : (d : Text) (fs gs : List File) (t u v : Tree) → HoldsExactly d fs t u → HoldsExactly d gs u v → HoldsExactly d gs t v
 held_later d fs gs t u v h i = record {
   tables = i.tables;
-  no_table = λ name ne. i.no_table name ne ∙ h.no_table name ne;
+  not_csv = λ name ne. i.not_csv name ne ∙ h.not_csv name ne;
   others = λ p ne. i.others p ne ∙ h.others p ne;
 }
 

@@ -1,15 +1,14 @@
 -- What a view gives over a catalogue, as its files.
-use Rattle.std.proofs.Common.{◌≡◌, ◌≢◌, Bool, true, false, List, [], ◌∷◌, ◌++◌, map, filter, Option, None, Some, refl, subst, cond}
-use Rattle.std.specs.Prelude.{codes, option_map, option_to_list}
+use Rattle.std.proofs.Common.{◌≡◌, ◌≢◌, Bool, true, false, List, [], ◌∷◌, ◌++◌, map, filter, Option, None, Some, refl, sym, ap, subst, cond, length}
+use Rattle.std.specs.Prelude.{option_map, option_to_list}
 use Rattle.std.specs.Option.{option_or}
 use Rattle.std.specs.List.{AllByRecursion, filter_map}
 use Rattle.std.specs.List.Sorted.{IsStrictlySortedBy}
+use Rattle.std.specs.Map.{keys_of}
+use Rattle.std.specs.Cmp.Lexicographic.{nat_list_cmp_total, lists_total}
+use Rattle.std.proofs.lemmas.List.{length-map}
 use Rattle.std.specs.declared.cmp.Ordering.{Ordering}
 use Rattle.std.specs.declared.cmp.Ordering.TheVariants.{Less, Equal, Greater}
-use Rattle.std.proofs.lemmas.Bool.{false_from_ne_true}
-use Rattle.std.proofs.lemmas.List.{append_cancel_right}
-use Rattle.std.proofs.lemmas.Cmp.{nat_list_cmp_total, tied_itself}
-use Rattle.std.proofs.lemmas.Slice.Eq.{bytes_eq-Decides}
 use Rattle.ss_text.specs.Texts.{Text, Row, text_cmp, text_eq, row_cmp}
 use Rattle.ss_text.specs.Ascending.{ascending, with_element, by_order}
 use Rattle.ss_text.proofs.AscendingLemmas.{ascending_ascends}
@@ -18,6 +17,7 @@ use Rattle.view_def.specs.Query.{Query}
 use Rattle.flow_law.specs.Facts.{Fact, illegal, conflict, facts_of, column_of}
 use Rattle.flow_law.specs.Tables.{TableValue}
 use Rattle.flow_law.specs.FactTables.{tables, fact_table, value_for}
+use Rattle.flow_law.specs.InOrder.{IsTable, AreTables}
 use Rattle.flow_law.specs.declared.shape.Shape.{Shape}
 use Rattle.view_def.specs.declared.typed.Term.{Term}
 use Rattle.valuation_meaning.specs.Elements.{Valuation}
@@ -25,41 +25,14 @@ use Rattle.valuation_meaning.specs.Valuations.{valuations}
 use Rattle.valuation_meaning.specs.Meaning.{facts, fact_of, values_of, shape_of, meaning}
 use Rattle.valuation_meaning.specs.Refusal.{refusal, first_fault}
 use Rattle.valuation_meaning.specs.declared.evaluation.EvalFault.TheVariants as fault
-use Rattle.view_folder.specs.Files.{AreViewFiles, is_named}
-use Rattle.view_folder.proofs.LaterLemmas.{file_name_csv}
-use Rattle.view_folder.specs.TableFiles.{table_files, table_file, FitsShape, FitShape}
+use Rattle.view_folder.specs.Files.{AreViewFiles}
+use Rattle.view_folder.proofs.OpeningLemmas.{are_view_files as tables_files}
+use Rattle.view_folder.specs.TableFiles.{FitsShape, FitShape}
 use Rattle.ss_print.specs.Fields.{illegal_fields, clash_fields}
 use Rattle.ss_top.specs.Stages.{files_of_view, refusal_of}
 use Rattle.ss_top.specs.Records.{HasRecords}
 use Rattle.flow_law.specs.declared.refused.IllegalLabel.{IllegalLabel}
 use Rattle.flow_law.specs.declared.refused.Clash.{Clash}
-
--- labels that differ give files of other names
-same_front : (l m t : Text) → l ++ t ≡ m ++ t → l ≡ m
-same_front l m t e = append_cancel_right l m t e
-
-apart : (l m : Text) → text_cmp l m ≡ Less → text_eq (l ++ codes ".csv") (m ++ codes ".csv") ≡ false
-apart l m less = false_from_ne_true _ (λ t.
-    let same : l ≡ m = same_front l m (codes ".csv") ((bytes_eq-Decides (l ++ codes ".csv") (m ++ codes ".csv")).0 t) in
-    let tie : text_cmp l m ≡ Equal = subst (λ (x : Text). text_cmp l x ≡ Equal) same (tied_itself nat_list_cmp_total l) in
-    absurd (cc))
-
-module _ (shape : Shape) (g : Text → TableValue) where
-  unnamed : (l : Text) (ls : List Text) → AllByRecursion (λ m. text_cmp l m ≡ Less) ls → is_named (map (table_file shape) (map (λ m. (m, g m)) ls)) (l ++ codes ".csv") ≡ false
-  unnamed l [] h = refl
-  unnamed l (m ∷ ms) h = rw (apart l m h.0, unnamed l ms h.1) refl
-
-  files_of_labels : (ls : List Text) → IsStrictlySortedBy text_cmp ls → AreViewFiles (map (table_file shape) (map (λ m. (m, g m)) ls))
-  unfolding IsStrictlySortedBy
-  files_of_labels [] h = tt
-  files_of_labels (l ∷ ls) h = (file_name_csv l, unnamed l ls h.0, files_of_labels ls h.1)
-
--- the files of a view's tables
-pub are_view_files : (c : CatalogueValue) (q : Query) → AreViewFiles (files_of_view c q)
-unfolding files_of_view table_files meaning tables
-are_view_files c q =
-    files_of_labels (shape_of q) (λ label. fact_table (facts_of label (facts c q))) (ascending text_cmp (option_to_list (shape_of q).label ++ map (λ (f : Fact). f.label) (facts c q)))
-    (ascending_ascends text_cmp nat_list_cmp_total (option_to_list (shape_of q).label ++ map (λ (f : Fact). f.label) (facts c q)))
 
 -- what holds of each element holds of each that is left by a test, or once each in order
 module _ {A : Type 0} (P : A → Type 0) where
@@ -84,6 +57,39 @@ module _ {A B : Type 0} (P : B → Type 0) (f : A → B) where
   pub all_mapped : (xs : List A) → ((x : A) → P (f x)) → AllByRecursion P (map f xs)
   all_mapped [] h = tt
   all_mapped (x ∷ xs) h = (h x, all_mapped xs h)
+
+-- the tables of facts are in order
+keys_mapped : {K X : Type 0} (g : K → X) (ks : List K) → keys_of (map (λ (k : K). let entry : K × X = (k, g k) in entry) ks) ≡ ks
+keys_mapped g [] = refl
+keys_mapped g (k ∷ ks) = ap (λ t. k ∷ t) (keys_mapped g ks)
+
+fact_table_in_order : (fs : List Fact) → IsTable (fact_table fs)
+fact_table_in_order fs =
+    let columns : Row = ascending text_cmp (filter_map column_of fs) in
+    let keys : List Row = ascending row_cmp (map (λ (f : Fact). f.key) fs) in
+    record {
+      columns = ascending_ascends text_cmp nat_list_cmp_total (filter_map column_of fs);
+      keys = subst (IsStrictlySortedBy row_cmp) (sym (keys_mapped (λ (key : Row). map (value_for fs key) columns) keys)) (ascending_ascends row_cmp (lists_total nat_list_cmp_total) (map (λ (f : Fact). f.key) fs));
+      cells = all_mapped (λ (r : Row × Row). length r.1 ≡ length columns) (λ (key : Row). (key, map (value_for fs key) columns)) keys (λ key. length-map columns (value_for fs key));
+    }
+
+tables_in_order : (shape : Shape) (fs : List Fact) → AreTables (tables shape fs)
+unfolding tables
+tables_in_order shape fs =
+    let labels : List Text = option_to_list shape.label ++ map (λ (f : Fact). f.label) fs in
+    record {
+      labels = subst (IsStrictlySortedBy text_cmp) (sym (keys_mapped (λ (label : Text). fact_table (facts_of label fs)) (ascending text_cmp labels))) (ascending_ascends text_cmp nat_list_cmp_total labels);
+      tables = all_mapped (λ (p : Text × TableValue). IsTable p.1) (λ (label : Text). (label, fact_table (facts_of label fs))) (ascending text_cmp labels) (λ label. fact_table_in_order (facts_of label fs));
+    }
+
+pub meaning_in_order : (c : CatalogueValue) (q : Query) → AreTables (meaning c q)
+unfolding meaning
+meaning_in_order c q = tables_in_order (shape_of q) (facts c q)
+
+-- the files of a view's tables
+pub are_view_files : (c : CatalogueValue) (q : Query) → AreViewFiles (files_of_view c q)
+unfolding files_of_view
+are_view_files c q = tables_files (shape_of q) (meaning c q) (meaning_in_order c q)
 
 -- each key of the facts has a text
 key_of_fact : (q : Query) (v : Valuation) → q.keys ≢ [] → (fact_of q v).key ≢ []

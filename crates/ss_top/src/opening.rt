@@ -20,7 +20,6 @@ use schema_model::Catalogue;
 use ss_print::{clash_fields, illegal_fields};
 use ss_text::{NoMemory, Row, Text};
 use std::alloc::Global;
-use view_folder::folder_of_view;
 use view_session::{OpenFault, Session};
 
 /// What an opening gives: an open view, or the end of the run.
@@ -120,10 +119,10 @@ fn view_over(
 ) -> Result<Viewing, NoMemory>
     ensures { IfOk result (λ r. Views r (query_of definition.view.value) catalogue (refusal_of catalogue (query_of definition.view.value))) }
 {
-    let folder = folder_of_view(alloc, &definition.view.view_db)?;
+    let view_db = definition.view.view_db.copy()?;
     match Session::open(alloc, catalogue, definition.view) {
         Ok(session) => {
-            let view = OpenView::of(alloc, session, folder)?;
+            let view = OpenView::of(alloc, session, view_db)?;
             Ok(Viewing::View(view))
         }
         Err(fault) => {

@@ -1,19 +1,16 @@
 //! The tables of a view.
-ghost use Rattle.std.specs.Prelude.{◌≡◌, ◌≢◌, [], IfOk};
+ghost use Rattle.std.specs.Prelude.{IfOk};
 ghost use Rattle.view_def.specs.Query.{query_of};
-ghost use Rattle.valuation_meaning.specs.Meaning.{shape_of, constant_label};
-ghost use Rattle.view_folder.specs.TableFiles.{FitShape};
 ghost use Rattle.ss_top.specs.Stages.{refusal_of, files_of_view};
 ghost use Rattle.ss_top.specs.Steps.{Shows};
 ghost use Rattle.ss_top.specs.Records.{HasRecords};
 
-use flow_law::Shape;
 use schema_model::Catalogue;
 use ss_print::{clash_fields, illegal_fields};
-use ss_text::{NoMemory, Row, Text};
+use ss_text::{NoMemory, Row};
 use std::alloc::Global;
-use valuation_meaning::{EvalFault, evaluate};
-use view_def::{Place, View};
+use valuation_meaning::{EvalFault, evaluate, shape_of};
+use view_def::View;
 use view_folder::{File, table_files};
 
 /// What a view gives over a catalogue: the files of its tables, or a refusal with these fields.
@@ -48,26 +45,5 @@ pub(crate) fn show_tables(
             Ok(Showing::Refused(fields))
         }
         Err(EvalFault::NoMemory) => Err(NoMemory),
-    }
-}
-
-// The form of a view's tables.
-fn shape_of(view: &View) -> Result<Shape, NoMemory>
-    ensures { IfOk result (λ shape. shape ≡ shape_of (query_of view.now)) }
-{
-    Ok(Shape {
-        label: constant_label(&view.label)?,
-        constants: view.constants.copy()?,
-        spot: view.spot,
-    })
-}
-
-// The label that all facts of a view have, if it is constant.
-fn constant_label(label: &Place) -> Result<Option<Text>, NoMemory>
-    ensures { IfOk result (λ text. text ≡ constant_label label.now) }
-{
-    match label {
-        Place::Fixed(text) => Ok(Some(text.copy()?)),
-        Place::Var(_) => Ok(None),
     }
 }

@@ -23,7 +23,11 @@ use ss_text::{Steps, Text};
 use std::alloc::Global;
 use std::sync::ledger::Ledger;
 
-/// Runs the command that the words ask for.
+/// Runs the command that the words ask for, `check NAME`, `show NAME`, `maintain NAME` or `verify NAME`, over the
+/// folders `defs`, `sources` and `views` of a store. What is answered and what is refused are lines of the output.
+///
+/// The status says which kind of end it was. After a fault each file is as before or as the command makes it, but for
+/// the one that was being written, and the output holds a front of the answers. No step is counted.
 #[tactic(auto, using(crate::proofs::RunLemmas::by_status, crate::proofs::RunLemmas::by_cause))]
 pub fn run<F: Folders, S: Source, K: Sink, L: Ledger>(
     alloc: Global,

@@ -36,7 +36,7 @@ use ss_text::{NoMemory, Row, Text};
 use std::alloc::Global;
 use std::marker::Model;
 use tab_lines::{LineFault, read_line};
-use view_folder::{sync, sync_opening, table_files};
+use view_folder::{sync, sync_all};
 use view_session::{Refused, Session};
 
 /// An opened view, which contracts see as the view over its catalogue, the labels of its tables at the last
@@ -44,7 +44,7 @@ use view_session::{Refused, Session};
 #[derive(Drop)]
 pub(crate) struct OpenView {
     session: Session,
-    folder: Text,
+    view_db: Text,
     synced: Vec<Text>,
     some_refused: bool,
     ghost records: { HasRecords session.query },
@@ -52,7 +52,6 @@ pub(crate) struct OpenView {
 
 impl Model for OpenView {
     ghost use Rattle.std.specs.Prelude.{◌≡◌};
-    ghost use Rattle.view_folder.specs.Files.{view_folder};
     ghost use Rattle.ss_top.specs.Open.{OpenValue};
     ghost use Rattle.std.specs.Coded.{Coded, codes};
     ghost use Rattle.view_session.specs.ConditionCode.{Mark, condition_code};
@@ -63,7 +62,7 @@ impl Model for OpenView {
 
     ghost view = { λ v. record { session = v.session; synced = v.synced.items; refused = v.some_refused } };
 
-    ghost invariant = { λ v. v.folder ≡ view_folder v.session.query.view_db };
+    ghost invariant = { λ v. v.view_db ≡ v.session.query.view_db };
 }
 
 // The labels of tables, ascending.
@@ -89,21 +88,20 @@ fn is_sync(row: &Row) -> bool
 
 impl OpenView {
     ghost use Rattle.std.specs.Prelude.{◌≡◌, IfOk};
-    ghost use Rattle.view_folder.specs.Files.{view_folder};
     ghost use Rattle.view_session.specs.Session.{SessionState, opened};
     ghost use Rattle.ss_top.specs.Open.{just_opened};
 
-    // The view that was just opened, whose files are in this folder.
-    pub(crate) fn of(alloc: Global, session: Session, folder: Text) -> Result<OpenView, NoMemory>
+    // The view that was just opened, of this view database.
+    pub(crate) fn of(alloc: Global, session: Session, view_db: Text) -> Result<OpenView, NoMemory>
         requires new { session ≡ opened session.query session.catalogue }
-        requires folder { folder ≡ view_folder session.query.view_db }
+        requires view_db { view_db ≡ session.query.view_db }
         requires records { HasRecords session.query }
         ensures { IfOk result (λ view. view ≡ just_opened session.query session.catalogue) }
     {
         let synced = labels_of(alloc, session.tables())?;
         Ok(OpenView {
             session,
-            folder,
+            view_db,
             synced,
             some_refused: false,
         })
@@ -120,8 +118,14 @@ impl OpenView {
         ensures does { (t : Tree) → (F.state store.old).tree ≡ Some t → Does (opening_effects (view_folder self.now.session.query.view_db) (files_of_view self.now.session.catalogue self.now.session.query) (files_of t (view_folder self.now.session.query.view_db))) (F.state store.old, K.state output.old) (F.state store.new, K.state output.new) result }
         ensures blames { Blames (F.state store.old, K.state output.old) (F.state store.new, K.state output.new) result }
     {
-        let files = table_files(alloc, self.session.tables(), self.session.shape())?;
-        let count = sync_opening(alloc, store, &self.folder, &files)?;
+        let session = &self.session;
+        let count = sync_all(
+            alloc,
+            store,
+            &self.view_db,
+            session.shape(),
+            session.tables(),
+        )?;
         tell_synced(alloc, output, count)?;
         Ok(())
     }
@@ -185,7 +189,7 @@ impl OpenView {
         sync(
             alloc,
             store,
-            &self.folder,
+            &self.view_db,
             session.shape(),
             session.tables(),
             session.changed_labels(),

@@ -20,7 +20,7 @@ use Rattle.outside.proofs.PlaceLemmas.{place_total, place_exact, names_ascend}
 use Rattle.effects.specs.Effects.{Stored, performed, writing, removing}
 use Rattle.effects.proofs.EffectLemmas.{performed_append}
 use Rattle.view_folder.specs.declared.file.File.{File}
-use Rattle.view_folder.specs.Files.{is_named, bytes_in, is_csv_name, other_names, AreViewFiles}
+use Rattle.view_folder.specs.Files.{is_named, bytes_in, is_csv_name, other_names, AreViewFiles, Apart, AreThere}
 use Rattle.view_folder.specs.Sync.{written, removed, opening_sync, opening_count, HoldsExactly}
 
 -- places in one folder tie where their names are the same
@@ -51,7 +51,7 @@ pub remove_others : (d k : Text) (s : Stored) (p : Place) → p.0 ≢ d → map.
 remove_others d k s p ne = map.get-remove place_total s.tree.files (d, k) p ∙ ap (λ b. cond b None (map.get s.tree.files p)) (other_folder p d k ne)
 
 -- after these files were written
-abbrev wrote : Text → List File → Stored → Stored
+abbrev pub wrote : Text → List File → Stored → Stored
 wrote d [] s = s
 wrote d (f ∷ fs) s = wrote d fs (writing d f.name f.bytes s)
 
@@ -60,7 +60,7 @@ abbrev cleared : Text → List Text → Stored → Stored
 cleared d [] s = s
 cleared d (n ∷ ns) s = cleared d ns (removing d n s)
 
-performed_written : (d : Text) (fs : List File) (s : Stored) (h : Option (List ℕ)) → performed (written d fs) (record { stored = Some s; held = h }) ≡ record { stored = Some (wrote d fs s); held = h }
+pub performed_written : (d : Text) (fs : List File) (s : Stored) (h : Option (List ℕ)) → performed (written d fs) (record { stored = Some s; held = h }) ≡ record { stored = Some (wrote d fs s); held = h }
 performed_written d [] s h = refl
 performed_written d (f ∷ fs) s h = performed_written d fs (writing d f.name f.bytes s) h
 
@@ -135,11 +135,6 @@ named_there d q (p ∷ ps) =
 pub there : (t : Tree) (d q : Text) → is_in q (files_of t d) ≡ is_some (file_at t d q)
 there t d q = named_there d q (map.keys t.files) ∙ sym (map.contains_key-keys t.files (d, q))
 
--- each text once
-abbrev pub Apart : List Text → Type 0
-Apart [] = Unit {0}
-Apart (n ∷ ns) = (is_in n ns ≡ false) × Apart ns
-
 below_apart : (n : Text) (ns : List Text) → AllByRecursion (λ y. text_cmp n y ≡ Less) ns → is_in n ns ≡ false
 below_apart n [] h = refl
 below_apart n (m ∷ ms) h = rw (texts_ties n m, h.0, below_apart n ms h.1) refl
@@ -201,21 +196,22 @@ each_among P (n ∷ ns) h = (h n (rw ((bytes_eq-Decides n n).1 refl) refl), each
     later : (q : Text) → is_in q ns ≡ true → (text_eq q n || is_in q ns) ≡ true
     later q e = or_right (text_eq q n) (is_in q ns) e
 
-or_false : (a b : Bool) → (a || b) ≡ false → (a ≡ false) × (b ≡ false)
+pub or_false : (a b : Bool) → (a || b) ≡ false → (a ≡ false) × (b ≡ false)
 or_false true b e = absurd (cc)
 or_false false b e = (refl, e)
 
-removed_count : (d : Text) (ns : List Text) (s : Stored) → Apart ns → AllByRecursion (λ n. is_some (file_at s.tree d n) ≡ true) ns → (cleared d ns s).writes ≡ risen s.writes (length ns)
+-- the other files are there still when one was removed
+pub still_there : (d n : Text) (s : Stored) (ms : List Text) → is_in n ms ≡ false → AreThere d ms s.tree → AreThere d ms (removing d n s).tree
+still_there d n s [] e h = tt
+still_there d n s (m ∷ ms) e h =
+    let parts = or_false (text_eq n m) (is_in n ms) e in
+    let gone : map.get (map.remove s.tree.files (d, n)) (d, m) ≡ file_at s.tree d m = remove_at d n s m ∙ ap (λ b. cond b None (file_at s.tree d m)) (same_text m n ∙ parts.0) in
+    (ap is_some gone ∙ h.0, still_there d n s ms parts.1 h.1)
+
+removed_count : (d : Text) (ns : List Text) (s : Stored) → Apart ns → AreThere d ns s.tree → (cleared d ns s).writes ≡ risen s.writes (length ns)
 removed_count d [] s a h = omega arith
 removed_count d (n ∷ ns) s a h =
-    removed_count d ns (removing d n s) a.1 (still ns a.0 h.1) ∙ ap (λ w. risen w (length ns)) (ap (λ b. cond b (risen s.writes 1) s.writes) h.0) ∙ twice s.writes (length ns)
-  where
-    still : (ms : List Text) → is_in n ms ≡ false → AllByRecursion (λ m. is_some (file_at s.tree d m) ≡ true) ms → AllByRecursion (λ m. is_some (file_at (removing d n s).tree d m) ≡ true) ms
-    still [] e h = tt
-    still (m ∷ ms) e h =
-        let parts = or_false (text_eq n m) (is_in n ms) e in
-        let gone : map.get (map.remove s.tree.files (d, n)) (d, m) ≡ file_at s.tree d m = remove_at d n s m ∙ ap (λ b. cond b None (file_at s.tree d m)) (same_text m n ∙ parts.0) in
-        (ap is_some gone ∙ h.0, still ms parts.1 h.1)
+    removed_count d ns (removing d n s) a.1 (still_there d n s ns a.0 h.1) ∙ ap (λ w. risen w (length ns)) (ap (λ b. cond b (risen s.writes 1) s.writes) h.0) ∙ twice s.writes (length ns)
 
 less : (o : Ordering) → is_lt o ≡ true → o ≡ Less
 less Less h = refl
@@ -290,8 +286,8 @@ module _ (d : Text) (fs : List File) (s : Stored) (h : AreViewFiles fs) where
       cases true e = told (bytes_in fs q) (file_at s.tree d q) (one_named fs q e)
       cases false e = untold (bytes_in fs q) (file_at s.tree d q) (none_named fs q e)
 
-  no_tables_hold : (q : Text) → is_csv_name q ≢ true → file_at now.tree d q ≡ file_at s.tree d q
-  no_tables_hold q ne =
+  others_stay : (q : Text) → is_csv_name q ≢ true → file_at now.tree d q ≡ file_at s.tree d q
+  others_stay q ne =
       let no_csv = false_from_ne_true (is_csv_name q) ne in
       left_at q ∙ ap (λ b. cond (b && not (is_named fs q) && is_some (file_at s.tree d q)) None (option_or (bytes_in fs q) (file_at s.tree d q))) no_csv
       ∙ ap (λ o. option_or o (file_at s.tree d q)) (none_named fs q (csv_named fs q h no_csv))
@@ -299,11 +295,11 @@ module _ (d : Text) (fs : List File) (s : Stored) (h : AreViewFiles fs) where
   pub holds_exactly : HoldsExactly d fs s.tree now.tree
   holds_exactly = record {
     tables = tables_hold;
-    no_table = no_tables_hold;
+    not_csv = others_stay;
     others = λ p ne. removed_others d others (wrote d fs s) p ne ∙ written_others d fs s p ne;
   }
 
-  each_there : AllByRecursion (λ n. is_some (file_at (wrote d fs s).tree d n) ≡ true) others
+  pub each_there : AreThere d others (wrote d fs s).tree
   each_there = each_among (λ n. is_some (file_at (wrote d fs s).tree d n) ≡ true) others (λ q e.
       let among = and_parts (is_csv_name q && not (is_named fs q)) (is_in q (files_of s.tree d)) (sym (in_filter (λ n. is_csv_name n && not (is_named fs n)) q (files_of s.tree d)) ∙ e) in
       let unnamed = not_true (is_named fs q) (and_parts (is_csv_name q) (not (is_named fs q)) among.0).1 in
@@ -313,9 +309,12 @@ module _ (d : Text) (fs : List File) (s : Stored) (h : AreViewFiles fs) where
       not_true true e = absurd (cc)
       not_true false e = refl
 
+  pub others_apart : Apart others
+  others_apart = apart_filter (λ n. is_csv_name n && not (is_named fs n)) (files_of s.tree d) (apart_files s.tree d)
+
   pub counted : now.writes ≡ risen s.writes (opening_count fs (files_of s.tree d))
   counted =
-      removed_count d others (wrote d fs s) (apart_filter (λ n. is_csv_name n && not (is_named fs n)) (files_of s.tree d) (apart_files s.tree d)) each_there
+      removed_count d others (wrote d fs s) others_apart each_there
       ∙ ap (λ w. risen w (length others)) (written_count d fs s) ∙ joined s.writes (length fs) (length others)
     where
       joined : (w m n : ℕ) → risen (risen w m) n ≡ risen w (m + n)

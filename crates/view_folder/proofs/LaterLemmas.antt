@@ -1,6 +1,6 @@
 -- What is in a folder after the later sync.
-use Rattle.std.proofs.Common.{◌≡◌, ◌≢◌, ◌+◌, ◌-◌, ◌<◌, ◌≤◌, ◌∙◌, ℕ, suc, Bool, true, false, cond, List, [], ◌∷◌, ◌++◌, map as each, filter, length, take, drop, get_or, Option, None, Some, is_some, Result, refl, sym, ap, subst, arith, length-append, add-one, drop-cons}
-use Rattle.std.specs.Prelude.{◌||◌, codes, option_map, unwrap_or}
+use Rattle.std.proofs.Common.{◌≡◌, ◌≢◌, ◌+◌, ◌-◌, ◌<◌, ◌≤◌, ◌∙◌, ℕ, suc, Bool, true, false, cond, List, [], ◌∷◌, ◌++◌, map as each, filter, length, take, drop, get_or, Option, None, Some, is_some, Result, Ok, Err, refl, sym, ap, subst, arith, length-append, add-one, drop-cons}
+use Rattle.std.specs.Prelude.{◌||◌, codes, option_map, unwrap_or, IfOk}
 use Rattle.std.specs.FinMap as map
 use Rattle.std.specs.Option.{option_map_or}
 use Rattle.std.specs.Int.{from_bool}
@@ -17,10 +17,10 @@ use Rattle.effects.specs.Effects.{World, Does, Effect, Write, Remove, Stored, Co
 use Rattle.outside.specs.States.{StoreState, SinkState}
 use Rattle.flow_law.specs.declared.shape.Shape.{Shape}
 use Rattle.flow_law.specs.Tables.{TableValue, TablesValue, table_of, labels_of}
-use Rattle.view_folder.specs.Files.{bytes_in, is_csv_name, file_name}
+use Rattle.view_folder.specs.Files.{bytes_in, is_csv_name, file_name, Apart}
 use Rattle.view_folder.specs.TableFiles.{table_text, table_file, table_files, FitsShape, FitShape}
-use Rattle.view_folder.specs.Sync.{Holds, HoldsExactly, label_synced, later_sync, is_counted, later_count}
-use Rattle.view_folder.proofs.FolderLemmas.{Apart, apart_sorted, write_at, write_others, remove_at, remove_others}
+use Rattle.view_folder.specs.Sync.{Holds, HoldsExactly, HoldsNamed, label_synced, later_sync, is_counted, later_count}
+use Rattle.view_folder.proofs.FolderLemmas.{apart_sorted, or_false, write_at, write_others, remove_at, remove_others}
 
 -- a label's file ends in `.csv`
 pub file_name_csv : (l : Text) → is_csv_name (file_name l) ≡ true
@@ -34,7 +34,7 @@ named_csv : (q : Text) → is_csv_name q ≡ true → q ≡ file_name (take (len
 named_csv q h = sym (take-append-drop (length q - 4) q) ∙ ap (λ (x : Text). take (length q - 4) q ++ x) (equal_is text_order (drop (length q - 4) q) (codes ".csv") h)
 
 -- two labels have one file where they are the same
-same_file : (l m : Text) → text_eq (file_name l) (file_name m) ≡ text_eq l m
+pub same_file : (l m : Text) → text_eq (file_name l) (file_name m) ≡ text_eq l m
 same_file l m = by_case (text_eq l m) refl
   where
     by_case : (b : Bool) → text_eq l m ≡ b → text_eq (file_name l) (file_name m) ≡ b
@@ -46,6 +46,10 @@ same_file l m = by_case (text_eq l m) refl
 -- a name that does not end in `.csv` is no label's file
 no_file : (q m : Text) → is_csv_name q ≡ false → text_eq q (file_name m) ≡ false
 no_file q m h = false_from_ne_true _ (λ e. false≢true (sym h ∙ ap is_csv_name (equal_is text_order q (file_name m) e) ∙ file_name_csv m))
+
+no_files : (q : Text) (ms : List Text) → is_csv_name q ≡ false → is_in q (each file_name ms) ≡ false
+no_files q [] h = refl
+no_files q (m ∷ ms) h = rw (no_file q m h, no_files q ms h) refl
 
 -- what the files of tables hold under a label's file
 bytes_of_label : (shape : Shape) (ts : TablesValue) (l : Text) → bytes_in (table_files shape ts) (file_name l) ≡ option_map (table_text shape) (table_of ts l)
@@ -146,9 +150,11 @@ module _ (d : Text) (shape : Shape) (ts : TablesValue) where
       either true e = same_twice (is_in l ms) _ _ (ap (λ (x : Text). option_map (table_text shape) (table_of ts x)) (equal_is text_order l m e))
       either false e = refl
 
-  labels_unnamed : (ls : List Text) (q : Text) (s : Stored) → is_csv_name q ≡ false → file_at (after_labels ls s).tree d q ≡ file_at s.tree d q
+  labels_unnamed : (ls : List Text) (q : Text) (s : Stored) → is_in q (each file_name ls) ≡ false → file_at (after_labels ls s).tree d q ≡ file_at s.tree d q
   labels_unnamed [] q s h = refl
-  labels_unnamed (m ∷ ms) q s h = labels_unnamed ms q (after_label m s) h ∙ label_at m q s ∙ ap (λ b. cond b (option_map (table_text shape) (table_of ts m)) (file_at s.tree d q)) (no_file q m h)
+  labels_unnamed (m ∷ ms) q s h =
+      let parts = or_false (text_eq q (file_name m)) (is_in q (each file_name ms)) h in
+      labels_unnamed ms q (after_label m s) parts.1 ∙ label_at m q s ∙ ap (λ b. cond b (option_map (table_text shape) (table_of ts m)) (file_at s.tree d q)) parts.0
 
   labels_others : (ls : List Text) (s : Stored) (p : Place) → p.0 ≢ d → map.get (after_labels ls s).tree.files p ≡ map.get s.tree.files p
   labels_others [] s p ne = refl
@@ -196,12 +202,41 @@ module _ (d : Text) (shape : Shape) (ts : TablesValue) where
   pub counted_later : (ls : List Text) (s : Stored) → Apart ls → counted_in ls s ≡ later_count d ts ls s.tree
   counted_later ls s a = counted_once ls s s a (λ q among. refl)
 
-drop_at : (xs : List Text) (i : ℕ) (x : Text) → i < length xs → x ≡ get_or xs i x → drop i xs ≡ x ∷ drop (i + 1) xs
+pub drop_at : (xs : List Text) (i : ℕ) (x : Text) → i < length xs → x ≡ get_or xs i x → drop i xs ≡ x ∷ drop (i + 1) xs
 drop_at xs i x lt is = rw (add-one, drop-cons xs i x) (ap (λ y. y ∷ drop (suc i) xs) (sym is))
 
-tree_of : (o : Option Tree) (n : ℕ) (s : Stored) → stored_of o n ≡ Some s → o ≡ Some s.tree
+pub tree_of : (o : Option Tree) (n : ℕ) (s : Stored) → stored_of o n ≡ Some s → o ≡ Some s.tree
 tree_of None n s h = absurd (cc)
 tree_of (Some t) n s h = ap (option_map (λ (u : Stored). u.tree)) h
+
+-- where all of it was done, the files of these labels are those of their tables, and all others stay
+pub named_held : (d : Text) (shape : Shape) (ts : TablesValue) (ls : List Text) (old new : StoreState) (o : SinkState) (t u : Tree) → old.tree ≡ Some t → new.tree ≡ Some u
+    → contents (new, o) ≡ performed (later_sync d shape ts ls) (contents (old, o)) → HoldsNamed d shape ts ls t u
+unfolding contents
+named_held d shape ts ls old new o t u was is did =
+    let s : Stored = record { tree = t; writes = old.writes } in
+    let last : Stored = after_labels d shape ts ls s in
+    let done : stored_of new.tree new.writes ≡ Some last =
+    ap (λ (c : Contents). c.stored) (did ∙ ap (λ (tree : Option Tree). performed (later_sync d shape ts ls) (record { stored = stored_of tree old.writes; held = o.held })) was ∙ labels_done d shape ts ls s o.held) in
+    let same : last.tree ≡ u = ap (λ (tree : Option Tree). unwrap_or tree u) (sym (tree_of new.tree new.writes last done) ∙ is) in
+    subst (HoldsNamed d shape ts ls t) same (record {
+      named = λ l among. labels_at d shape ts ls l s ∙ ap (λ b. cond b (option_map (table_text shape) (table_of ts l)) (file_at t d (file_name l))) among;
+      unnamed = λ q apart. labels_unnamed d shape ts ls q s apart;
+      others = λ p ne. labels_others d shape ts ls s p ne;
+    })
+
+-- an output of which nothing is said
+abbrev pub nothing_held : SinkState
+nothing_held = record { held = None; faults = 0 }
+
+pub named_hold : (d : Text) (shape : Shape) (ts : TablesValue) (ls : List Text) (old new : StoreState) (r : Result ℕ Stop) → ((o : SinkState) → Does (later_sync d shape ts ls) (old, o) (new, o) r)
+    → IfOk r (λ _. (t u : Tree) → old.tree ≡ Some t → new.tree ≡ Some u → HoldsNamed d shape ts ls t u)
+named_hold d shape ts ls old new (Ok n) does = λ t u was is. named_held d shape ts ls old new nothing_held t u was is (does nothing_held)
+named_hold d shape ts ls old new (Err e) does = tt
+
+-- the same sync under equal names
+pub does_named : {A : Type 0} (d e : Text) (shape : Shape) (ts : TablesValue) (ls : List Text) (w v : World) (r : Result A Stop) → d ≡ e → Does (later_sync d shape ts ls) w v r → Does (later_sync e shape ts ls) w v r
+does_named d e shape ts ls w v r p h = subst (λ (x : Text). Does (later_sync x shape ts ls) w v r) p h
 
 -- the counts after one more label
 pub counted_more : (w mid new n m : ℕ) (b : Bool) → new ≡ cond b (risen mid 1) mid → mid ≡ risen w n → m ≡ from_bool b → new ≡ risen w (n + m)
@@ -263,7 +298,7 @@ module _ (d : Text) (shape : Shape) (before now : TablesValue) (ls : List Text) 
     pub later_holds : ((l : Text) → is_in l ls ≡ false → table_of before l ≡ table_of now l) → HoldsExactly d (table_files shape now) s.tree later.tree
     later_holds rest = record {
       tables = tables;
-      no_table = λ q ne. labels_unnamed d shape now ls q s (false_from_ne_true (is_csv_name q) ne);
+      not_csv = λ q ne. labels_unnamed d shape now ls q s (no_files q ls (false_from_ne_true (is_csv_name q) ne));
       others = λ p ne. labels_others d shape now ls s p ne;
     }
       where

@@ -2,3 +2,4 @@ pub mod FolderLemmas
 pub mod TableFileLemmas
 pub mod ComparisonLemmas
 pub mod LaterLemmas
+pub mod OpeningLemmas

@@ -1,7 +1,8 @@
 -- The files of a view folder.
-use Rattle.std.specs.Prelude.{◌≡◌, true, false, ◌-◌, Bool, ◌&&◌, not, List, [], ◌∷◌, ◌++◌, filter, drop, length, Option, None, Some, if◌then◌else◌, codes}
-use Rattle.ss_text.specs.Texts.{Text, text_eq}
-use Rattle.std.specs.List.{list_any}
+use Rattle.std.specs.Prelude.{◌≡◌, true, false, ◌-◌, Bool, ◌&&◌, not, List, [], ◌∷◌, ◌++◌, filter, drop, length, Option, None, Some, is_some, if◌then◌else◌, codes}
+use Rattle.ss_text.specs.Texts.{Text, text_eq, is_in}
+use Rattle.std.specs.List.{list_any, AllByRecursion}
+use Rattle.outside.specs.Tree.{Tree, file_at}
 use Rattle.view_folder.specs.declared.file.File.{File}
 
 -- whether a file has this name
@@ -29,6 +30,15 @@ other_names files names = filter (λ name. is_csv_name name && not (is_named fil
 abbrev pub AreViewFiles : List File → Type 0
 AreViewFiles [] = Unit {0}
 AreViewFiles (f ∷ fs) = (is_csv_name f.name ≡ true) × (is_named fs f.name ≡ false) × AreViewFiles fs
+
+-- texts that stand once each
+abbrev pub Apart : List Text → Type 0
+Apart [] = Unit {0}
+Apart (n ∷ ns) = (is_in n ns ≡ false) × Apart ns
+
+-- each of these files is there
+abbrev pub AreThere : Text → List Text → Tree → Type 0
+AreThere folder names t = AllByRecursion (λ name. is_some (file_at t folder name) ≡ true) names
 
 -- the name of the file of a label
 abbrev pub file_name : Text → Text

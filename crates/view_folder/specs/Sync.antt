@@ -1,8 +1,8 @@
 -- The syncs of a view folder: what they do, and what is there after them.
-use Rattle.std.specs.Prelude.{◌≡◌, ◌≢◌, ℕ, ◌+◌, Bool, true, ◌||◌, is_some, List, ◌++◌, map, filter, length}
+use Rattle.std.specs.Prelude.{◌≡◌, ◌≢◌, ℕ, ◌+◌, Bool, true, false, ◌||◌, is_some, List, ◌++◌, map, filter, length, option_map}
 use Rattle.std.specs.Option.{option_map_or}
 use Rattle.std.specs.FinMap as map_of
-use Rattle.ss_text.specs.Texts.{Text}
+use Rattle.ss_text.specs.Texts.{Text, is_in}
 use Rattle.outside.specs.Tree.{Tree, Place, file_at}
 use Rattle.effects.specs.Effects.{Effect, Write, Remove}
 use Rattle.flow_law.specs.declared.shape.Shape.{Shape}
@@ -50,5 +50,11 @@ Holds folder files t = (name : Text) → is_csv_name name ≡ true → file_at t
 -- that, and every other file is as it was
 pub record HoldsExactly (folder : Text) (files : List File) (old new : Tree) : Type 0 where
   pub tables : Holds folder files new
-  pub no_table : (name : Text) → is_csv_name name ≢ true → file_at new folder name ≡ file_at old folder name
+  pub not_csv : (name : Text) → is_csv_name name ≢ true → file_at new folder name ≡ file_at old folder name
+  pub others : (p : Place) → p.0 ≢ folder → map_of.get new.files p ≡ map_of.get old.files p
+
+-- in the folder the files of these labels are those of their tables, and every other file is as it was
+pub record HoldsNamed (folder : Text) (shape : Shape) (tables : TablesValue) (labels : List Text) (old new : Tree) : Type 0 where
+  pub named : (label : Text) → is_in label labels ≡ true → file_at new folder (file_name label) ≡ option_map (table_text shape) (table_of tables label)
+  pub unnamed : (name : Text) → is_in name (map file_name labels) ≡ false → file_at new folder name ≡ file_at old folder name
   pub others : (p : Place) → p.0 ≢ folder → map_of.get new.files p ≡ map_of.get old.files p

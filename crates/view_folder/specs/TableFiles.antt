@@ -27,7 +27,7 @@ table_file shape p = record { name = file_name p.0; bytes = table_text shape p.1
 unfoldable pub table_files : Shape → TablesValue → List File
 table_files shape ts = map (table_file shape) ts
 
--- a table whose records have a field: there is a constant column, and each key has as many texts
+-- a table whose records have a field: there is a constant column, and each key has a text
 pub record FitsShape (shape : Shape) (t : TableValue) : Type 0 where
   pub some : shape.constants ≢ []
   pub keys : AllByRecursion (λ (r : Row × Row). r.0 ≢ []) t.rows

@@ -6,10 +6,11 @@ ghost use Rattle.outside.specs.Counts.{risen};
 ghost use Rattle.outside.specs.Tree.{Tree};
 ghost use Rattle.effects.specs.Effects.{Does};
 ghost use Rattle.effects.specs.Blame.{StoreBlames};
+ghost use Rattle.view_folder.specs.Files.{view_folder};
 ghost use Rattle.view_folder.specs.TableFiles.{FitShape};
-ghost use Rattle.view_folder.specs.Sync.{label_synced, later_sync, is_counted, later_count};
+ghost use Rattle.view_folder.specs.Sync.{label_synced, later_sync, is_counted, later_count, HoldsNamed};
 
-use crate::file::file_name;
+use crate::file::{file_name, folder_of_view};
 use crate::table_file::table_text;
 use effects::{Stop, remove_file, write_file};
 use flow_law::{Shape, Tables};
@@ -17,10 +18,31 @@ use outside::Folders;
 use ss_text::Text;
 use std::alloc::Global;
 
-/// Syncs the files of these labels, in order: a label's file gets the text of its table, or is removed where the
-/// label has no table. Answers how many files were written, or were there and removed.
-#[tactic(auto, using(effects::proofs::EffectLemmas::each_stops, effects::proofs::EffectLemmas::each_ends, effects::proofs::EffectLemmas::doing_all))]
+/// Syncs the files of these labels in the folder of a view's database, in order: a label's file gets the text of its
+/// table, or is removed where the label has no table. Answers how many files were written, or were there and removed.
+#[tactic(auto, using(effects::proofs::EffectLemmas::nothing_yet))]
 pub fn sync<F: Folders>(
+    alloc: Global,
+    store: &mut F,
+    view_db: &Text,
+    shape: &Shape,
+    tables: &Tables,
+    labels: &[Text],
+) -> Result<usize, Stop>
+    requires { FitShape shape.now tables.now }
+    ensures does { (o : _) → Does (later_sync (view_folder view_db.now) shape.now tables.now labels.now) (F.state store.old, o) (F.state store.new, o) result }
+    ensures holds { IfOk result (λ _. (t u : Tree) → (F.state store.old).tree ≡ Some t → (F.state store.new).tree ≡ Some u → HoldsNamed (view_folder view_db.now) shape.now tables.now labels.now t u) }
+    ensures writes { IfOk result (λ n. (F.state store.new).writes ≡ risen ((F.state store.old).writes) n) }
+    ensures count { IfOk result (λ n. (t : Tree) → (F.state store.old).tree ≡ Some t → IsStrictlySortedBy text_cmp labels.now → n ≡ later_count (view_folder view_db.now) tables.now labels.now t) }
+    ensures blames { StoreBlames (F.state store.old) (F.state store.new) result }
+{
+    let folder = folder_of_view(alloc, view_db)?;
+    sync_labels(alloc, store, &folder, shape, tables, labels)
+}
+
+// Syncs the files of these labels in a folder, in order.
+#[tactic(auto, using(effects::proofs::EffectLemmas::each_stops, effects::proofs::EffectLemmas::each_ends, effects::proofs::EffectLemmas::doing_all))]
+fn sync_labels<F: Folders>(
     alloc: Global,
     store: &mut F,
     folder: &Text,

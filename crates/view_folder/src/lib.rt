@@ -1,8 +1,8 @@
 //! The files of a view folder.
 //!
-//! Its contract: after the opening sync the folder's `.csv` files are exactly those that are given, after a later
-//! sync those of the tables, and the comparison finds the least difference. It knows nothing of views, of tables'
-//! meaning or of source relations.
+//! Its contract: after the opening sync the folder's `.csv` files are exactly those of the tables, after a later sync
+//! those of the labels that are named are so and all others stay, and the comparison finds the least difference. It
+//! knows nothing of views, of tables' meaning or of source relations.
 #![tactic(auto)]
 
 mod comparison;
@@ -14,5 +14,5 @@ mod table_file;
 pub use comparison::{Comparison, compare};
 pub use file::{File, folder_of_view};
 pub use later::sync;
-pub use opening::sync_opening;
+pub use opening::sync_all;
 pub use table_file::{table_files, table_text};

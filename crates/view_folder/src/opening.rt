@@ -1,36 +1,64 @@
 //! The opening sync.
-ghost use Rattle.std.specs.Prelude.{◌≡◌, ◌+◌, ◌≤◌, ◌&&◌, not, List, ℕ, [], ◌∷◌, ◌++◌, length, Some, IfOk, map, filter};
+ghost use Rattle.std.specs.Prelude.{◌≡◌, ◌≤◌, ◌&&◌, not, length, Some, IfOk, filter};
+ghost use Rattle.outside.specs.Counts.{risen};
 ghost use Rattle.outside.specs.Tree.{Tree, files_of};
-ghost use Rattle.effects.specs.Effects.{Remove, Does};
+ghost use Rattle.effects.specs.Effects.{Does};
 ghost use Rattle.effects.specs.Blame.{StoreBlames};
-ghost use Rattle.view_folder.specs.Files.{is_named, is_csv_name, other_names};
-ghost use Rattle.view_folder.specs.Sync.{written, removed, opening_sync, opening_count};
+ghost use Rattle.view_folder.specs.Files.{is_named, is_csv_name, other_names, view_folder, AreViewFiles, Apart, AreThere};
+ghost use Rattle.view_folder.specs.TableFiles.{FitShape, table_files};
+ghost use Rattle.view_folder.specs.Sync.{written, removed, opening_sync, opening_count, HoldsExactly};
 
-use crate::File;
-use crate::file::is_csv_name;
+use crate::file::{File, folder_of_view, is_csv_name};
+use crate::table_file::table_files;
 use effects::{Stop, list_files, remove_file, write_file};
+use flow_law::{Shape, Tables};
 use outside::Folders;
 use ss_text::{NoMemory, Text};
 use std::alloc::Global;
 
-/// Writes these files in order, and then removes every other file of the folder whose name ends in
-/// `.csv`, ascending. Answers how many files were written or removed.
+/// Brings the folder of a view's database to exactly these tables: the file of each is written, in the order of their
+/// labels, and then every other file of the folder whose name ends in `.csv` is removed, ascending. Answers how
+/// many files were written, or were there and removed.
+#[tactic(auto, using(effects::proofs::EffectLemmas::nothing_yet))]
+pub fn sync_all<F: Folders>(
+    alloc: Global,
+    store: &mut F,
+    view_db: &Text,
+    shape: &Shape,
+    tables: &Tables,
+) -> Result<usize, Stop>
+    requires { FitShape shape.now tables.now }
+    ensures does { (o : _) (t : Tree) → (F.state store.old).tree ≡ Some t → Does (opening_sync (view_folder view_db.now) (table_files shape.now tables.now) (files_of t (view_folder view_db.now))) (F.state store.old, o) (F.state store.new, o) result }
+    ensures holds { IfOk result (λ _. (t u : Tree) → (F.state store.old).tree ≡ Some t → (F.state store.new).tree ≡ Some u → HoldsExactly (view_folder view_db.now) (table_files shape.now tables.now) t u) }
+    ensures count { IfOk result (λ n. (t : Tree) → (F.state store.old).tree ≡ Some t → n ≡ opening_count (table_files shape.now tables.now) (files_of t (view_folder view_db.now))) }
+    ensures writes { IfOk result (λ n. (F.state store.new).writes ≡ risen ((F.state store.old).writes) n) }
+    ensures blames { StoreBlames (F.state store.old) (F.state store.new) result }
+{
+    let folder = folder_of_view(alloc, view_db)?;
+    let files = table_files(alloc, tables, shape)?;
+    sync_files(alloc, store, &folder, &files)
+}
+
+// Writes these files in order, and then removes every other file of the folder whose name ends in `.csv`,
+// ascending. Answers how many files were written, or were there and removed.
 #[tactic(auto, using(effects::proofs::EffectLemmas::partly_more, effects::proofs::EffectLemmas::partly_later, effects::proofs::EffectLemmas::performed_append, effects::proofs::EffectLemmas::none_off, effects::proofs::EffectLemmas::nothing_yet))]
-pub fn sync_opening<F: Folders>(
+fn sync_files<F: Folders>(
     alloc: Global,
     store: &mut F,
     folder: &Text,
     files: &[File],
 ) -> Result<usize, Stop>
+    requires { AreViewFiles files.now }
     ensures does { (o : _) (t : Tree) → (F.state store.old).tree ≡ Some t → Does (opening_sync folder.now files.now (files_of t folder.now)) (F.state store.old, o) (F.state store.new, o) result }
     ensures count { IfOk result (λ n. (t : Tree) → (F.state store.old).tree ≡ Some t → n ≡ opening_count files.now (files_of t folder.now)) }
+    ensures writes { IfOk result (λ n. (F.state store.new).writes ≡ risen ((F.state store.old).writes) n) }
     ensures blames { StoreBlames (F.state store.old) (F.state store.new) result }
 {
     let names = list_files(alloc, store, folder)?;
     let others = others_among(alloc, files, names)?;
     write_files(alloc, store, folder, files)?;
-    remove_files(alloc, store, folder, &others)?;
-    Ok(files.len() + others.len())
+    let removed = remove_files(alloc, store, folder, &others)?;
+    Ok(files.len() + removed)
 }
 
 // Of these names, those that end in `.csv` and are no file's.
@@ -66,6 +94,7 @@ fn write_files<F: Folders>(
     files: &[File],
 ) -> Result<(), Stop>
     ensures does { (o : _) → Does (written folder.now files.now) (F.state store.old, o) (F.state store.new, o) result }
+    ensures writes { IfOk result (λ _. (F.state store.new).writes ≡ risen ((F.state store.old).writes) (length files.now)) }
     ensures blames { StoreBlames (F.state store.old) (F.state store.new) result }
 {
     for file in files {
@@ -74,19 +103,23 @@ fn write_files<F: Folders>(
     Ok(())
 }
 
-// Removes these files, in order.
+// Removes these files, in order, and answers how many were there.
 #[tactic(auto, using(effects::proofs::EffectLemmas::each_stops, effects::proofs::EffectLemmas::each_ends, effects::proofs::EffectLemmas::doing_all))]
 fn remove_files<F: Folders>(
     alloc: Global,
     store: &mut F,
     folder: &Text,
     names: &[Text],
-) -> Result<(), Stop>
+) -> Result<usize, Stop>
     ensures does { (o : _) → Does (removed folder.now names.now) (F.state store.old, o) (F.state store.new, o) result }
+    ensures each { IfOk result (λ n. (t : Tree) → (F.state store.old).tree ≡ Some t → Apart names.now → AreThere folder.now names.now t → n ≡ length names.now) }
+    ensures few { IfOk result (λ n. n ≤ length names.now) }
+    ensures writes { IfOk result (λ n. (F.state store.new).writes ≡ risen ((F.state store.old).writes) n) }
     ensures blames { StoreBlames (F.state store.old) (F.state store.new) result }
 {
+    let mut count = 0;
     for name in names {
-        remove_file(alloc, store, folder, name)?;
+        count += usize::from(remove_file(alloc, store, folder, name)?);
     }
-    Ok(())
+    Ok(count)
 }

@@ -1,7 +1,9 @@
 //! The file of a table.
-ghost use Rattle.std.specs.Prelude.{◌≡◌, ◌≢◌, ◌++◌, ◌<◌, [], IfOk, length, map, take, slice_index_or};
+ghost use Rattle.std.specs.Prelude.{◌≡◌, ◌≢◌, ◌++◌, ◌<◌, [], Some, IfOk, length, map, take, slice_index_or};
 ghost use Rattle.ss_text.specs.Texts.{Row};
+ghost use Rattle.csv_catalog.specs.RecordText.{record_text};
 ghost use Rattle.flow_law.specs.Tables.{row_at};
+ghost use Rattle.view_folder.specs.Files.{AreViewFiles};
 ghost use Rattle.view_folder.specs.TableFiles.{spliced, table_text, table_file, table_files, FitsShape, FitShape};
 
 use crate::File;
@@ -18,20 +20,22 @@ pub fn table_text(alloc: Global, table: &Table, shape: &Shape) -> Result<Text, N
     requires { FitsShape shape.now table.now }
     ensures { IfOk result (λ text. text ≡ table_text shape.now table.now) }
 {
-    let header = spliced(alloc, shape.spot, &shape.constants, table.columns())?;
-    let mut text = RecordsText::new(alloc).with(&header)?;
+    let columns = table.columns();
+    let text = RecordsText::new(alloc)?;
+    let mut text = with_record(alloc, text, shape.spot, &shape.constants, columns)?;
     for place in 0..table.count() {
-        let record = spliced(alloc, shape.spot, table.key(place), table.cells(place))?;
-        text = text.with(&record)?;
+        let key = table.key(place);
+        text = with_record(alloc, text, shape.spot, key, table.cells(place))?;
     }
     text.into_text()
 }
 
 /// The files of tables, in the order of their labels: a label and `.csv` is the name of its table's file.
-#[tactic(auto, unfolding(crate::specs::TableFiles::table_files))]
+#[tactic(auto, using(crate::proofs::OpeningLemmas::are_view_files), unfolding(crate::specs::TableFiles::table_files))]
 pub fn table_files(alloc: Global, tables: &Tables, shape: &Shape) -> Result<Vec<File>, NoMemory>
     requires { FitShape shape.now tables.now }
-    ensures { IfOk result (λ files. files.items ≡ table_files shape.now tables.now) }
+    ensures files { IfOk result (λ files. files.items ≡ table_files shape.now tables.now) }
+    ensures named { AreViewFiles (table_files shape.now tables.now) }
 {
     let mut files = Vec::new(alloc);
     for place in 0..tables.count() {
@@ -50,21 +54,31 @@ fn table_file(alloc: Global, label: &Text, table: &Table, shape: &Shape) -> Resu
     Ok(File { name, bytes })
 }
 
-// A record: the constant part, with the dynamic part behind as many of its texts as the spot says.
-fn spliced(
+// Adds a record: the constant part, with the dynamic part behind as many of its texts as the spot says.
+fn with_record(
     alloc: Global,
+    text: RecordsText,
     spot: Option<usize>,
     constant: &Row,
     dynamic: &[Text],
-) -> Result<Row, NoMemory>
-    ensures { IfOk result (λ row. row ≡ spliced spot constant.now dynamic.now) }
+) -> Result<RecordsText, NoMemory>
+    requires { spliced spot constant.now dynamic.now ≢ [] }
+    ensures { IfOk result (λ all. all ≡ text ++ record_text (spliced spot constant.now dynamic.now)) }
 {
     let Some(spot) = spot else {
-        return constant.copy();
+        return text.with(constant);
     };
+    let record = spliced(alloc, spot, constant, dynamic)?;
+    text.with(&record)
+}
+
+// The record whose dynamic part stands behind so many texts of its constant part.
+fn spliced(alloc: Global, spot: usize, constant: &Row, dynamic: &[Text]) -> Result<Row, NoMemory>
+    ensures { IfOk result (λ row. row ≡ spliced (Some spot) constant.now dynamic.now) }
+{
     let constant = constant.cells();
     let split = spot.min(constant.len());
-    let mut record = Vec::new(alloc);
+    let mut record = Vec::with_capacity(alloc, constant.len() + dynamic.len())?;
     append(&mut record, &constant[..split])?;
     append(&mut record, dynamic)?;
     append(&mut record, &constant[split..])?;

@@ -1,42 +1,11 @@
-use Rattle.std.proofs.Common.{ap, None, arith}
-use Rattle.outside.specs.States.{SinkState}
-use Rattle.effects.specs.Effects.{Stored, stored_of}
-use Rattle.effects.proofs.EffectLemmas.{each_done, doing_all}
-use Rattle.view_folder.specs.Sync.{label_synced}
-use Rattle.view_folder.proofs.LaterLemmas.{counting_starts, counting_more, counting_done, counted_more, few_more}
+use Rattle.view_folder.specs.Files.{view_folder}
+use Rattle.view_folder.proofs.LaterLemmas.{does_named, named_hold}
 use Rattle.view_folder.proofs.later.sync.Goals as goal
 
-pub loop-label-init : goal.loop-label-init
-loop-label-init g c = record {
-  doing = λ o. doing_all _ _;
-  counting = λ s h. counting_starts c.args.folder.now c.args.shape.now c.args.tables.now c.args.labels.now s _ h;
-  counted = omega arith;
-  few = omega arith;
-  reads = omega arith;
-  writes = omega arith;
-}
+pub returns-clause-does : goal.returns-clause-does
+returns-clause-does g c = λ o. does_named _ _ c.args.shape.now c.args.tables.now c.args.labels.now _ _ _ c.in_ok-folder.ensures (c.sync_labels.ensures.does o)
 
-pub loop-label-preserved : goal.loop-label-preserved
-loop-label-preserved g c =
-    let so_far = c.loop-label.invariant in
-    let did = c.in_ok-sync_label.ensures in
-    let sink : SinkState = record { held = None; faults = 0 } in
-    let state = g.F.Folders.state in
-    let i = c.loop-label.label-index in
-    let n = c.loop-label.count in
-    record {
-      doing = λ o. each_done (label_synced c.args.folder.now c.args.shape.now c.args.tables.now) _ i c.label-item.result _ _ _ _ (omega arith) c.label-item.is (so_far.doing o) (did.does o);
-      counting = λ s h. counting_more c.args.folder.now c.args.shape.now c.args.tables.now c.args.labels.now s i n c.from.result (state c.loop-label.store) (state c.sync_label.new.store) sink c.label-item.result c.in_ok-sync_label.field-0
-          (omega arith) c.label-item.is (so_far.counting s h) (did.does sink) did.was c.from.ensures;
-      counted = counted_more (state c.args.store.now).writes (state c.loop-label.store).writes _ n c.from.result c.in_ok-sync_label.field-0 did.counted so_far.counted c.from.ensures;
-      few = few_more n i c.from.result c.in_ok-sync_label.field-0 so_far.few c.from.ensures;
-      reads = omega (arith, so_far.reads, did.blames.reads);
-      writes = omega (arith, so_far.writes, did.blames.writes);
-    }
-
-pub returns-clause-count : goal.returns-clause-count
-returns-clause-count g c =
-    let old = g.F.Folders.state c.args.store.now in
-    λ t told ascends.
-    let s : Stored = record { tree = t; writes = old.writes } in
-    counting_done c.args.folder.now c.args.shape.now c.args.tables.now c.args.labels.now s c.loop-label.label-index c.loop-label.count _ (omega arith) (c.loop-label.invariant.counting s (ap (λ o. stored_of o old.writes) told)) ascends
+pub returns-clause-holds : goal.returns-clause-holds
+returns-clause-holds g c =
+    named_hold (view_folder c.args.view_db.now) c.args.shape.now c.args.tables.now c.args.labels.now (g.F.Folders.state c.args.store.now) (g.F.Folders.state c.sync_labels.new.store) c.sync_labels.result
+    (λ o. does_named _ _ c.args.shape.now c.args.tables.now c.args.labels.now _ _ _ c.in_ok-folder.ensures (c.sync_labels.ensures.does o))

@@ -10,6 +10,7 @@ loop-file-preserved g c =
     let did = c.in_ok-write_file.ensures in
     record {
       doing = λ o. each_done (λ (f : File). Write c.args.folder.now f.name f.bytes) _ c.loop-file.file-index c.file-item.result _ _ _ _ (omega arith) c.file-item.is (so_far.doing o) (rw c.as_slice.ensures at (did.does o));
+      counted = omega (arith, so_far.counted, did.counted);
       reads = omega (arith, so_far.reads, did.blames.reads);
       writes = omega (arith, so_far.writes, did.blames.writes);
     }

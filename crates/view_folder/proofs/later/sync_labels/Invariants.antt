@@ -4,7 +4,7 @@ use Rattle.outside.specs.States.{SinkState}
 use Rattle.effects.specs.Effects.{Stored, stored_of, contents, Doing}
 use Rattle.view_folder.specs.Sync.{later_sync}
 use Rattle.view_folder.proofs.LaterLemmas.{IsCounting}
-use Rattle.view_folder.proofs.later.sync.Given as goal
+use Rattle.view_folder.proofs.later.sync_labels.Given as goal
 
 abbrev pub invariant-loop-label : goal.invariant-loop-label
 invariant-loop-label g l =
