@@ -11,3 +11,4 @@ pub mod ConflictLemmas
 pub mod RefusedLemmas
 pub mod SameFacts
 pub mod EvalLemmas
+pub mod FrontLemmas

@@ -11,3 +11,4 @@ pub mod Cells
 pub mod Labelled
 pub mod Neighbours
 pub mod Refusal
+pub mod Front

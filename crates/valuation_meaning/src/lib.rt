@@ -9,6 +9,8 @@ mod column;
 mod element;
 mod evaluation;
 mod fact;
+mod front;
+mod key;
 mod label;
 mod listing;
 mod lookup;

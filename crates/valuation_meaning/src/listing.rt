@@ -2,7 +2,7 @@
 ghost use Rattle.std.specs.Prelude.{◌≡◌, ◌&&◌, [], ◌++◌, drop, map, option_copied, option_map, option_to_list, length, slice_get, vec_len, ◌<◌, IfOk, OnOk, OnSome, if◌then◌else◌};
 ghost use Rattle.view_def.specs.Conditions.{condition_of};
 ghost use Rattle.view_def.specs.Query.{query_of};
-ghost use Rattle.valuation_meaning.specs.Borrowed.{texts_of, cell_value};
+ghost use Rattle.valuation_meaning.specs.Borrowed.{cell_value};
 ghost use Rattle.valuation_meaning.specs.Terms.{are_defined};
 ghost use Rattle.valuation_meaning.specs.Valuations.{counts, meets, terms_of_filter};
 ghost use Rattle.valuation_meaning.specs.Meaning.{given, values_of, cell_of, fact_of, facts};
@@ -11,9 +11,13 @@ ghost use Rattle.valuation_meaning.specs.Listing.{facts_after};
 
 use crate::element::Element;
 use crate::fact::Fact;
+use crate::key::Key;
+use crate::label::Label;
 use crate::ranges::elements;
 use crate::truth::truth;
 use crate::value::{place_text, value_of};
+use bumpalo::Bump;
+use bumpalo::collections::into_bump_slice;
 use schema_model::Catalogue;
 use ss_text::{NoMemory, Text};
 use std::alloc::Global;
@@ -29,21 +33,21 @@ fn text_of<'a>(valuation: &[Element<'a>], place: &'a Place, empty: &'a Text) -> 
 
 /// The values of terms, where each of them is defined.
 fn values_of<'a>(
-    alloc: Global,
+    arena: &'a Bump<Global>,
     valuation: &[Element<'a>],
     terms: &'a [Term],
-) -> Result<Option<Vec<&'a Text>>, NoMemory>
-    ensures { IfOk result (λ ts. option_map (λ ts. texts_of ts.items) ts
+) -> Result<Option<&'a [Label<'a>]>, NoMemory>
+    ensures { IfOk result (λ ts. option_map (λ ts. ts.now) ts
         ≡ (if are_defined valuation.now terms.now then Some (values_of valuation.now terms.now) else None)) }
 {
-    let mut values = Vec::with_capacity(alloc, terms.len())?;
+    let mut values = Vec::with_capacity(arena, terms.len())?;
     for term in terms {
         let Some(value) = value_of(valuation, term) else {
             return Ok(None);
         };
-        values.push(value)?;
+        values.push(Label::of(value))?;
     }
-    Ok(Some(values))
+    Ok(Some(into_bump_slice(values)))
 }
 
 /// Whether a condition is true and every term in it defined. No condition is true.
@@ -63,7 +67,7 @@ fn cell_of<'a>(
     column: &'a Option<Place>,
     value: &'a Option<Term>,
     empty: &'a Text,
-) -> Option<Option<(&'a Text, &'a Text)>>
+) -> Option<Option<(Label<'a>, &'a Text)>>
     requires { empty.now ≡ [] }
     ensures { option_map cell_value result
         ≡ (if are_defined valuation.now (option_to_list value.now) then Some (cell_of valuation.now column.now value.now) else None) }
@@ -76,12 +80,12 @@ fn cell_of<'a>(
         return Some(None);
     };
     let column = text_of(valuation, column, empty);
-    Some(Some((column, value)))
+    Some(Some((Label::of(column), value)))
 }
 
 /// The fact of a valuation, where the valuation counts.
 fn fact_of<'a>(
-    alloc: Global,
+    arena: &'a Bump<Global>,
     view: &'a View,
     empty: &'a Text,
     valuation: &[Element<'a>],
@@ -96,11 +100,11 @@ fn fact_of<'a>(
     let Some(cell) = cell_of(valuation, &view.column, &view.value, empty) else {
         return Ok(None);
     };
-    let Some(key) = values_of(alloc, valuation, &view.keys)? else {
+    let Some(key) = values_of(arena, valuation, &view.keys)? else {
         return Ok(None);
     };
-    let label = text_of(valuation, &view.label, empty);
-    Ok(Some(Fact::of(label, key, cell)))
+    let label = Label::of(text_of(valuation, &view.label, empty));
+    Ok(Some(Fact::of(label, Key::of(key), cell)))
 }
 
 /// The declaration at a place.
@@ -111,9 +115,10 @@ fn declaration(view: &View, place: usize) -> Option<&Range>
     view.decls.get(place)
 }
 
-/// Where the facts of a view are read from, and an empty text.
+/// Where the facts of a view are read from, an arena for their keys, and an empty text.
 #[derive(Drop)]
 struct Source<'a> {
+    arena: &'a Bump<Global>,
     catalogue: &'a Catalogue,
     view: &'a View,
     empty: &'a Text,
@@ -121,16 +126,11 @@ struct Source<'a> {
 
 impl<'a> Source<'a> {
     /// Adds the fact of a valuation, where the valuation counts.
-    fn add_fact(
-        &self,
-        alloc: Global,
-        valuation: &[Element<'a>],
-        facts: &mut Vec<Fact<'a>>,
-    ) -> Result<(), NoMemory>
+    fn add_fact(&self, valuation: &[Element<'a>], facts: &mut Vec<Fact<'a>>) -> Result<(), NoMemory>
         requires { self.now.empty.now ≡ [] }
         ensures { OnOk result (facts.new.items ≡ facts.old.items ++ facts_after self.now.catalogue.now (query_of self.now.view.now) valuation.now []) }
     {
-        if let Some(fact) = fact_of(alloc, self.view, self.empty, valuation)? {
+        if let Some(fact) = fact_of(self.arena, self.view, self.empty, valuation)? {
             facts.push(fact)?;
         }
         Ok(())
@@ -150,7 +150,7 @@ impl<'a> Source<'a> {
         ensures same { OnOk result (valuation.new.items ≡ valuation.old.items) }
     {
         let Some(range) = declaration(self.view, valuation.len()) else {
-            return self.add_fact(alloc, valuation, facts);
+            return self.add_fact(valuation, facts);
         };
         for element in elements(alloc, self.catalogue, valuation, range)? {
             valuation.push(element)?;
@@ -164,6 +164,7 @@ impl<'a> Source<'a> {
 /// The facts of a view, one for each valuation.
 pub(crate) fn facts<'a>(
     alloc: Global,
+    arena: &'a Bump<Global>,
     catalogue: &'a Catalogue,
     view: &'a View,
     empty: &'a Text,
@@ -172,6 +173,7 @@ pub(crate) fn facts<'a>(
     ensures { IfOk result (λ fs. fs.items ≡ facts catalogue.now (query_of view.now)) }
 {
     let source = Source {
+        arena,
         catalogue,
         view,
         empty,
