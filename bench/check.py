@@ -26,9 +26,9 @@ def main():
     with folder() as root:
         for what, condition in [("flat", flat(BYTES)), ("nested", nested(BYTES))]:
             write(root, "defs/V.ssql", VIEW + condition)
-            answer = wanted(run([program(), "check", "V"], root), 0, CANONICAL + condition)
+            checked = wanted(run([program(), "check", "V"], root), 0, CANONICAL + condition)
             size = len(VIEW) + len(condition)
-            report(f"check, {size} bytes, {what}", *answer[:2])
+            report(f"check, {size} bytes, {what}", checked)
 
 
 main()

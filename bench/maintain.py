@@ -36,8 +36,8 @@ def time_of_change(rows, count):
         words = [program(), "maintain", "C"]
         opened = wanted(run(words, root), 0, "synced\t0")
         changed = wanted(run(words, root, given), 0, "synced\t1")
-    each = (changed[0] - opened[0]) / count
-    report(f"maintain, {rows} rows, {count} changes", *changed[:2], f"; one change {each * 1e6:.0f} us")
+    each = (changed.seconds - opened.seconds) / count
+    report(f"maintain, {rows} rows, {count} changes", changed, f"; one change {each * 1e6:.0f} us")
     return each
 
 

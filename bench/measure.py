@@ -6,6 +6,7 @@ import subprocess
 import sys
 import tempfile
 import time
+from typing import NamedTuple
 
 HERE = pathlib.Path(__file__).resolve().parent
 PROGRAM = HERE.parent / "crates" / "schemasql_cli" / "out" / "schemasql_cli"
@@ -33,8 +34,18 @@ def write(root, path, lines):
     return target
 
 
+class Run(NamedTuple):
+    """A run that ended: its seconds, those of all processors together, the megabytes at their most, the status, and the output's lines."""
+
+    seconds: float
+    processors: float
+    megabytes: float
+    status: int
+    lines: list
+
+
 def run(words, root, given=None):
-    """Runs these words in a folder: the seconds, the megabytes at their most, the status, and the output's lines."""
+    """Runs these words in a folder."""
     with tempfile.TemporaryFile() as output:
         begun = time.perf_counter()
         child = subprocess.Popen(
@@ -48,16 +59,15 @@ def run(words, root, given=None):
         child.returncode = os.waitstatus_to_exitcode(status)
         output.seek(0)
         lines = output.read().decode(errors="replace").splitlines()
-    return seconds, usage.ru_maxrss / 1024, child.returncode, lines
+    return Run(seconds, usage.ru_utime + usage.ru_stime, usage.ru_maxrss / 1024, child.returncode, lines)
 
 
-def report(name, seconds, megabytes, more=""):
-    print(f"{name}: {seconds:.2f} s, {megabytes:.0f} MB{more}", flush=True)
+def report(name, ended, more=""):
+    print(f"{name}: {ended.seconds:.2f} s, {ended.processors:.2f} s of processors, {ended.megabytes:.0f} MB{more}", flush=True)
 
 
-def wanted(answer, status, last):
+def wanted(ended, status, last):
     """Stops where a run did not end as it should, since its time then says nothing."""
-    _, _, ended, lines = answer
-    if ended != status or lines[-1:] != [last]:
-        sys.exit(f"ended with status {ended} and {lines[-1:]}")
-    return answer
+    if ended.status != status or ended.lines[-1:] != [last]:
+        sys.exit(f"ended with status {ended.status} and {ended.lines[-1:]}")
+    return ended

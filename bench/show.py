@@ -33,9 +33,8 @@ def main():
             ("C", "values to columns", 1),
             ("S", "values to tables", COLUMNS),
         ]:
-            answer = wanted(run([program(), "show", name], root), 0, f"synced\t{synced}")
-            shown[name] = answer[0]
-            report(f"show, {ROWS} rows, {what}", *answer[:2])
+            shown[name] = wanted(run([program(), "show", name], root), 0, f"synced\t{synced}")
+            report(f"show, {ROWS} rows, {what}", shown[name])
         if not shutil.which("mlr"):
             print("mlr is not installed")
             return
@@ -44,10 +43,12 @@ def main():
             ("C", "reshape -s", ["reshape", "-s", "d,v"]),
             ("S", "split", ["split", "-g", "d", "then", "nothing"]),
         ]:
-            answer = run(["mlr", "--icsv", "--ocsv", *words, str(source)], root)
-            if answer[2] != 0:
-                sys.exit(f"mlr {what} ended with status {answer[2]}")
-            report(f"mlr {what}", *answer[:2], f"; show takes {shown[name] / answer[0]:.1f} times as long")
+            other = run(["mlr", "--icsv", "--ocsv", *words, str(source)], root)
+            if other.status != 0:
+                sys.exit(f"mlr {what} ended with status {other.status}")
+            longer = shown[name].seconds / other.seconds
+            more = shown[name].processors / other.processors
+            report(f"mlr {what}", other, f"; show takes {longer:.2f} times as long, and {more:.2f} times the processors")
 
 
 main()
