@@ -1,5 +1,5 @@
 //! The calls on the outside that a run makes.
-ghost use Rattle.std.specs.Prelude.{◌≡◌, [], ◌∷◌, Some, IfOk, is_some, if◌then◌else◌};
+ghost use Rattle.std.specs.Prelude.{◌≡◌, ◌≢◌, [], ◌∷◌, Some, IfOk, IfErr, is_some, if◌then◌else◌};
 ghost use Rattle.outside.specs.Counts.{risen};
 ghost use Rattle.outside.specs.Reading.{OnlyRead};
 ghost use Rattle.outside.specs.Tree.{Tree, file_at, files_of};
@@ -43,6 +43,8 @@ pub fn write_file<F: Folders>(
 ) -> Result<(), Stop>
     ensures does { (o : _) → Does (Write folder.now file.now bytes.now ∷ []) (F.state store.old, o) (F.state store.new, o) result }
     ensures counted { IfOk result (λ _. (F.state store.new).writes ≡ risen ((F.state store.old).writes) 1) }
+    ensures reads { (F.state store.new).read_faults ≡ (F.state store.old).read_faults }
+    ensures no_read { IfErr result (λ e. e ≢ Stop.ReadFault) }
     ensures blames { StoreBlames (F.state store.old) (F.state store.new) result }
 {
     match store.write(alloc, folder, file, bytes) {
@@ -63,6 +65,8 @@ pub fn remove_file<F: Folders>(
     ensures was { IfOk result (λ was. (t : Tree) → (F.state store.old).tree ≡ Some t → was ≡ is_some (file_at t folder.now file.now)) }
     ensures does { (o : _) → Does (Remove folder.now file.now ∷ []) (F.state store.old, o) (F.state store.new, o) result }
     ensures counted { IfOk result (λ was. (F.state store.new).writes ≡ (if was then risen ((F.state store.old).writes) 1 else (F.state store.old).writes)) }
+    ensures reads { (F.state store.new).read_faults ≡ (F.state store.old).read_faults }
+    ensures no_read { IfErr result (λ e. e ≢ Stop.ReadFault) }
     ensures blames { StoreBlames (F.state store.old) (F.state store.new) result }
 {
     match store.remove(alloc, folder, file) {

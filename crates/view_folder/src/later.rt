@@ -1,5 +1,5 @@
 //! The later sync.
-ghost use Rattle.std.specs.Prelude.{◌≡◌, [], ◌∷◌, Some, IfOk, if◌then◌else◌};
+ghost use Rattle.std.specs.Prelude.{◌≡◌, ◌≢◌, [], ◌∷◌, Some, IfOk, IfErr, if◌then◌else◌};
 ghost use Rattle.std.specs.List.Sorted.{IsStrictlySortedBy};
 ghost use Rattle.ss_text.specs.Texts.{text_cmp};
 ghost use Rattle.outside.specs.Counts.{risen};
@@ -34,6 +34,8 @@ pub fn sync<F: Folders>(
     ensures holds { IfOk result (λ _. (t u : Tree) → (F.state store.old).tree ≡ Some t → (F.state store.new).tree ≡ Some u → HoldsNamed (view_folder view_db.now) shape.now tables.now labels.now t u) }
     ensures writes { IfOk result (λ n. (F.state store.new).writes ≡ risen ((F.state store.old).writes) n) }
     ensures count { IfOk result (λ n. (t : Tree) → (F.state store.old).tree ≡ Some t → IsStrictlySortedBy text_cmp labels.now → n ≡ later_count (view_folder view_db.now) tables.now labels.now t) }
+    ensures reads { (F.state store.new).read_faults ≡ (F.state store.old).read_faults }
+    ensures no_read { IfErr result (λ e. e ≢ Stop.ReadFault) }
     ensures blames { StoreBlames (F.state store.old) (F.state store.new) result }
 {
     let folder = folder_of_view(alloc, view_db)?;
@@ -54,6 +56,8 @@ fn sync_labels<F: Folders>(
     ensures does { (o : _) → Does (later_sync folder.now shape.now tables.now labels.now) (F.state store.old, o) (F.state store.new, o) result }
     ensures writes { IfOk result (λ n. (F.state store.new).writes ≡ risen ((F.state store.old).writes) n) }
     ensures count { IfOk result (λ n. (t : Tree) → (F.state store.old).tree ≡ Some t → IsStrictlySortedBy text_cmp labels.now → n ≡ later_count folder.now tables.now labels.now t) }
+    ensures reads { (F.state store.new).read_faults ≡ (F.state store.old).read_faults }
+    ensures no_read { IfErr result (λ e. e ≢ Stop.ReadFault) }
     ensures blames { StoreBlames (F.state store.old) (F.state store.new) result }
 {
     let mut count = 0;
@@ -77,6 +81,8 @@ fn sync_label<F: Folders>(
     ensures does { (o : _) → Does (label_synced folder.now shape.now tables.now label.now ∷ []) (F.state store.old, o) (F.state store.new, o) result }
     ensures was { IfOk result (λ was. (t : Tree) → (F.state store.old).tree ≡ Some t → was ≡ is_counted folder.now tables.now t label.now) }
     ensures counted { IfOk result (λ was. (F.state store.new).writes ≡ (if was then risen ((F.state store.old).writes) 1 else (F.state store.old).writes)) }
+    ensures reads { (F.state store.new).read_faults ≡ (F.state store.old).read_faults }
+    ensures no_read { IfErr result (λ e. e ≢ Stop.ReadFault) }
     ensures blames { StoreBlames (F.state store.old) (F.state store.new) result }
 {
     let file = file_name(alloc, label)?;

@@ -1,4 +1,4 @@
-use Rattle.std.proofs.Common.{ap, None, arith}
+use Rattle.std.proofs.Common.{ap, None, arith, refl, ◌∙◌}
 use Rattle.outside.specs.States.{SinkState}
 use Rattle.effects.specs.Effects.{Stored, stored_of}
 use Rattle.effects.proofs.EffectLemmas.{each_done, doing_all}
@@ -12,7 +12,7 @@ loop-label-init g c = record {
   counting = λ s h. counting_starts c.args.folder.now c.args.shape.now c.args.tables.now c.args.labels.now s _ h;
   counted = omega arith;
   few = omega arith;
-  reads = omega arith;
+  reads = refl;
   writes = omega arith;
 }
 
@@ -30,7 +30,7 @@ loop-label-preserved g c =
           (omega arith) c.label-item.is (so_far.counting s h) (did.does sink) did.was c.from.ensures;
       counted = counted_more (state c.args.store.now).writes (state c.loop-label.store).writes _ n c.from.result c.in_ok-sync_label.field-0 did.counted so_far.counted c.from.ensures;
       few = few_more n i c.from.result c.in_ok-sync_label.field-0 so_far.few c.from.ensures;
-      reads = omega (arith, so_far.reads, did.blames.reads);
+      reads = did.reads ∙ so_far.reads;
       writes = omega (arith, so_far.writes, did.blames.writes);
     }
 

@@ -14,6 +14,6 @@ invariant-loop-label g l =
       counting : (s : Stored) → stored_of (state l.fn.store).tree (state l.fn.store).writes ≡ Some s → IsCounting l.folder l.shape l.tables l.labels s l.label-index l.count (stored_of (state l.store).tree (state l.store).writes);
       counted : (state l.store).writes ≡ risen (state l.fn.store).writes l.count;
       few : l.count ≤ l.label-index;
-      reads : (state l.fn.store).read_faults ≤ (state l.store).read_faults;
+      reads : (state l.store).read_faults ≡ (state l.fn.store).read_faults;
       writes : (state l.fn.store).write_faults ≤ (state l.store).write_faults;
     }
