@@ -11,3 +11,4 @@ pub mod MaintainedLemmas
 pub mod VerifyLemmas
 pub mod ViewLemmas
 pub mod AnswerLemmas
+pub mod RefusedLemmas

@@ -128,3 +128,10 @@ abbrev pub is_done_status : Status → Bool
 is_done_status status.Done = true
 is_done_status status.SomeRefused = true
 is_done_status s = false
+
+-- whether a status says that the definition, the sources or the view was refused, or that the view's folder differs
+abbrev pub is_refused_status : Status → Bool
+is_refused_status status.BadDefinition = true
+is_refused_status status.BadCatalogue = true
+is_refused_status status.NoView = true
+is_refused_status s = false

@@ -54,6 +54,15 @@ pub record IsVerified (d : Definition) (t : Tree) (old new : World) : Type 0 whe
   pub files : Holds (folder_of opened.accepted) (files_of_view opened.catalogue opened.accepted.query) t
   pub printed : new.1.held ≡ with_bytes (same_line (length (files_of_view opened.catalogue opened.accepted.query))) old.1.held
 
+-- the view of an accepted definition over an accepted catalogue is not what its folder holds: some `.csv` file of the folder is not that of its meaning, or is missing
+abbrev pub Differs : Definition → Tree → Type 0
+Differs d t = (o : IsOpened d t) → Holds (folder_of o.accepted) (files_of_view o.catalogue o.accepted.query) t → ⊥
+
+-- no file and no folder was changed, and nothing was written or removed
+pub record Unchanged (old new : World) : Type 0 where
+  pub tree : new.0.tree ≡ old.0.tree
+  pub writes : new.0.writes ≡ old.0.writes
+
 -- how many files the opening sync of a view writes and removes
 abbrev pub synced_count : Tree → CatalogueValue → Query → ℕ
 synced_count t c q = opening_count (files_of_view c q) (files_of t (view_folder q.view_db))

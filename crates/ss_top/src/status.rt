@@ -16,7 +16,7 @@ pub enum Status {
     Usage,
     /// The definition is missing or was refused.
     BadDefinition,
-    /// The source relations, or what was read in their place, were refused.
+    /// The source relations were refused.
     BadCatalogue,
     /// The view was refused, or its folder differs.
     NoView,

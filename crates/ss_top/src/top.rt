@@ -11,8 +11,8 @@ ghost use Rattle.tab_lines.specs.Taking.{most_taken};
 ghost use Rattle.ss_top.specs.Commands.{Check, Show, Maintain, Verify, asked_of, uses_store, only_reads, reads_input};
 ghost use Rattle.ss_top.specs.Stages.{Definition};
 ghost use Rattle.ss_top.specs.Opening.{IsDefinition, definition_bytes};
-ghost use Rattle.ss_top.specs.Promises.{IsChecked, IsShown, IsMaintained, Takes, IsVerified};
-ghost use Rattle.ss_top.specs.Course.{Did, Cause, NoFault, Finished, IsReadWhole, is_done_status, is_ended_status};
+ghost use Rattle.ss_top.specs.Promises.{IsChecked, IsShown, IsMaintained, Takes, IsVerified, Differs, Unchanged};
+ghost use Rattle.ss_top.specs.Course.{Did, Cause, NoFault, Finished, IsReadWhole, is_done_status, is_ended_status, is_refused_status};
 ghost use Rattle.ss_top.specs.Runs.{IsAsked, IsDefined, course_of, Told};
 
 use crate::Status;
@@ -47,6 +47,8 @@ pub fn run<F: Folders, S: Source, K: Sink, L: Ledger>(
     ensures maintained { (name : Text) (t : Tree) (bytes : List ℕ) (d : Definition) → asked_of words.now ≡ Maintain name → (F.state store.old).tree ≡ Some t → S.rest input.old ≡ Some bytes → IsDefinition name (definition_bytes t name) d → is_done_status result ≡ true → IsMaintained d t (lines_of bytes) (F.state store.old, K.state output.old) (F.state store.new, K.state output.new) result }
     ensures takes { (s : SessionState) (c : CatalogueValue) → Takes (tables_of s) (meaning c s.query) (lines_to s c) }
     ensures verified { (name : Text) (t : Tree) (d : Definition) → asked_of words.now ≡ Verify name → (F.state store.old).tree ≡ Some t → IsDefinition name (definition_bytes t name) d → result ≡ Status.Done → IsVerified d t (F.state store.old, K.state output.old) (F.state store.new, K.state output.new) }
+    ensures differs { (name : Text) (t : Tree) (d : Definition) → asked_of words.now ≡ Verify name → (F.state store.old).tree ≡ Some t → IsDefinition name (definition_bytes t name) d → result ≡ Status.NoView → Differs d t }
+    ensures unchanged { (t : Tree) (bytes : List ℕ) (d : Definition) → Told (uses_store (asked_of words.now)) (F.state store.old).tree t → Told (reads_input (asked_of words.now)) (S.rest input.old) bytes → IsAsked (asked_of words.now) t d → is_refused_status result ≡ true → Unchanged (F.state store.old, K.state output.old) (F.state store.new, K.state output.new) }
     ensures whole { (bytes : List ℕ) → reads_input (asked_of words.now) ≡ true → is_done_status result ≡ true → S.rest input.old ≡ Some bytes → IsReadWhole bytes (S.rest input.new) }
 
     // A fault comes only where a count of faults rose.

@@ -6,6 +6,7 @@ use Rattle.ss_top.proofs.RunLemmas.{by_status, finishes, ended_defined}
 use Rattle.ss_top.proofs.ShownLemmas.{did_show}
 use Rattle.ss_top.proofs.CheckedLemmas.{did_check, did_verify}
 use Rattle.ss_top.proofs.MaintainedLemmas.{did_maintain}
+use Rattle.ss_top.proofs.RefusedLemmas.{did_differ, did_refuse}
 use Rattle.ss_top.proofs.KeptLemmas.{script_takes}
 use Rattle.ss_top.proofs.top.run.Goals as goal
 
@@ -30,6 +31,17 @@ returns-clause-verified g c = λ name t d asked told defined done.
     let ran = rw asked at c.run_words-ending.ensures.ran in
     did_verify name t d (g.S.Source.rest c.run_words-ending.new.input) _ _ c.status_of_ending.result done
     (rw c.status_of_ending.ensures (by_status (course_of (Verify name) t d) [] _ _ _ _ _ c.run_words-ending.result (ran t [] d (λ _. told) (λ no. absurd (cc)) defined) c.run_words-ending.ensures.blames))
+
+pub returns-clause-differs : goal.returns-clause-differs
+returns-clause-differs g c = λ name t d asked told defined refused.
+    let ran = rw asked at c.run_words-ending.ensures.ran in
+    did_differ name t d (g.S.Source.rest c.run_words-ending.new.input) (g.F.Folders.state c.args.store.now, g.K.Sink.state c.args.output.now) (g.F.Folders.state c.run_words-ending.new.store, g.K.Sink.state c.run_words-ending.new.output) c.status_of_ending.result refused
+    (rw c.status_of_ending.ensures (by_status (course_of (Verify name) t d) [] _ _ _ _ _ c.run_words-ending.result (ran t [] d (λ _. told) (λ no. absurd (cc)) defined) c.run_words-ending.ensures.blames))
+
+pub returns-clause-unchanged : goal.returns-clause-unchanged
+returns-clause-unchanged g c = λ t bytes d stored read asked refused.
+    did_refuse (asked_of c.args.words.now) t bytes d (g.S.Source.rest c.run_words-ending.new.input) _ _ c.status_of_ending.result stored refused
+    (rw c.status_of_ending.ensures (by_status (course_of (asked_of c.args.words.now) t d) bytes _ _ _ _ _ c.run_words-ending.result (c.run_words-ending.ensures.ran t bytes d stored read asked) c.run_words-ending.ensures.blames))
 
 pub returns-clause-maintained : goal.returns-clause-maintained
 returns-clause-maintained g c = λ name t bytes d asked told given defined done.

@@ -1,0 +1,130 @@
+-- A run that ended with a refusal changed nothing, and a folder that was said to differ does.
+use Rattle.std.proofs.Common.{◌≡◌, ℕ, Bool, true, false, List, [], ◌∷◌, ◌++◌, Option, None, Some, refl, sym, ap, ◌∙◌, subst}
+use Rattle.std.specs.Prelude.{Result, Ok, Err, if◌then◌else◌}
+use Rattle.std.proofs.lemmas.Bool.{false≢true}
+use Rattle.ss_text.specs.Texts.{Text, Row}
+use Rattle.outside.specs.Tree.{Tree}
+use Rattle.effects.specs.Effects.{Effect, World, Contents, contents, stored_of, performed}
+use Rattle.schema_model.specs.Catalogue.{CatalogueValue}
+use Rattle.view_def.specs.Query.{Query}
+use Rattle.tab_lines.specs.Lines.{lines_of}
+use Rattle.view_folder.specs.Comparison.{comparison}
+use Rattle.view_folder.specs.Sync.{Holds}
+use Rattle.view_folder.specs.declared.comparison.Comparison.{Comparison}
+use Rattle.view_folder.specs.declared.comparison.Comparison.TheVariants as compared
+use Rattle.view_folder.proofs.ComparisonLemmas.{holds_same}
+use Rattle.course.specs.declared.status.Verdict.{Verdict}
+use Rattle.course.specs.declared.status.Verdict.TheVariants as verdict
+use Rattle.course.specs.Machine.{Reply, Goes, Halts, Ending, ending, follow}
+use Rattle.ss_top.specs.declared.status.Status.{Status}
+use Rattle.ss_top.specs.declared.status.Status.TheVariants as status
+use Rattle.ss_top.specs.Open.{OpenValue}
+use Rattle.ss_top.specs.Stages.{Definition, Accepted, loaded_or_refused, refusal_of, files_of_view}
+use Rattle.ss_top.specs.Printed.{refuses}
+use Rattle.ss_top.specs.Opening.{opening, with_catalogue, with_view, done_at_once}
+use Rattle.ss_top.specs.Checking.{checked}
+use Rattle.ss_top.specs.Verifying.{by_comparison, verified, verified_over, verified_view}
+use Rattle.ss_top.specs.Answers.{step, finish, answer}
+use Rattle.ss_top.specs.Course.{Course, Finished, Did, by_lines, number, is_refused_status}
+use Rattle.ss_top.specs.Commands.{Asked, Check, Show, Maintain, Verify, Other, uses_store}
+use Rattle.ss_top.specs.Runs.{course_of, Told}
+use Rattle.ss_top.specs.Promises.{Unchanged, Differs, folder_of}
+use Rattle.ss_top.proofs.ShownLemmas.{told_tree}
+use Rattle.ss_top.proofs.StageLemmas.{are_view_files}
+
+-- a run that was refused came to its end
+refused_finished : (c : Course) (bytes : List ℕ) (rest : Option (List ℕ)) (old new : World) (s : Status) → is_refused_status s ≡ true → Did c bytes rest old new s → Finished (c.whole bytes) old new s
+refused_finished c bytes rest old new status.Done r h = h
+refused_finished c bytes rest old new status.SomeRefused r h = h
+refused_finished c bytes rest old new status.Usage r h = h
+refused_finished c bytes rest old new status.BadDefinition r h = h
+refused_finished c bytes rest old new status.BadCatalogue r h = h
+refused_finished c bytes rest old new status.NoView r h = h
+refused_finished c bytes rest old new status.ReadFault r h = absurd (cc)
+refused_finished c bytes rest old new status.WriteFault r h = absurd (cc)
+refused_finished c bytes rest old new status.NoMemory r h = absurd (cc)
+refused_finished c bytes rest old new status.TooLong r h = absurd (cc)
+
+end_unrefused : (b : Bool) → is_refused_status (number (if b then verdict.SomeRefused else verdict.Done)) ≡ false
+end_unrefused true = refl
+end_unrefused false = refl
+
+-- the end of the input refuses nothing, whatever the lines were
+lines_unrefused : (lines : List (List ℕ)) (es : List Effect) (o : OpenValue) → is_refused_status (number (ending finish (follow step lines (Goes es o))).status) ≡ false
+lines_unrefused [] es o = end_unrefused o.refused
+lines_unrefused (line ∷ lines) es o = lines_unrefused lines (es ++ (answer o line).effects) (answer o line).view
+
+module _ (t : Tree) (old new : World) (told : old.0.tree ≡ Some t) (s : Status) (refused : is_refused_status s ≡ true) where
+  same_stored : (contents new).stored ≡ (contents old).stored → Unchanged old new
+  unfolding contents
+  same_stored h =
+      let stored = told_tree new.0.tree new.0.writes (record { tree = t; writes = old.0.writes }) (h ∙ ap (λ (o : Option Tree). stored_of o old.0.writes) told) in
+      record { tree = stored.0 ∙ sym told; writes = stored.1 }
+
+  not_so : {A : Type 0} (v : Verdict) → s ≡ number v → is_refused_status (number v) ≡ false → A
+  not_so v e h = absurd (false≢true (sym h ∙ ap is_refused_status (sym e) ∙ refused))
+
+  check_unchanged : (d : Definition) → Finished (checked d) old new s → Unchanged old new
+  check_unchanged (Err fields) f = same_stored (ap (λ (x : Contents). x.stored) f.done)
+  check_unchanged (Ok a) f = not_so verdict.Done f.status refl
+
+  compared_unchanged : (r : Comparison) → Finished (by_comparison r) old new s → Unchanged old new
+  compared_unchanged (compared.Same n) f = not_so verdict.Done f.status refl
+  compared_unchanged (compared.Differs file held meant) f = same_stored (ap (λ (x : Contents). x.stored) f.done)
+
+  view_unchanged : (q : Query) (c : CatalogueValue) (r : Option Row) → Finished (verified_view t q c r) old new s → Unchanged old new
+  view_unchanged q c (Some fields) f = same_stored (ap (λ (x : Contents). x.stored) f.done)
+  view_unchanged q c None f = compared_unchanged _ f
+
+  over_unchanged : (q : Query) (r : Result CatalogueValue Row) → Finished (verified_over t q r) old new s → Unchanged old new
+  over_unchanged q (Err fields) f = same_stored (ap (λ (x : Contents). x.stored) f.done)
+  over_unchanged q (Ok c) f = view_unchanged q c (refusal_of c q) f
+
+  verify_unchanged : (d : Definition) → Finished (verified t d) old new s → Unchanged old new
+  verify_unchanged (Err fields) f = same_stored (ap (λ (x : Contents). x.stored) f.done)
+  verify_unchanged (Ok a) f = over_unchanged a.query (loaded_or_refused t) f
+
+  -- what goes on behind an opening refuses nothing
+  module _ (behind : Reply OpenValue → Ending) (halts : (es : List Effect) (v : Verdict) → behind (Halts es v) ≡ record { effects = es; status = v })
+      (goes : (es : List Effect) (o : OpenValue) → is_refused_status (number (behind (Goes es o)).status) ≡ false) where
+    halted : (fields : Row) (v : Verdict) (e : Ending) → e ≡ record { effects = refuses fields ∷ []; status = v } → Finished e old new s → Unchanged old new
+    halted fields v e is f = same_stored (ap (λ (x : Contents). x.stored) (f.done ∙ ap (λ (x : Ending). performed x.effects (contents old)) is))
+
+    opened_view : (q : Query) (c : CatalogueValue) (r : Option Row) → Finished (behind (with_view t q c r)) old new s → Unchanged old new
+    opened_view q c (Some fields) f = halted fields verdict.NoView _ (halts _ verdict.NoView) f
+    opened_view q c None f = not_so _ f.status (goes _ _)
+
+    opened_over : (q : Query) (r : Result CatalogueValue Row) → Finished (behind (with_catalogue t q r)) old new s → Unchanged old new
+    opened_over q (Err fields) f = halted fields verdict.BadCatalogue _ (halts _ verdict.BadCatalogue) f
+    opened_over q (Ok c) f = opened_view q c (refusal_of c q) f
+
+    opening_unchanged : (d : Definition) → Finished (behind (opening t d)) old new s → Unchanged old new
+    opening_unchanged (Err fields) f = halted fields verdict.BadDefinition _ (halts _ verdict.BadDefinition) f
+    opening_unchanged (Ok a) f = opened_over a.query (loaded_or_refused t) f
+
+-- nothing is changed where a run is refused
+pub did_refuse : (a : Asked) (t : Tree) (bytes : List ℕ) (d : Definition) (rest : Option (List ℕ)) (old new : World) (s : Status) → Told (uses_store a) old.0.tree t → is_refused_status s ≡ true → Did (course_of a t d) bytes rest old new s → Unchanged old new
+did_refuse (Check name) t bytes d rest old new s told refused h =
+    check_unchanged t old new (told refl) s refused d (refused_finished (course_of (Check name) t d) bytes rest old new s refused h)
+did_refuse (Show name) t bytes d rest old new s told refused h =
+    opening_unchanged t old new (told refl) s refused (ending done_at_once) (λ es v. refl) (λ es o. refl) d (refused_finished (course_of (Show name) t d) bytes rest old new s refused h)
+did_refuse (Maintain name) t bytes d rest old new s told refused h =
+    opening_unchanged t old new (told refl) s refused (λ r. (by_lines step finish r).whole bytes) (λ es v. refl) (λ es o. lines_unrefused (lines_of bytes) [] o) d
+    (refused_finished (course_of (Maintain name) t d) bytes rest old new s refused h)
+did_refuse (Verify name) t bytes d rest old new s told refused h =
+    verify_unchanged t old new (told refl) s refused d (refused_finished (course_of (Verify name) t d) bytes rest old new s refused h)
+did_refuse Other t bytes d rest old new s told refused h =
+    let f = refused_finished (course_of Other t d) bytes rest old new s refused h in
+    absurd (false≢true (ap is_refused_status (sym f.status) ∙ refused))
+
+-- a folder that was said to differ from an accepted view does
+pub did_differ : (name : Text) (t : Tree) (d : Definition) (rest : Option (List ℕ)) (old new : World) (s : Status) → s ≡ status.NoView → Did (course_of (Verify name) t d) [] rest old new s → Differs d t
+did_differ name t d rest old new s is h = λ o held.
+    let a = o.accepted in
+    let c = o.catalogue in
+    let f = refused_finished (course_of (Verify name) t d) [] rest old new s (ap is_refused_status is) h in
+    let same : (verified t d).status ≡ verdict.Done =
+    ap (λ (x : Definition). (verified t x).status) o.defined ∙ ap (λ (r : Result CatalogueValue Row). (verified_over t a.query r).status) o.loaded
+    ∙ ap (λ (r : Option Row). (verified_view t a.query c r).status) o.unrefused
+    ∙ ap (λ (r : Comparison). (by_comparison r).status) (holds_same (folder_of a) (files_of_view c a.query) t (are_view_files c a.query) held) in
+    absurd (cc (sym is ∙ f.status ∙ ap number same))
