@@ -1,4 +1,5 @@
-//! Worked rows of the whole program, over folders and streams in memory, and each of their calls failing in turn.
+//! Worked rows of the whole program, over folders and streams in memory, and one run of `show` and one of `maintain`
+//! with each of their calls failing in turn.
 //!
 //! It has tests alone. What they want comes from outside, never from the program.
 #![tactic(auto)]

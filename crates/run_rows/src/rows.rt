@@ -36,7 +36,7 @@ const CS: &str = "category,salFloor\nAssoc,60000\nProf,72000\n";
 const MATH: &str = "category,salFloor\nProf,65000\n";
 
 // Views that are shown.
-const SHOWN: [Row; 8] = [
+const SHOWN: [Row; 10] = [
     Row {
         words: &["show", "P"],
         files: &[PAY, A],
@@ -157,6 +157,42 @@ const SHOWN: [Row; 8] = [
             printed: "synced\t1\n",
             folder: "views/One",
             held: &[("t.csv", "x\n\"\"\n\"a\"\"b\"\n")],
+        },
+    },
+    // A term that no row has, in the other branch of an OR.
+    Row {
+        words: &["show", "V"],
+        files: &[
+            (
+                "defs",
+                "V.ssql",
+                "create view V::t(a) as select T.a from d::r T where T.a = 1 or T.zzz = 2",
+            ),
+            ("sources/d", "r.csv", "a\n1\n"),
+        ],
+        want: Want {
+            status: 0,
+            printed: "synced\t1\n",
+            folder: "views/V",
+            held: &[("t.csv", "a\n")],
+        },
+    },
+    // A key whose one value is empty.
+    Row {
+        words: &["show", "AtoB"],
+        files: &[
+            A_TO_B,
+            (
+                "sources/univ-A",
+                "salInfo.csv",
+                "category,dept,salFloor\nProf,cs,\n",
+            ),
+        ],
+        want: Want {
+            status: 0,
+            printed: "synced\t1\n",
+            folder: "views/AtoB",
+            held: &[("salInfo.csv", "category,cs\nProf,\n")],
         },
     },
 ];
