@@ -13,16 +13,12 @@ use Rattle.std.proofs.lemmas.Slice.Eq.{bytes_eq-Decides}
 use Rattle.std.specs.List.{AllByRecursion}
 use Rattle.std.specs.List.Sorted.{IsStrictlySortedBy}
 use Rattle.std.proofs.lemmas.Cmp.{on_total, then_total}
-use Rattle.std.proofs.lemmas.Map.Lookups.{exact_bytes, exact_pairs}
 use Rattle.ss_text.specs.Texts.{text_cmp}
 use Rattle.outside.specs.Tree.{Place, place_cmp, names_in}
+use Rattle.outside.specs.WholeLaw.{place_exact}
 
 pub place_total : IsTotalOrder place_cmp
 place_total = then_total (on_total (λ (p : Place). p.0) nat_list_cmp_total) (on_total (λ (p : Place). p.1) nat_list_cmp_total)
-
--- places that compare alike are one
-pub place_exact : IsAntisymmetric place_cmp
-place_exact = exact_pairs text_cmp text_cmp exact_bytes exact_bytes
 
 abbrev Files : Type 0
 Files = List (Place × List ℕ)

@@ -13,12 +13,8 @@ use Rattle.std.specs.BTreeMap.{is_at}
 use Rattle.std.specs.List.Sorted.{IsStrictlySortedBy}
 use Rattle.ss_text.specs.Texts.{text_cmp}
 use Rattle.outside.specs.Tree.{Tree, Place, after_front, child_name, part_after, is_part, folder_set, named, children_in, place_cmp, with_folders, folder_path, with_file, BrokeOff, MayBreakOff}
-use Rattle.outside.proofs.PlaceLemmas.{place_total, place_exact, entries_of_ordered}
-
-is_eq_true : (o : Ordering) → is_eq o ≡ true → o ≡ Equal
-is_eq_true Less h = absurd (cc)
-is_eq_true Equal h = refl
-is_eq_true Greater h = absurd (cc)
+use Rattle.outside.proofs.PlaceLemmas.{place_total, entries_of_ordered}
+use Rattle.outside.specs.WholeLaw.{is_eq_true, place_exact}
 
 or_cond : (a b : Bool) → cond a true b ≡ (a || b)
 or_cond true b = refl
@@ -28,11 +24,15 @@ here_or_later : {A : Type 0} (a b : Bool) (x : A) → cond a (Some x) (cond b (S
 here_or_later true b x = refl
 here_or_later false b x = refl
 
+gone_or_later : {A : Type 0} (a b : Bool) (x : A) → cond (cond a false b) (Some x) None ≡ cond a None (cond b (Some x) None)
+gone_or_later true b x = refl
+gone_or_later false b x = refl
+
 some_if : {A : Type 0} (b : Bool) (x : A) → is_some (cond b (Some x) None) ≡ b
 some_if true x = refl
 some_if false x = refl
 
-some_unit : (o : Option (Unit {0})) (t : Bool) → is_some (cond t (Some tt) o) ≡ (t || is_some o)
+pub some_unit : (o : Option (Unit {0})) (t : Bool) → is_some (cond t (Some tt) o) ≡ (t || is_some o)
 some_unit o true = refl
 some_unit o false = refl
 
@@ -42,7 +42,7 @@ later_or_here true false o = refl
 later_or_here false true o = refl
 later_or_here false false o = refl
 
-get_made : (fs : List (List ℕ)) (s : map.FinMap text_cmp (Unit {0})) (q : List ℕ) → map.get (with_folders fs s) q ≡ cond (list_any (eq_by_cmp text_cmp q) fs) (Some tt) (map.get s q)
+pub get_made : (fs : List (List ℕ)) (s : map.FinMap text_cmp (Unit {0})) (q : List ℕ) → map.get (with_folders fs s) q ≡ cond (list_any (eq_by_cmp text_cmp q) fs) (Some tt) (map.get s q)
 get_made [] s q = refl
 get_made (f ∷ fs) s q =
     get_made fs (map.insert s f tt) q ∙ ap (cond (list_any (eq_by_cmp text_cmp q) fs) (Some tt)) (map.get-insert nat_list_cmp_total s f tt q)
@@ -52,7 +52,7 @@ find_named : (ks : List (List ℕ)) (q : List ℕ) → map.find text_cmp q (name
 find_named [] q = refl
 find_named (k ∷ ks) q = ap (cond (eq_by_cmp text_cmp q k) (Some tt)) (find_named ks q) ∙ here_or_later (eq_by_cmp text_cmp q k) (list_any (eq_by_cmp text_cmp q) ks) tt
 
-get_named : (ks : List (List ℕ)) (q : List ℕ) → map.get (folder_set ks) q ≡ cond (list_any (eq_by_cmp text_cmp q) ks) (Some tt) None
+pub get_named : (ks : List (List ℕ)) (q : List ℕ) → map.get (folder_set ks) q ≡ cond (list_any (eq_by_cmp text_cmp q) ks) (Some tt) None
 get_named ks q = map.get-from_entries nat_list_cmp_total (named ks) q ∙ find_named ks q
 
 -- one folder more
@@ -63,6 +63,18 @@ insert_folder ks ms k h = map.same_map nat_list_cmp_total exact_bytes _ _ (λ q.
     ∙ sym (here_or_later (eq_by_cmp text_cmp q k) (list_any (eq_by_cmp text_cmp q) ks) tt)
     ∙ ap (cond (eq_by_cmp text_cmp q k) (Some tt)) (sym (get_named ks q))
     ∙ sym (map.get-insert nat_list_cmp_total (folder_set ks) k tt q))
+
+-- one folder less
+pub remove_folder : (ks ms : List (List ℕ)) (k : List ℕ) → ((q : List ℕ) → list_any (is_at (text_cmp q)) ms ≡ cond (is_at (text_cmp k) q) false (list_any (is_at (text_cmp q)) ks)) → folder_set ms ≡ map.remove (folder_set ks) k
+remove_folder ks ms k h = map.same_map nat_list_cmp_total exact_bytes _ _ (λ q.
+    get_named ms q ∙ ap (λ b. cond b (Some tt) None) (h q ∙ ap (λ b. cond b false (list_any (is_at (text_cmp q)) ks)) ((eq_by_cmp_equiv nat_list_cmp_total).symm k q))
+    ∙ gone_or_later (eq_by_cmp text_cmp q k) (list_any (is_at (text_cmp q)) ks) tt
+    ∙ ap (cond (eq_by_cmp text_cmp q k) None) (sym (get_named ks q))
+    ∙ sym (map.get-remove nat_list_cmp_total (folder_set ks) k q))
+
+-- whether a folder is among them
+pub has_named : (ks : List (List ℕ)) (q : List ℕ) → map.contains_key (folder_set ks) q ≡ list_any (is_at (text_cmp q)) ks
+has_named ks q = ap is_some (get_named ks q) ∙ some_if (list_any (eq_by_cmp text_cmp q) ks) tt
 
 names_named : (ks : List (List ℕ)) → each (λ (e : List ℕ × Unit {0}). e.0) (named ks) ≡ ks
 names_named [] = refl
@@ -100,7 +112,7 @@ slash_part (c ∷ cs) a h =
     rw (same, parts.1) refl
 
 -- a folder that lies in another, by its name there
-child_full : (folder full name : List ℕ) → child_name folder full ≡ Some name → full ≡ folder ++ 47 ∷ name
+pub child_full : (folder full name : List ℕ) → child_name folder full ≡ Some name → full ≡ folder ++ 47 ∷ name
 child_full folder full name h =
     elim (after_front folder full) as (λ o. after_front folder full ≡ o → option_and_then part_after o ≡ Some name → full ≡ folder ++ 47 ∷ name) [
       | None ↦ λ _ h. absurd (cc)
@@ -130,7 +142,7 @@ children_ascend folder (x ∷ xs) h =
     ] refl
 
 -- folders stay when more are made
-kept_made : (more : List (List ℕ)) (s : map.FinMap text_cmp (Unit {0})) (d : List ℕ) → map.contains_key s d ≡ true → map.contains_key (with_folders more s) d ≡ true
+pub kept_made : (more : List (List ℕ)) (s : map.FinMap text_cmp (Unit {0})) (d : List ℕ) → map.contains_key s d ≡ true → map.contains_key (with_folders more s) d ≡ true
 kept_made more s d h =
     ap is_some (get_made more s d) ∙ some_unit (map.get s d) (list_any (eq_by_cmp text_cmp d) more)
     ∙ or_right (list_any (eq_by_cmp text_cmp d) more) (is_some (map.get s d)) h
@@ -142,8 +154,11 @@ other_place m k p b other =
     ∙ cond-false (eq_by_cmp place_cmp p k) (Some b) (map.get m p) (false_from_ne_true _ (λ t. other (place_exact p k (is_eq_true _ t))))
 
 -- nothing changed
-pub same_broke_off : (folder file : List ℕ) (t : Tree) → BrokeOff [] folder file t t
-same_broke_off folder file t = record { others = λ p other. refl; kept = λ d h. h; made = λ d h. h }
+pub same_broke_off : (folder file : List ℕ) (t : Option Tree) → MayBreakOff [] folder file t t
+same_broke_off folder file t = record {
+  untold = λ e. e;
+  told = λ s is. (s, is, record { others = λ p other. refl; kept = λ d h. h; made = λ d h. h });
+}
 
 -- any bytes were written
 pub write_broke_off : (folder file bytes : List ℕ) (t : Tree) → BrokeOff (folder_path folder) folder file t (with_file folder file bytes t)

@@ -78,6 +78,14 @@ children_in folder fulls = filter_map (child_name folder) fulls
 abbrev pub subfolders_of : Tree → List ℕ → List (List ℕ)
 subfolders_of t folder = children_in folder (map.keys t.folders)
 
+-- whether a folder is there
+abbrev pub has_folder : Tree → List ℕ → Bool
+has_folder t folder = map.contains_key t.folders folder
+
+-- whether a folder is there without files and subfolders
+abbrev pub has_empty_folder : Tree → List ℕ → Bool
+has_empty_folder t folder = has_folder t folder && (length (files_of t folder) == 0) && (length (subfolders_of t folder) == 0)
+
 -- after a file is written
 abbrev pub with_file : List ℕ → List ℕ → List ℕ → Tree → Tree
 with_file folder file bytes t = record { folders = with_folders (folder_path folder) t.folders; files = map.insert t.files (folder, file) bytes }
@@ -85,6 +93,18 @@ with_file folder file bytes t = record { folders = with_folders (folder_path fol
 -- after a file is removed
 abbrev pub without_file : List ℕ → List ℕ → Tree → Tree
 without_file folder file t = record { folders = t.folders; files = map.remove t.files (folder, file) }
+
+-- these folders, and a folder with those above it where it is missing
+abbrev pub with_missing : List ℕ → map.FinMap text_cmp (Unit {0}) → map.FinMap text_cmp (Unit {0})
+with_missing folder folders = if map.contains_key folders folder then folders else with_folders (folder_path folder) folders
+
+-- after a folder is made
+abbrev pub with_folder : List ℕ → Tree → Tree
+with_folder folder t = record { folders = with_missing folder t.folders; files = t.files }
+
+-- after a folder is removed, where it was there without files and subfolders
+abbrev pub without_folder : List ℕ → Tree → Tree
+without_folder folder t = record { folders = if has_empty_folder t folder then map.remove t.folders folder else t.folders; files = t.files }
 
 -- after a call on this one file broke off, which may have made these folders
 pub record BrokeOff (path : List (List ℕ)) (folder file : List ℕ) (old new : Tree) : Type 0 where
@@ -97,6 +117,21 @@ pub record MayBreakOff (path : List (List ℕ)) (folder file : List ℕ) (old ne
   pub untold : old ≡ None → new ≡ None
   pub told : (t : Tree) → old ≡ Some t → (u : Tree) × (new ≡ Some u) × BrokeOff path folder file t u
 
+-- after a call on this one folder broke off, which may have made these folders
+pub record FolderBrokeOff (path : List (List ℕ)) (folder : List ℕ) (old new : Tree) : Type 0 where
+  pub files : new.files ≡ old.files
+  pub kept : (d : List ℕ) → d ≢ folder → has_folder old d ≡ true → has_folder new d ≡ true
+  pub made : (d : List ℕ) → d ≢ folder → has_folder new d ≡ true → map.contains_key (with_folders path old.folders) d ≡ true
+
+-- whether a store tells stays, and where it tells, the folder broke off
+pub record FolderMayBreakOff (path : List (List ℕ)) (folder : List ℕ) (old new : Option Tree) : Type 0 where
+  pub untold : old ≡ None → new ≡ None
+  pub told : (t : Tree) → old ≡ Some t → (u : Tree) × (new ≡ Some u) × FolderBrokeOff path folder t u
+
 -- the map of these entries
 abbrev pub files_map : List (Place × List ℕ) → map.FinMap place_cmp (List ℕ)
 files_map es = map.from_entries es
+
+-- the tree of these folders and these entries
+abbrev pub tree_of : List (List ℕ) → List (Place × List ℕ) → Tree
+tree_of folders es = record { folders = folder_set folders; files = files_map es }

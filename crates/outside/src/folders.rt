@@ -1,10 +1,11 @@
 //! Folders of files.
-ghost use Rattle.std.specs.Prelude.{◌≡◌, [], ℕ, ◌≤◌, List, Option, Some, IfOk, OnOk, OnErr, IsErrOf, option_map, is_some, if◌then◌else◌};
+ghost use Rattle.std.specs.Prelude.{◌≡◌, [], ℕ, ◌≤◌, List, Option, Some, IfOk, OnOk, OnErr, IsErrOf, option_map, is_some, not, if◌then◌else◌};
 ghost use Rattle.std.specs.List.Sorted.{IsStrictlySortedBy};
 ghost use Rattle.outside.specs.Counts.{Rose, risen};
 ghost use Rattle.outside.specs.States.{StoreState};
 ghost use Rattle.ss_text.specs.Texts.{text_cmp};
-ghost use Rattle.outside.specs.Tree.{Tree, file_at, files_of, subfolders_of, folder_path, with_file, without_file, MayBreakOff};
+ghost use Rattle.outside.specs.Tree.{Tree, file_at, files_of, subfolders_of, folder_path, with_file, without_file, has_folder, has_empty_folder, with_folder, without_folder, MayBreakOff, FolderMayBreakOff};
+ghost use Rattle.outside.specs.Whole.{IsWhole};
 
 use crate::StoreFault;
 use ss_text::Text;
@@ -79,4 +80,33 @@ pub trait Folders {
         ensures no_memory { IsErrOf result StoreFault.NoMemory → (state self.new).tree ≡ (state self.old).tree }
         ensures no_fault { IsErrOf result StoreFault.NoMemory → (state self.new).write_faults ≡ (state self.old).write_faults }
         ensures read_faults { (state self.new).read_faults ≡ (state self.old).read_faults };
+
+    /// Makes a folder and those above it, where it is missing, and answers whether it was.
+    fn make_folder(&mut self, alloc: Global, folder: &Text) -> Result<bool, StoreFault>
+        ensures made { IfOk result (λ made. (t : Tree) → (state self.old).tree ≡ Some t → made ≡ not (has_folder t folder.now)) }
+        ensures ok { OnOk result ((state self.new).tree ≡ option_map (with_folder folder.now) ((state self.old).tree)) }
+        ensures counted { IfOk result (λ made. (state self.new).writes ≡ (if made then risen ((state self.old).writes) 1 else (state self.old).writes)) }
+        ensures broke_off { IsErrOf result StoreFault.Failed → FolderMayBreakOff (folder_path folder.now) folder.now ((state self.old).tree) ((state self.new).tree) }
+        ensures failed { IsErrOf result StoreFault.Failed → Rose ((state self.old).write_faults) ((state self.new).write_faults) }
+        ensures steady { (state self.old).write_faults ≤ (state self.new).write_faults }
+        ensures uncounted { OnErr result ((state self.new).writes ≡ (state self.old).writes) }
+        ensures no_memory { IsErrOf result StoreFault.NoMemory → (state self.new).tree ≡ (state self.old).tree }
+        ensures no_fault { IsErrOf result StoreFault.NoMemory → (state self.new).write_faults ≡ (state self.old).write_faults }
+        ensures read_faults { (state self.new).read_faults ≡ (state self.old).read_faults };
+
+    /// Removes a folder that is there without files and subfolders, and answers whether it was so.
+    fn remove_folder(&mut self, alloc: Global, folder: &Text) -> Result<bool, StoreFault>
+        ensures was { IfOk result (λ was. (t : Tree) → (state self.old).tree ≡ Some t → was ≡ has_empty_folder t folder.now) }
+        ensures ok { OnOk result ((state self.new).tree ≡ option_map (without_folder folder.now) ((state self.old).tree)) }
+        ensures counted { IfOk result (λ was. (state self.new).writes ≡ (if was then risen ((state self.old).writes) 1 else (state self.old).writes)) }
+        ensures broke_off { IsErrOf result StoreFault.Failed → FolderMayBreakOff [] folder.now ((state self.old).tree) ((state self.new).tree) }
+        ensures failed { IsErrOf result StoreFault.Failed → Rose ((state self.old).write_faults) ((state self.new).write_faults) }
+        ensures steady { (state self.old).write_faults ≤ (state self.new).write_faults }
+        ensures uncounted { OnErr result ((state self.new).writes ≡ (state self.old).writes) }
+        ensures no_memory { IsErrOf result StoreFault.NoMemory → (state self.new).tree ≡ (state self.old).tree }
+        ensures no_fault { IsErrOf result StoreFault.NoMemory → (state self.new).write_faults ≡ (state self.old).write_faults }
+        ensures read_faults { (state self.new).read_faults ≡ (state self.old).read_faults };
+
+    /// The folder of each file that it tells is there.
+    ghost whole: { (s : Self) (t : Tree) → (state s).tree ≡ Some t → IsWhole t };
 }

@@ -1,11 +1,12 @@
 //! Folders in memory.
-ghost use Rattle.std.specs.Prelude.{◌≡◌, ◌/◌, ◌<◌, ◌≤◌, [], All, Some, true, false, length, take, ◌↔◌, IfOk, OnOk, OnErr, IsErrOf, option_map, is_some, if◌then◌else◌};
+ghost use Rattle.std.specs.Prelude.{◌≡◌, ◌/◌, ◌<◌, ◌≤◌, [], All, Some, true, false, length, take, ◌↔◌, IfOk, OnOk, OnErr, IsErrOf, option_map, is_some, not, if◌then◌else◌};
 ghost use Rattle.std.specs.FinMap as map;
 ghost use Rattle.std.specs.List.Sorted.{IsStrictlySortedBy};
 ghost use Rattle.ss_text.specs.Texts.{text_cmp};
 ghost use Rattle.outside.specs.Counts.{Rose, risen};
 ghost use Rattle.outside.specs.Calls.{faults_of, next_fails, CountedUnlessNoMemory};
-ghost use Rattle.outside.specs.Tree.{Tree, file_at, files_of, subfolders_of, folder_path, with_file, without_file, MayBreakOff};
+ghost use Rattle.outside.specs.Tree.{Tree, file_at, files_of, subfolders_of, folder_path, with_file, without_file, has_folder, has_empty_folder, with_folder, without_folder, MayBreakOff, FolderMayBreakOff};
+ghost use Rattle.outside.specs.Whole.{told};
 
 use crate::numbering::Numbering;
 use crate::{Folders, StoreFault, SureFolders};
@@ -61,20 +62,26 @@ impl MemFolders {
     ) -> Result<(), NoMemory>
         ensures ok { OnOk result (self.new ≡ record self.old { tree = with_file folder.now file.now bytes.now self.old.tree }) }
         ensures err { OnErr result (self.new ≡ self.old) }
+        ensures tells { told self.new.tree ≡ Some self.new.tree }
+        ensures told_before { told self.old.tree ≡ Some self.old.tree }
     {
         self.store.put(alloc, folder, file, bytes)
     }
 }
 
 impl Folders for MemFolders {
-    ghost state = { λ s. record { tree = Some s.tree; writes = s.writes; read_faults = faults_of s.reads; write_faults = faults_of s.changes } };
+    ghost use Rattle.outside.specs.WholeLaw.{told_is_whole};
+
+    ghost whole = { λ s t h. told_is_whole s.tree t h };
+
+    ghost state = { λ s. record { tree = told s.tree; writes = s.writes; read_faults = faults_of s.reads; write_faults = faults_of s.changes } };
 
     fn subfolders(&mut self, alloc: Global, folder: &Text) -> Result<Vec<Text>, StoreFault>
-        ensures told { IfOk result (λ names. (t : Tree) → Some self.old.tree ≡ Some t → names.items ≡ subfolders_of t folder.now) }
+        ensures told { IfOk result (λ names. (t : Tree) → told self.old.tree ≡ Some t → names.items ≡ subfolders_of t folder.now) }
         ensures ascending { IfOk result (λ names. IsStrictlySortedBy text_cmp names.items) }
         ensures failed { IsErrOf result StoreFault.Failed → Rose (faults_of self.old.reads) (faults_of self.new.reads) }
         ensures steady { faults_of self.old.reads ≤ faults_of self.new.reads }
-        ensures tree { Some self.new.tree ≡ Some self.old.tree }
+        ensures tree { told self.new.tree ≡ told self.old.tree }
         ensures writes { self.new.writes ≡ self.old.writes }
         ensures write_faults { faults_of self.new.changes ≡ faults_of self.old.changes }
 
@@ -93,11 +100,11 @@ impl Folders for MemFolders {
     }
 
     fn files(&mut self, alloc: Global, folder: &Text) -> Result<Vec<Text>, StoreFault>
-        ensures told { IfOk result (λ names. (t : Tree) → Some self.old.tree ≡ Some t → names.items ≡ files_of t folder.now) }
+        ensures told { IfOk result (λ names. (t : Tree) → told self.old.tree ≡ Some t → names.items ≡ files_of t folder.now) }
         ensures ascending { IfOk result (λ names. IsStrictlySortedBy text_cmp names.items) }
         ensures failed { IsErrOf result StoreFault.Failed → Rose (faults_of self.old.reads) (faults_of self.new.reads) }
         ensures steady { faults_of self.old.reads ≤ faults_of self.new.reads }
-        ensures tree { Some self.new.tree ≡ Some self.old.tree }
+        ensures tree { told self.new.tree ≡ told self.old.tree }
         ensures writes { self.new.writes ≡ self.old.writes }
         ensures write_faults { faults_of self.new.changes ≡ faults_of self.old.changes }
 
@@ -121,10 +128,10 @@ impl Folders for MemFolders {
         folder: &Text,
         file: &Text,
     ) -> Result<Option<Text>, StoreFault>
-        ensures told { IfOk result (λ bytes. (t : Tree) → Some self.old.tree ≡ Some t → bytes ≡ file_at t folder.now file.now) }
+        ensures told { IfOk result (λ bytes. (t : Tree) → told self.old.tree ≡ Some t → bytes ≡ file_at t folder.now file.now) }
         ensures failed { IsErrOf result StoreFault.Failed → Rose (faults_of self.old.reads) (faults_of self.new.reads) }
         ensures steady { faults_of self.old.reads ≤ faults_of self.new.reads }
-        ensures tree { Some self.new.tree ≡ Some self.old.tree }
+        ensures tree { told self.new.tree ≡ told self.old.tree }
         ensures writes { self.new.writes ≡ self.old.writes }
         ensures write_faults { faults_of self.new.changes ≡ faults_of self.old.changes }
 
@@ -150,13 +157,13 @@ impl Folders for MemFolders {
         file: &Text,
         bytes: &[u8],
     ) -> Result<(), StoreFault>
-        ensures ok { OnOk result (Some self.new.tree ≡ option_map (with_file folder.now file.now bytes.now) (Some self.old.tree)) }
+        ensures ok { OnOk result (told self.new.tree ≡ option_map (with_file folder.now file.now bytes.now) (told self.old.tree)) }
         ensures counted { OnOk result (self.new.writes ≡ risen self.old.writes 1) }
-        ensures broke_off { IsErrOf result StoreFault.Failed → MayBreakOff (folder_path folder.now) folder.now file.now (Some self.old.tree) (Some self.new.tree) }
+        ensures broke_off { IsErrOf result StoreFault.Failed → MayBreakOff (folder_path folder.now) folder.now file.now (told self.old.tree) (told self.new.tree) }
         ensures failed { IsErrOf result StoreFault.Failed → Rose (faults_of self.old.changes) (faults_of self.new.changes) }
         ensures steady { faults_of self.old.changes ≤ faults_of self.new.changes }
         ensures uncounted { OnErr result (self.new.writes ≡ self.old.writes) }
-        ensures no_memory { IsErrOf result StoreFault.NoMemory → Some self.new.tree ≡ Some self.old.tree }
+        ensures no_memory { IsErrOf result StoreFault.NoMemory → told self.new.tree ≡ told self.old.tree }
         ensures no_fault { IsErrOf result StoreFault.NoMemory → faults_of self.new.changes ≡ faults_of self.old.changes }
         ensures read_faults { faults_of self.new.reads ≡ faults_of self.old.reads }
 
@@ -177,23 +184,23 @@ impl Folders for MemFolders {
         Ok(())
     }
 
-    #[tactic(auto, using(crate::proofs::TreeLemmas::told_broke_off, crate::proofs::TreeLemmas::same_broke_off))]
+    #[tactic(auto, using(crate::proofs::TreeLemmas::same_broke_off))]
     fn remove(&mut self, alloc: Global, folder: &Text, file: &Text) -> Result<bool, StoreFault>
-        ensures was { IfOk result (λ was. (t : Tree) → Some self.old.tree ≡ Some t → was ≡ is_some (file_at t folder.now file.now)) }
-        ensures ok { OnOk result (Some self.new.tree ≡ option_map (without_file folder.now file.now) (Some self.old.tree)) }
+        ensures was { IfOk result (λ was. (t : Tree) → told self.old.tree ≡ Some t → was ≡ is_some (file_at t folder.now file.now)) }
+        ensures ok { OnOk result (told self.new.tree ≡ option_map (without_file folder.now file.now) (told self.old.tree)) }
         ensures counted { IfOk result (λ was. self.new.writes ≡ (if was then risen self.old.writes 1 else self.old.writes)) }
-        ensures broke_off { IsErrOf result StoreFault.Failed → MayBreakOff [] folder.now file.now (Some self.old.tree) (Some self.new.tree) }
+        ensures broke_off { IsErrOf result StoreFault.Failed → MayBreakOff [] folder.now file.now (told self.old.tree) (told self.new.tree) }
         ensures failed { IsErrOf result StoreFault.Failed → Rose (faults_of self.old.changes) (faults_of self.new.changes) }
         ensures steady { faults_of self.old.changes ≤ faults_of self.new.changes }
         ensures uncounted { OnErr result (self.new.writes ≡ self.old.writes) }
-        ensures no_memory { IsErrOf result StoreFault.NoMemory → Some self.new.tree ≡ Some self.old.tree }
+        ensures no_memory { IsErrOf result StoreFault.NoMemory → told self.new.tree ≡ told self.old.tree }
         ensures no_fault { IsErrOf result StoreFault.NoMemory → faults_of self.new.changes ≡ faults_of self.old.changes }
         ensures read_faults { faults_of self.new.reads ≡ faults_of self.old.reads }
 
         // What is particular to it: a call that fails leaves the file.
         ensures fails { IsErrOf result StoreFault.Failed ↔ (next_fails self.old.changes ≡ true) }
         ensures numbered { CountedUnlessNoMemory result self.old.changes self.new.changes }
-        ensures stays { OnErr result (self.new.tree ≡ self.old.tree) }
+        ensures stays { OnErr result (told self.new.tree ≡ told self.old.tree) }
         ensures reads { self.new.reads ≡ self.old.reads }
     {
         if self.changes.next_fails() {
@@ -201,6 +208,62 @@ impl Folders for MemFolders {
             return Err(StoreFault::Failed);
         }
         let was = self.store.remove(alloc, folder, file)?;
+        self.changes.count();
+        Ok(was)
+    }
+
+    #[tactic(auto, using(crate::proofs::WholeLemmas::same_folder_off))]
+    fn make_folder(&mut self, alloc: Global, folder: &Text) -> Result<bool, StoreFault>
+        ensures made { IfOk result (λ made. (t : Tree) → told self.old.tree ≡ Some t → made ≡ not (has_folder t folder.now)) }
+        ensures ok { OnOk result (told self.new.tree ≡ option_map (with_folder folder.now) (told self.old.tree)) }
+        ensures counted { IfOk result (λ made. self.new.writes ≡ (if made then risen self.old.writes 1 else self.old.writes)) }
+        ensures broke_off { IsErrOf result StoreFault.Failed → FolderMayBreakOff (folder_path folder.now) folder.now (told self.old.tree) (told self.new.tree) }
+        ensures failed { IsErrOf result StoreFault.Failed → Rose (faults_of self.old.changes) (faults_of self.new.changes) }
+        ensures steady { faults_of self.old.changes ≤ faults_of self.new.changes }
+        ensures uncounted { OnErr result (self.new.writes ≡ self.old.writes) }
+        ensures no_memory { IsErrOf result StoreFault.NoMemory → told self.new.tree ≡ told self.old.tree }
+        ensures no_fault { IsErrOf result StoreFault.NoMemory → faults_of self.new.changes ≡ faults_of self.old.changes }
+        ensures read_faults { faults_of self.new.reads ≡ faults_of self.old.reads }
+
+        // What is particular to it: a call that fails makes no folder.
+        ensures fails { IsErrOf result StoreFault.Failed ↔ (next_fails self.old.changes ≡ true) }
+        ensures numbered { CountedUnlessNoMemory result self.old.changes self.new.changes }
+        ensures stays { OnErr result (told self.new.tree ≡ told self.old.tree) }
+        ensures reads { self.new.reads ≡ self.old.reads }
+    {
+        if self.changes.next_fails() {
+            self.changes.count();
+            return Err(StoreFault::Failed);
+        }
+        let made = self.store.make_folder(alloc, folder)?;
+        self.changes.count();
+        Ok(made)
+    }
+
+    #[tactic(auto, using(crate::proofs::WholeLemmas::same_folder_off))]
+    fn remove_folder(&mut self, alloc: Global, folder: &Text) -> Result<bool, StoreFault>
+        ensures was { IfOk result (λ was. (t : Tree) → told self.old.tree ≡ Some t → was ≡ has_empty_folder t folder.now) }
+        ensures ok { OnOk result (told self.new.tree ≡ option_map (without_folder folder.now) (told self.old.tree)) }
+        ensures counted { IfOk result (λ was. self.new.writes ≡ (if was then risen self.old.writes 1 else self.old.writes)) }
+        ensures broke_off { IsErrOf result StoreFault.Failed → FolderMayBreakOff [] folder.now (told self.old.tree) (told self.new.tree) }
+        ensures failed { IsErrOf result StoreFault.Failed → Rose (faults_of self.old.changes) (faults_of self.new.changes) }
+        ensures steady { faults_of self.old.changes ≤ faults_of self.new.changes }
+        ensures uncounted { OnErr result (self.new.writes ≡ self.old.writes) }
+        ensures no_memory { IsErrOf result StoreFault.NoMemory → told self.new.tree ≡ told self.old.tree }
+        ensures no_fault { IsErrOf result StoreFault.NoMemory → faults_of self.new.changes ≡ faults_of self.old.changes }
+        ensures read_faults { faults_of self.new.reads ≡ faults_of self.old.reads }
+
+        // What is particular to it: a call that fails leaves the folder.
+        ensures fails { IsErrOf result StoreFault.Failed ↔ (next_fails self.old.changes ≡ true) }
+        ensures numbered { CountedUnlessNoMemory result self.old.changes self.new.changes }
+        ensures stays { OnErr result (told self.new.tree ≡ told self.old.tree) }
+        ensures reads { self.new.reads ≡ self.old.reads }
+    {
+        if self.changes.next_fails() {
+            self.changes.count();
+            return Err(StoreFault::Failed);
+        }
+        let was = self.store.remove_folder(alloc, folder)?;
         self.changes.count();
         Ok(was)
     }

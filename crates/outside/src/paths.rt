@@ -1,11 +1,13 @@
 //! The folders of a store in memory, by their full names.
-ghost use Rattle.std.specs.Prelude.{◌≡◌, IfOk, option_copied};
+ghost use Rattle.std.specs.Prelude.{◌≡◌, IfOk, OnOk, OnErr, not, option_copied, if◌then◌else◌};
 ghost use Rattle.std.specs.FinMap as map;
 ghost use Rattle.std.specs.BTreeSet.{IsOrdered};
 ghost use Rattle.std.specs.List.Sorted.{IsStrictlySortedBy};
 ghost use Rattle.ss_text.specs.Texts.{text_cmp};
-ghost use Rattle.outside.specs.Tree.{folder_path, with_folders, folder_set, children_in, child_name, part_after, is_part, after_front};
+ghost use Rattle.outside.specs.Tree.{folder_path, with_folders, with_missing, folder_set, tree_of, has_empty_folder, without_folder, children_in, child_name, part_after, is_part, after_front};
 
+use crate::places;
+use crate::places::Files;
 use ss_text::{NoMemory, Text};
 use std::alloc::Global;
 use std::collections::BTreeSet;
@@ -24,6 +26,67 @@ pub fn with_path(
         new.insert(part)?;
     }
     Ok(new)
+}
+
+// Whether a folder is there.
+#[tactic(auto, using(crate::proofs::TreeLemmas::has_named))]
+fn is_there(folders: &BTreeSet<Text>, folder: &Text) -> bool
+    ensures { result ≡ map.contains_key (folder_set folders.now.keys) folder.now }
+{
+    folders.contains(folder)
+}
+
+/// Makes a folder and those above it, where it is missing, and answers whether it was.
+pub fn make(alloc: Global, folders: &mut BTreeSet<Text>, folder: &Text) -> Result<bool, NoMemory>
+    ensures made { IfOk result (λ made. made ≡ not (map.contains_key (folder_set folders.old.keys) folder.now)) }
+    ensures ok { OnOk result (folder_set folders.new.keys ≡ with_missing folder.now (folder_set folders.old.keys)) }
+    ensures err { OnErr result (folders.new.keys ≡ folders.old.keys) }
+{
+    if is_there(folders, folder) {
+        return Ok(false);
+    }
+    *folders = with_path(alloc, folders, folder)?;
+    Ok(true)
+}
+
+/// Takes a folder away where it is there without files and subfolders, and answers whether it was so.
+pub fn take_empty(
+    alloc: Global,
+    folders: &mut BTreeSet<Text>,
+    files: &Files,
+    folder: &Text,
+) -> Result<bool, NoMemory>
+    ensures was { IfOk result (λ was. was ≡ has_empty_folder (tree_of folders.old.keys files.now.entries) folder.now) }
+    ensures ok { OnOk result (folder_set folders.new.keys ≡ (without_folder folder.now (tree_of folders.old.keys files.now.entries)).folders) }
+    ensures err { OnErr result (folders.new.keys ≡ folders.old.keys) }
+{
+    let empty = is_empty(alloc, folders, files, folder)?;
+    if empty {
+        take(folders, folder);
+    }
+    Ok(empty)
+}
+
+// Whether a folder is there without files and subfolders.
+fn is_empty(
+    alloc: Global,
+    folders: &BTreeSet<Text>,
+    files: &Files,
+    folder: &Text,
+) -> Result<bool, NoMemory>
+    ensures { IfOk result (λ empty. empty ≡ has_empty_folder (tree_of folders.now.keys files.now.entries) folder.now) }
+{
+    let files = places::names(alloc, files, folder)?;
+    let subfolders = children(alloc, folders, folder)?;
+    Ok(is_there(folders, folder) && files.is_empty() && subfolders.is_empty())
+}
+
+// Takes a folder away.
+#[tactic(auto, using(crate::proofs::TreeLemmas::remove_folder))]
+fn take(folders: &mut BTreeSet<Text>, folder: &Text)
+    ensures { folder_set folders.new.keys ≡ map.remove (folder_set folders.old.keys) folder.now }
+{
+    folders.remove(folder);
 }
 
 fn copy_of(folders: &BTreeSet<Text>) -> Result<BTreeSet<Text>, NoMemory>

@@ -1,7 +1,9 @@
 //! Folders in memory that never fail.
-ghost use Rattle.std.specs.Prelude.{◌≡◌, Some, OnOk, OnErr};
+ghost use Rattle.std.specs.Prelude.{◌≡◌, Some, OnOk, OnErr, if◌then◌else◌};
+ghost use Rattle.outside.specs.Counts.{risen};
 ghost use Rattle.std.specs.FinMap as map;
 ghost use Rattle.outside.specs.Tree.{with_file};
+ghost use Rattle.outside.specs.Whole.{told};
 
 use crate::places::Files;
 use crate::{Folders, StoreFault, paths, places};
@@ -20,7 +22,8 @@ pub struct SureFolders {
 
 impl Model for SureFolders {
     ghost use Rattle.std.specs.FinMap as map;
-    ghost use Rattle.outside.specs.Tree.{files_map, folder_set};
+    ghost use Rattle.outside.specs.Tree.{tree_of};
+    ghost use Rattle.outside.specs.Whole.{IsWhole};
     ghost use Rattle.outside.specs.MemTree.{SureFoldersState, coded_sure_state};
 
     ghost Value = { SureFoldersState };
@@ -28,9 +31,12 @@ impl Model for SureFolders {
     ghost coded = { coded_sure_state };
 
     ghost view = { λ s. record {
-      tree = record { folders = folder_set s.folders.keys; files = files_map s.files.entries };
+      tree = tree_of s.folders.keys s.files.entries;
       writes = s.writes;
     } };
+
+    // No file lies outside a folder.
+    ghost invariant = { λ s. IsWhole (tree_of s.folders.keys s.files.entries) };
 }
 
 impl SureFolders {
@@ -55,6 +61,8 @@ impl SureFolders {
     ) -> Result<(), NoMemory>
         ensures ok { OnOk result (self.new ≡ record self.old { tree = with_file folder.now file.now bytes.now self.old.tree }) }
         ensures err { OnErr result (self.new ≡ self.old) }
+        ensures tells { told self.new.tree ≡ Some self.new.tree }
+        ensures told_before { told self.old.tree ≡ Some self.old.tree }
     {
         let folders = paths::with_path(alloc, &self.folders, folder)?;
         places::put(alloc, &mut self.files, folder, file, bytes)?;
@@ -66,7 +74,11 @@ impl SureFolders {
 // Its contract in these terms says all: what it tells is its value, and a count of faults that
 // stays 0 leaves no answer but memory's.
 impl Folders for SureFolders {
-    ghost state = { λ s. record { tree = Some s.tree; writes = s.writes; read_faults = 0; write_faults = 0 } };
+    ghost use Rattle.outside.specs.WholeLaw.{told_is_whole};
+
+    ghost whole = { λ s t h. told_is_whole s.tree t h };
+
+    ghost state = { λ s. record { tree = told s.tree; writes = s.writes; read_faults = 0; write_faults = 0 } };
 
     fn subfolders(&mut self, alloc: Global, folder: &Text) -> Result<Vec<Text>, StoreFault> {
         Ok(paths::children(alloc, &self.folders, folder)?)
@@ -99,9 +111,30 @@ impl Folders for SureFolders {
 
     fn remove(&mut self, alloc: Global, folder: &Text, file: &Text) -> Result<bool, StoreFault> {
         let was = places::take(alloc, &mut self.files, folder, file)?;
-        if was {
-            self.writes = self.writes.saturating_add(1);
-        }
+        self.writes = counted(self.writes, was);
         Ok(was)
+    }
+
+    fn make_folder(&mut self, alloc: Global, folder: &Text) -> Result<bool, StoreFault> {
+        let made = paths::make(alloc, &mut self.folders, folder)?;
+        self.writes = counted(self.writes, made);
+        Ok(made)
+    }
+
+    fn remove_folder(&mut self, alloc: Global, folder: &Text) -> Result<bool, StoreFault> {
+        let was = paths::take_empty(alloc, &mut self.folders, &self.files, folder)?;
+        self.writes = counted(self.writes, was);
+        Ok(was)
+    }
+}
+
+// The count after a call that did something or nothing.
+fn counted(writes: u64, did: bool) -> u64
+    ensures { result ≡ (if did then risen writes 1 else writes) }
+{
+    if did {
+        writes.saturating_add(1)
+    } else {
+        writes
     }
 }

@@ -132,3 +132,39 @@ fn calls_on_folders_fail(rt: HostRuntime) -> Result<(), StoreFault> {
     assert_eq!(rt; taken(alloc, &mut store), [fails, Ok(3), Ok(1), Ok(100)]);
     Ok(())
 }
+
+// Makes two folders, of which one is there then, and removes what is empty.
+fn made_and_removed<F: Folders>(
+    alloc: Global,
+    store: &mut F,
+) -> Result<[Result<bool, StoreFault>; 6], NoMemory> {
+    let above = Text::of(alloc, b"a")?;
+    let folder = Text::of(alloc, b"a/b")?;
+    let made = store.make_folder(alloc, &folder);
+    let again = store.make_folder(alloc, &above);
+    let full = store.remove_folder(alloc, &above);
+    let gone = store.remove_folder(alloc, &folder);
+    let empty = store.remove_folder(alloc, &above);
+    let missing = store.remove_folder(alloc, &above);
+    Ok([made, again, full, gone, empty, missing])
+}
+
+#[test]
+fn folders_come_and_go(rt: HostRuntime) -> Result<(), NoMemory> {
+    let alloc = rt.alloc();
+    let mut store = SureFolders::of(alloc);
+    let all = [
+        Ok(true),
+        Ok(false),
+        Ok(false),
+        Ok(true),
+        Ok(true),
+        Ok(false),
+    ];
+    assert_eq!(rt; made_and_removed(alloc, &mut store)?, all);
+    let mut store = MemFolders::of(alloc, Vec::new(alloc), vec![in alloc; 4]?);
+    let fails = Err(StoreFault::Failed);
+    let one_fails = [Ok(true), Ok(false), Ok(false), fails, Ok(false), Ok(false)];
+    assert_eq!(rt; made_and_removed(alloc, &mut store)?, one_fails);
+    Ok(())
+}
