@@ -1,5 +1,5 @@
 -- Runs over an input that is read line by line.
-use Rattle.std.proofs.Common.{◌≡◌, ◌<◌, ◌≤◌, ◌+◌, ◌-◌, ℕ, Bool, true, false, List, [], ◌∷◌, ◌++◌, length, Option, None, Some, unwrap_or, inl, inr, refl, sym, ap, ◌∙◌, subst, append_assoc, append-nil, arith, length-append}
+use Rattle.std.proofs.Common.{◌≡◌, ◌<◌, ◌≤◌, ◌+◌, ◌-◌, ◌⊎◌, ◌==◌, ◌||◌, ℕ, Bool, true, false, List, [], ◌∷◌, ◌++◌, length, Option, None, Some, inl, inr, refl, sym, ap, ◌∙◌, subst, append_assoc, arith, length-append}
 use Rattle.std.specs.Prelude.{Result, Ok, Err, IsErrOf}
 use Rattle.outside.specs.Streams.{before}
 use Rattle.outside.specs.Counts.{Rose}
@@ -7,19 +7,26 @@ use Rattle.effects.specs.Effects.{Effect, World, Contents, contents, performed, 
 use Rattle.effects.specs.Blame.{Steady}
 use Rattle.effects.specs.declared.stop.Stop.{Stop}
 use Rattle.effects.specs.declared.stop.Stop.TheVariants as stop
-use Rattle.effects.proofs.EffectLemmas.{performed_append, nothing_yet}
+use Rattle.effects.proofs.EffectLemmas.{performed_append, nothing_yet, partly_more}
 use Rattle.tab_lines.specs.Lines.{has_feed, lines_of, whole_lines}
-use Rattle.tab_lines.specs.Taking.{LinesState, most_taken, ahead, Unfinished, IsWithinLimit, Answers, Reads, IsNextOf}
+use Rattle.tab_lines.specs.Taking.{LinesState, ahead, Unfinished, IsWithinLimit, IsTakenLine, Answers, Reads, IsNextOf}
 use Rattle.tab_lines.specs.declared.lines.Next.{Next}
 use Rattle.tab_lines.specs.declared.lines.Next.TheVariants.{Line, End}
 use Rattle.tab_lines.specs.declared.lines.ReadStop.{ReadStop}
 use Rattle.tab_lines.specs.declared.lines.ReadStop.TheVariants as read
-use Rattle.tab_lines.proofs.LineLemmas.{whole_first, whole_none}
+use Rattle.tab_lines.proofs.LineLemmas.{whole_first, whole_none, lines_first, lines_last, some_line}
 use Rattle.course.specs.declared.status.Verdict.{Verdict}
-use Rattle.course.specs.declared.status.Halt.{Halt}
 use Rattle.course.specs.declared.status.Halt.TheVariants as halt
-use Rattle.course.specs.Machine.{Reply, Goes, Halts, Ending, prefixed, follow, course, Answered, Ended, CutOff, Ran, IsReadOut, BlamesRun, BecauseOf, halt_of}
-use Rattle.course.proofs.MachineLemmas.{append_none, Mid, further, goes, halts, stops, mid_line, mid_halt, mid_stop, mid_idle, mid_end, mid_no_more, as_halt}
+use Rattle.course.specs.Machine.{Reply, Goes, Ending, effects_of, prefixed, follow, course, Answered, Ended, CutOff, Ran, TookLittle, IsReadOut, BlamesRun, halt_of}
+use Rattle.course.proofs.MachineLemmas.{append_none, Mid, further, goes, halts, stops, mid_course, mid_halt, mid_stop, mid_idle, mid_end, mid_no_more, course_goes_on, line_goes_on, as_halt}
+
+-- the bytes of the lines that were answered: all that was taken but for what the reader holds, which one read gave
+pub record Front (taken : List ℕ) (lines : List (List ℕ)) (reader : LinesState) : Type 0 where
+  pub bytes : List ℕ
+  pub seen : taken ≡ bytes ++ reader.left
+  pub lines_are : lines ≡ lines_of bytes
+  pub at_line : ((reader.ended ≡ true) × (reader.left ≡ [])) ⊎ ((more : List ℕ) → lines_of (bytes ++ more) ≡ lines ++ lines_of more)
+  pub short : length reader.left ≤ 65536
 
 -- some lines of an input were answered, and the reader holds or will take the others
 pub record Reached {A : Type 0} (step : A → List ℕ → Reply A) (start : A) (bytes : List ℕ) (old : Contents) (state : A) (reader : LinesState) (left : List ℕ) (now : Contents) : Type 0 where
@@ -31,6 +38,7 @@ pub record Reached {A : Type 0} (step : A → List ℕ → Reply A) (start : A) 
   pub are : lines_of bytes ≡ lines ++ lines_of (ahead reader left)
   pub whole : reader.ended ≡ false → (more : List ℕ) → whole_lines (taken ++ more) ≡ lines ++ whole_lines (reader.left ++ more)
   pub end : reader.ended ≡ true → left ≡ []
+  pub front : Front taken lines reader
   pub answered : follow step lines (Goes [] start) ≡ Goes effects state
   pub done : now ≡ performed effects old
 
@@ -52,6 +60,7 @@ starts step start input old reader is = rw is (record {
       are = refl;
       whole = λ going more. refl;
       end = λ ended. absurd (cc);
+      front = record { bytes = []; seen = refl; lines_are = refl; at_line = inr (λ more. refl); short = omega arith };
       answered = refl;
       done = refl;
     },
@@ -85,6 +94,7 @@ pub record Step (r : Result Next ReadStop) (old new : LinesState) (left more : L
   pub count : new.taken ≡ old.taken + length part
   pub going : new.ended ≡ false → old.ended ≡ false
   pub end : (old.ended ≡ true → left ≡ []) → new.ended ≡ true → more ≡ []
+  pub soon : IsTakenLine old.left part
   pub answers : Answers r (old.left ++ part) new
 
 pub step_of : (r : Result Next ReadStop) (old new : LinesState) (left : List ℕ) (rest later : Option (List ℕ)) → Reads r old new rest later → rest ≡ Some left → (more : List ℕ) × Step r old new left more later
@@ -98,9 +108,91 @@ step_of r old new left rest later m is =
         count = m.counted;
         going = still_going old.ended new.ended m.ended;
         end = λ was ended. nothing_left old.ended new.ended left m.part t.0 was t.2 (λ going now. m.end going now t.0 t.1) ended;
+        soon = m.soon;
         answers = m.answers;
       },
     )
+
+-- what a reader has seen of an input and not answered: bytes without an LF, and then at most what one read gives
+pub record Seen (bytes : List ℕ) : Type 0 where
+  pub line : List ℕ
+  pub piece : List ℕ
+  pub are : bytes ≡ line ++ piece
+  pub one_line : has_feed line ≡ false
+  pub one_read : length piece ≤ 65536
+
+seen_by : (left part : List ℕ) → length left ≤ 65536 → IsTakenLine left part → Seen (left ++ part)
+seen_by left part short (inl none) = record { line = []; piece = left; are = ap (λ (t : List ℕ). left ++ t) none ∙ append_none left; one_line = refl; one_read = short }
+seen_by left part short (inr (earlier, last, split, clear, few)) = record {
+  line = left ++ earlier;
+  piece = last;
+  are = ap (λ (t : List ℕ). left ++ t) split ∙ sym (append_assoc left earlier last);
+  one_line = clear;
+  one_read = few;
+}
+
+-- bytes without an LF do not reach past the first one
+feed_after : (clear piece line rest : List ℕ) → has_feed clear ≡ false → clear ++ piece ≡ line ++ 10 ∷ rest → length (10 ∷ rest) ≤ length piece
+feed_after [] piece line rest none is = omega (arith, ap length is, length-append line (10 ∷ rest))
+feed_after (b ∷ clear) piece [] rest none is = let feed : b ≡ 10 = cc in absurd (cc (rw feed at none))
+feed_after (b ∷ clear) piece (c ∷ line) rest none is = feed_after clear piece line rest (or_false (b == 10) (has_feed clear) none) cc
+  where
+    or_false : (p q : Bool) → (p || q) ≡ false → q ≡ false
+    or_false true q h = absurd (cc)
+    or_false false q h = h
+
+-- after a line there is less than one read gives
+still_short : (seen line : List ℕ) (new : LinesState) → Seen seen → Answers (Ok (Line line)) seen new → length new.left ≤ 65536
+still_short seen line new s h = elim h.1 [
+  | inl whole ↦ let behind : length (10 ∷ new.left) ≤ length s.piece = feed_after s.line s.piece line new.left s.one_line (sym s.are ∙ whole) in omega (arith, behind, s.one_read)
+  | inr last ↦ omega (arith, ap length last.2)
+]
+
+-- the line that is answered, and what stands behind it
+line_seen : (seen line : List ℕ) (new : LinesState) → Seen seen → Answers (Ok (Line line)) seen new → Seen seen
+line_seen seen line new s h = elim h.1 [
+  | inl whole ↦ record { line = line; piece = 10 ∷ new.left; are = whole; one_line = h.0; one_read = let behind : length (10 ∷ new.left) ≤ length s.piece = feed_after s.line s.piece line new.left s.one_line (sym s.are ∙ whole) in omega (arith, behind, s.one_read) }
+  | inr last ↦ record { line = line; piece = []; are = last.0 ∙ sym (append_none line); one_line = h.0; one_read = omega arith }
+]
+
+-- no line is left of an input that ended and was answered
+line_left : (reader : LinesState) (left line : List ℕ) (later : List (List ℕ)) → reader.ended ≡ true → reader.left ≡ [] → lines_of (ahead reader left) ≡ line ∷ later → ⊥
+line_left reader left line later ended none next =
+    let nothing : ahead reader left ≡ [] = rw ended none in
+    let no_lines : line ∷ later ≡ [] = sym next ∙ ap lines_of nothing in
+    absurd (cc)
+
+front_more : (taken left part line : List ℕ) (lines later : List (List ℕ)) (reader new : LinesState) → Front taken lines reader → Seen (reader.left ++ part) → Answers (Ok (Line line)) (reader.left ++ part) new → lines_of (ahead reader left) ≡ line ∷ later
+    → Front (taken ++ part) (lines ++ line ∷ []) new
+front_more taken left part line lines later reader new f s h next = elim f.at_line [
+  | inl over ↦ absurd (line_left reader left line later over.0 over.1 next)
+  | inr at_line ↦ elim h.1 [
+    | inl whole ↦ record {
+      bytes = f.bytes ++ line ++ 10 ∷ [];
+      seen = taken_is whole ∙ sym (append_assoc (f.bytes ++ line) (10 ∷ []) new.left);
+      lines_are = sym (ap lines_of (sym (append_none (f.bytes ++ line ++ 10 ∷ []))) ∙ more_lines at_line [] ∙ append_none (lines ++ line ∷ []));
+      at_line = inr (more_lines at_line);
+      short = still_short (reader.left ++ part) line new s h;
+    }
+    | inr last ↦ record {
+      bytes = f.bytes ++ line;
+      seen = ap (λ (t : List ℕ). t ++ part) f.seen ∙ append_assoc f.bytes reader.left part ∙ ap (λ (t : List ℕ). f.bytes ++ t) last.0 ∙ sym (append_none (f.bytes ++ line)) ∙ ap (λ (t : List ℕ). f.bytes ++ line ++ t) (sym last.2);
+      lines_are = sym (at_line line ∙ ap (λ (t : List (List ℕ)). lines ++ t) (lines_last line h.0 ∙ some_line line last.1));
+      at_line = inl (last.3, last.2);
+      short = still_short (reader.left ++ part) line new s h;
+    }
+  ]
+]
+  where
+    taken_is : reader.left ++ part ≡ line ++ 10 ∷ new.left → taken ++ part ≡ f.bytes ++ line ++ 10 ∷ new.left
+    taken_is whole = ap (λ (t : List ℕ). t ++ part) f.seen ∙ append_assoc f.bytes reader.left part ∙ ap (λ (t : List ℕ). f.bytes ++ t) whole ∙ sym (append_assoc f.bytes line (10 ∷ new.left))
+
+    more_lines : ((rest : List ℕ) → lines_of (f.bytes ++ rest) ≡ lines ++ lines_of rest) → (rest : List ℕ) → lines_of ((f.bytes ++ line ++ 10 ∷ []) ++ rest) ≡ (lines ++ line ∷ []) ++ lines_of rest
+    more_lines at_line rest =
+        ap lines_of (append_assoc (f.bytes ++ line) (10 ∷ []) rest ∙ append_assoc f.bytes line (10 ∷ rest))
+        ∙ at_line (line ++ 10 ∷ rest)
+        ∙ ap (λ (t : List (List ℕ)). lines ++ t) (lines_first line rest h.0)
+        ∙ sym (append_assoc lines (line ∷ []) (lines_of rest))
 
 module _ {A : Type 0} (step : A → List ℕ → Reply A) (finish : A → Ending) (start : A) (bytes : List ℕ) where
   -- the lines that are left after those answered
@@ -133,6 +225,7 @@ module _ {A : Type 0} (step : A → List ℕ → Reply A) (finish : A → Ending
       | inr last ↦ let ended : new_reader.ended ≡ true = last.3 in absurd (cc)
     ];
     end = λ ended. s.end r.end ended;
+    front = front_more r.taken left s.part line r.lines (lines_of (ahead new_reader more)) reader new_reader r.front (seen_by reader.left s.part r.front.short s.soon) s.answers next;
     answered = further step start state r.lines (line ∷ []) r.effects r.answered ∙ ap (prefixed r.effects) is;
     done = done ∙ ap (performed es) r.done ∙ sym (performed_append r.effects es old);
   }
@@ -243,6 +336,78 @@ module _ {A : Type 0} (step : A → List ℕ → Reply A) (finish : A → Ending
       record {
         read = λ effects last goes. (m.step_made.told ∙ ap Some none, omega (arith, ap length all, length-append m.at.taken m.step_made.part, m.at.count, m.step_made.count, within.ended ended));
       }
+
+  took_little : (old now new : World) (state : A) (reader : LinesState) (left part more : List ℕ) (later : Option (List ℕ)) (es : List Effect) (r : Reached step start bytes (contents old) state reader left (contents now))
+      → left ≡ part ++ more → later ≡ Some more → Seen (reader.left ++ part) → (course step finish start (lines_of bytes)).effects ≡ r.effects ++ es → Partly es (contents now) (contents new)
+      → TookLittle step finish start bytes later old new
+  took_little old now new state reader left part more later es r split told s all did = record {
+    answered = r.front.bytes;
+    line = s.line;
+    piece = s.piece;
+    left = more;
+    split =
+        r.split
+        ∙ ap (λ (t : List ℕ). t ++ left) r.front.seen
+        ∙ append_assoc r.front.bytes reader.left left
+        ∙ ap (λ (t : List ℕ). r.front.bytes ++ t) (ap (λ (t : List ℕ). reader.left ++ t) split ∙ sym (append_assoc reader.left part more) ∙ ap (λ (t : List ℕ). t ++ more) s.are)
+        ∙ sym (append_assoc r.front.bytes (s.line ++ s.piece) more)
+        ∙ ap (λ (t : List ℕ). t ++ more) (sym (append_assoc r.front.bytes s.line s.piece));
+    remains = told;
+    one_line = s.one_line;
+    one_read = s.one_read;
+    effects = r.effects;
+    later = es;
+    state = state;
+    goes = ap (λ (ls : List (List ℕ)). follow step ls (Goes [] start)) (sym r.front.lines_are) ∙ r.answered;
+    all = all;
+    did = subst (λ (c : Contents). Partly es c (contents new)) r.done did;
+  }
+
+  -- nothing was taken
+  pub none_took : (rest : Option (List ℕ)) (old : World) → rest ≡ Some bytes → TookLittle step finish start bytes rest old old
+  none_took rest old told = record {
+    answered = [];
+    line = [];
+    piece = [];
+    left = bytes;
+    split = refl;
+    remains = told;
+    one_line = refl;
+    one_read = omega arith;
+    effects = [];
+    later = (course step finish start (lines_of bytes)).effects;
+    state = start;
+    goes = refl;
+    all = refl;
+    did = nothing_yet (course step finish start (lines_of bytes)).effects (contents old) (contents old) refl;
+  }
+
+  -- the reader gave up
+  pub gave_out_took : (e : ReadStop) (old now : World) (state : A) (reader new_reader : LinesState) (later : Option (List ℕ)) → Met step start bytes (Err e) (contents old) state reader new_reader later (contents now) → TookLittle step finish start bytes later old now
+  unfolding mid_of
+  gave_out_took e old now state reader new_reader later m =
+      let rest = course_goes_on step finish start (lines_of bytes) (contents old) state (lines_of (ahead reader m.left)) (contents now) (mid_of step finish start bytes (contents old) state reader m.left (contents now) (lines_of (ahead reader m.left)) m.at refl) in
+      took_little old now now state reader m.left m.step_made.part m.more later rest.0 m.at m.step_made.split m.step_made.told (seen_by reader.left m.step_made.part m.at.front.short m.step_made.soon) rest.1 (nothing_yet rest.0 (contents now) (contents now) refl)
+
+  -- the answer of a line stopped
+  pub line_stops_took : (line : List ℕ) (old now new : World) (state self : A) (reader new_reader : LinesState) (later : Option (List ℕ)) (e : Stop)
+      → Met step start bytes (Ok (Line line)) (contents old) state reader new_reader later (contents now) → Answered (step state line) now new self (Err e) → TookLittle step finish start bytes later old new
+  unfolding line_mid mid_of
+  line_stops_took line old now new state self reader new_reader later e m h =
+      let mid = line_mid line (contents old) state reader new_reader later (contents now) m in
+      let rest = line_goes_on step finish start (lines_of bytes) (contents old) state line (lines_of (ahead new_reader m.more)) (contents now) mid in
+      took_little old now new state reader m.left m.step_made.part m.more later (effects_of (step state line) ++ rest.0) m.at m.step_made.split m.step_made.told
+      (line_seen (reader.left ++ m.step_made.part) line new_reader (seen_by reader.left m.step_made.part m.at.front.short m.step_made.soon) m.step_made.answers)
+      rest.1 (partly_more (effects_of (step state line)) rest.0 (contents now) (contents new) (stops (step state line) now new self e h))
+
+  -- the end stopped
+  pub end_took : (old now new : World) (state : A) (reader new_reader : LinesState) (later : Option (List ℕ)) (e : Stop)
+      → Met step start bytes (Ok End) (contents old) state reader new_reader later (contents now) → Ended (finish state) now new (Err e) → TookLittle step finish start bytes later old new
+  unfolding end_mid mid_of
+  end_took old now new state reader new_reader later e m h =
+      let mid = end_mid (contents old) state reader new_reader later (contents now) m in
+      took_little old now new state reader m.left m.step_made.part m.more later (finish state).effects m.at m.step_made.split m.step_made.told (seen_by reader.left m.step_made.part m.at.front.short m.step_made.soon)
+      (ap (λ (x : Ending). x.effects) (mid_course step finish start (lines_of bytes) (contents old) state [] (contents now) mid)) h
 
 pub line_stands : {A : Type 0} (step : A → List ℕ → Reply A) (finish : A → Ending) (start : A) (input : Option (List ℕ)) (line : List ℕ) (old now new : World) (state self : A) (reader new_reader : LinesState) (rest later : Option (List ℕ))
     → Stands step start input (contents old) state reader rest (contents now) → Reads (Ok (Line line)) reader new_reader rest later → Answer (Ok (Line line)) reader new_reader rest later → Answered (step state line) now new self (Ok None)

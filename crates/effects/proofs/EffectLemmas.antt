@@ -6,9 +6,9 @@ use Rattle.std.proofs.Math.Seq.{take-append-add}
 use Rattle.std.proofs.lemmas.Bool.Decides.{leb_tells}
 use Rattle.outside.specs.Streams.{with_bytes}
 use Rattle.outside.specs.States.{StoreState, SinkState}
-use Rattle.outside.specs.Tree.{Tree, folder_path, MayBreakOff}
+use Rattle.outside.specs.Tree.{Tree, folder_path, BrokeOff, FolderBrokeOff, MayBreakOff, FolderMayBreakOff}
 use Rattle.outside.specs.Reading.{OnlyRead}
-use Rattle.effects.specs.Effects.{Effect, Write, Remove, Print, Contents, stored_of, contents, after, performed, Torn, Partly, Does, Doing}
+use Rattle.effects.specs.Effects.{Effect, Write, Remove, MakeFolder, RemoveFolder, Print, Contents, stored_of, contents, after, performed, Torn, Partly, Does, Doing, world_of}
 use Rattle.effects.specs.declared.stop.Stop.{Stop}
 
 pub performed_append : (es fs : List Effect) (c : Contents) → performed (es ++ fs) c ≡ performed fs (performed es c)
@@ -32,20 +32,20 @@ unfolding Partly contents
 partly_later [] fs old mid new e h = subst (λ (m : Contents). Partly fs m new) e h
 partly_later (e ∷ es) fs old mid new is h = inr (inr (partly_later es fs (after e old) mid new is h))
 
-pub unmoved : (es : List Effect) (old new : StoreState) (o : SinkState) → new.tree ≡ old.tree → new.writes ≡ old.writes → Partly es (contents (old, o)) (contents (new, o))
+pub unmoved : (es : List Effect) (old new : StoreState) (o : SinkState) → new.tree ≡ old.tree → new.writes ≡ old.writes → Partly es (contents (world_of old o)) (contents (world_of new o))
 unfolding contents
-unmoved es old new o t w = nothing_yet es (contents (old, o)) (contents (new, o)) (rw (t, w) refl)
+unmoved es old new o t w = nothing_yet es (contents (world_of old o)) (contents (world_of new o)) (rw (t, w) refl)
 
 -- a call that only reads has no effect
-pub only_read_does : {A : Type 0} (old new : StoreState) (o : SinkState) (r : Result A Stop) → OnlyRead old new → Does [] (old, o) (new, o) r
+pub only_read_does : {A : Type 0} (old new : StoreState) (o : SinkState) (r : Result A Stop) → OnlyRead old new → Does [] (world_of old o) (world_of new o) r
 unfolding Partly contents
 only_read_does old new o (Ok a) h = rw (h.tree, h.writes) refl
 only_read_does old new o (Err e) h = rw (h.tree, h.writes) refl
 
-torn : (path : List (List ℕ)) (folder file : List ℕ) (o p : Option Tree) (m n : ℕ) → MayBreakOff path folder file o p → n ≡ m → Torn path folder file (stored_of o m) (stored_of p n)
-torn path folder file None p m n h e = record { untold = λ _. rw h.untold refl; told = λ s is. absurd (cc) }
-torn path folder file (Some t) p m n h e =
-    let was = h.told t refl in
+torn : (R : Tree → Tree → Type 0) (o p : Option Tree) (m n : ℕ) → (o ≡ None → p ≡ None) → ((t : Tree) → o ≡ Some t → (u : Tree) × (p ≡ Some u) × R t u) → n ≡ m → Torn R (stored_of o m) (stored_of p n)
+torn R None p m n untold told e = record { untold = λ _. rw untold refl; told = λ s is. absurd (cc) }
+torn R (Some t) p m n untold told e =
+    let was = told t refl in
     record {
       untold = λ is. absurd (cc);
       told = λ s is.
@@ -53,15 +53,23 @@ torn path folder file (Some t) p m n h e =
           (record { tree = was.0; writes = n }, rw was.1 refl, rw tree was.2, rw tree e);
     }
 
-pub torn_write : (folder file bytes : List ℕ) (old new : StoreState) (o : SinkState) → MayBreakOff (folder_path folder) folder file old.tree new.tree → new.writes ≡ old.writes → Partly (Write folder file bytes ∷ []) (contents (old, o)) (contents (new, o))
+pub torn_write : (folder file bytes : List ℕ) (old new : StoreState) (o : SinkState) → MayBreakOff (folder_path folder) folder file old.tree new.tree → new.writes ≡ old.writes → Partly (Write folder file bytes ∷ []) (contents (world_of old o)) (contents (world_of new o))
 unfolding Partly contents
-torn_write folder file bytes old new o h e = inr (inl (torn (folder_path folder) folder file old.tree new.tree old.writes new.writes h e, refl))
+torn_write folder file bytes old new o h e = inr (inl (torn (BrokeOff (folder_path folder) folder file) old.tree new.tree old.writes new.writes h.untold h.told e, refl))
 
-pub torn_remove : (folder file : List ℕ) (old new : StoreState) (o : SinkState) → MayBreakOff [] folder file old.tree new.tree → new.writes ≡ old.writes → Partly (Remove folder file ∷ []) (contents (old, o)) (contents (new, o))
+pub torn_remove : (folder file : List ℕ) (old new : StoreState) (o : SinkState) → MayBreakOff [] folder file old.tree new.tree → new.writes ≡ old.writes → Partly (Remove folder file ∷ []) (contents (world_of old o)) (contents (world_of new o))
 unfolding Partly contents
-torn_remove folder file old new o h e = inr (inl (torn [] folder file old.tree new.tree old.writes new.writes h e, refl))
+torn_remove folder file old new o h e = inr (inl (torn (BrokeOff [] folder file) old.tree new.tree old.writes new.writes h.untold h.told e, refl))
 
-pub torn_print : (bytes : List ℕ) (n : ℕ) (s : StoreState) (old new : SinkState) → new.held ≡ with_bytes (take n bytes) old.held → Partly (Print bytes ∷ []) (contents (s, old)) (contents (s, new))
+pub torn_make_folder : (folder : List ℕ) (old new : StoreState) (o : SinkState) → FolderMayBreakOff (folder_path folder) folder old.tree new.tree → new.writes ≡ old.writes → Partly (MakeFolder folder ∷ []) (contents (world_of old o)) (contents (world_of new o))
+unfolding Partly contents
+torn_make_folder folder old new o h e = inr (inl (torn (FolderBrokeOff (folder_path folder) folder) old.tree new.tree old.writes new.writes h.untold h.told e, refl))
+
+pub torn_remove_folder : (folder : List ℕ) (old new : StoreState) (o : SinkState) → FolderMayBreakOff [] folder old.tree new.tree → new.writes ≡ old.writes → Partly (RemoveFolder folder ∷ []) (contents (world_of old o)) (contents (world_of new o))
+unfolding Partly contents
+torn_remove_folder folder old new o h e = inr (inl (torn (FolderBrokeOff [] folder) old.tree new.tree old.writes new.writes h.untold h.told e, refl))
+
+pub torn_print : (bytes : List ℕ) (n : ℕ) (s : StoreState) (old new : SinkState) → new.held ≡ with_bytes (take n bytes) old.held → Partly (Print bytes ∷ []) (contents (world_of s old)) (contents (world_of s new))
 unfolding Partly contents
 torn_print bytes n s old new h = inr (inl (n, rw h refl))
 

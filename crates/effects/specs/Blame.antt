@@ -8,14 +8,14 @@ use Rattle.effects.specs.declared.stop.Stop.TheVariants as stop
 
 -- no count of faults fell
 pub record Steady (old new : World) : Type 0 where
-  pub reads : old.0.read_faults ≤ new.0.read_faults
-  pub writes : old.0.write_faults ≤ new.0.write_faults
-  pub prints : old.1.faults ≤ new.1.faults
+  pub reads : old.store.read_faults ≤ new.store.read_faults
+  pub writes : old.store.write_faults ≤ new.store.write_faults
+  pub prints : old.output.faults ≤ new.output.faults
 
 -- a count that rose is the cause of a stop
 abbrev pub StopCause : Stop → World → World → Type 0
-StopCause stop.ReadFault old new = Rose old.0.read_faults new.0.read_faults
-StopCause stop.WriteFault old new = Rose old.0.write_faults new.0.write_faults ⊎ Rose old.1.faults new.1.faults
+StopCause stop.ReadFault old new = Rose old.store.read_faults new.store.read_faults
+StopCause stop.WriteFault old new = Rose old.store.write_faults new.store.write_faults ⊎ Rose old.output.faults new.output.faults
 StopCause stop.NoMemory old new = ⊤
 
 abbrev pub Because : {A : Type 0} → Result A Stop → World → World → Type 0

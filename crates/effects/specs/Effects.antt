@@ -3,16 +3,18 @@ use Rattle.std.specs.Prelude.{◌≡◌, ℕ, List, [], ◌∷◌, ◌++◌, tak
 use Rattle.outside.specs.Counts.{risen}
 use Rattle.outside.specs.Streams.{with_bytes}
 use Rattle.outside.specs.States.{StoreState, SinkState}
-use Rattle.outside.specs.Tree.{Tree, folder_path, file_at, with_file, without_file, BrokeOff}
+use Rattle.outside.specs.Tree.{Tree, folder_path, file_at, has_folder, has_empty_folder, with_file, without_file, with_folder, without_folder, BrokeOff, FolderBrokeOff}
 use Rattle.effects.specs.declared.stop.Stop.{Stop}
 
 -- one thing that a run does
 pub data Effect : Type 0 where
   Write : (folder file bytes : List ℕ) → Effect
   Remove : (folder file : List ℕ) → Effect
+  MakeFolder : (folder : List ℕ) → Effect
+  RemoveFolder : (folder : List ℕ) → Effect
   Print : (bytes : List ℕ) → Effect
 
--- the tree, and how many files were written or removed
+-- the tree, and how many files and folders were written, made or removed
 pub record Stored : Type 0 where
   pub tree : Tree
   pub writes : ℕ
@@ -22,16 +24,20 @@ pub record Contents : Type 0 where
   pub stored : Option Stored
   pub held : Option (List ℕ)
 
--- a store and a sink at a moment
-abbrev pub World : Type 0
-World = StoreState × SinkState
+-- the outside at a moment: its store, and the sink for its output
+pub record World : Type 0 where
+  pub store : StoreState
+  pub output : SinkState
+
+abbrev pub world_of : StoreState → SinkState → World
+world_of store output = record { store = store; output = output }
 
 abbrev pub stored_of : Option Tree → ℕ → Option Stored
 stored_of None n = None
 stored_of (Some t) n = Some (record { tree = t; writes = n })
 
 unfoldable pub contents : World → Contents
-contents w = record { stored = stored_of w.0.tree w.0.writes; held = w.1.held }
+contents w = record { stored = stored_of w.store.tree w.store.writes; held = w.output.held }
 
 abbrev pub writing : List ℕ → List ℕ → List ℕ → Stored → Stored
 writing folder file bytes s = record { tree = with_file folder file bytes s.tree; writes = risen s.writes 1 }
@@ -39,10 +45,18 @@ writing folder file bytes s = record { tree = with_file folder file bytes s.tree
 abbrev pub removing : List ℕ → List ℕ → Stored → Stored
 removing folder file s = record { tree = without_file folder file s.tree; writes = if is_some (file_at s.tree folder file) then risen s.writes 1 else s.writes }
 
+abbrev pub making_folder : List ℕ → Stored → Stored
+making_folder folder s = record { tree = with_folder folder s.tree; writes = if has_folder s.tree folder then s.writes else risen s.writes 1 }
+
+abbrev pub removing_folder : List ℕ → Stored → Stored
+removing_folder folder s = record { tree = without_folder folder s.tree; writes = if has_empty_folder s.tree folder then risen s.writes 1 else s.writes }
+
 -- after one effect
 abbrev pub after : Effect → Contents → Contents
 after (Write folder file bytes) c = record { stored = option_map (writing folder file bytes) c.stored; held = c.held }
 after (Remove folder file) c = record { stored = option_map (removing folder file) c.stored; held = c.held }
+after (MakeFolder folder) c = record { stored = option_map (making_folder folder) c.stored; held = c.held }
+after (RemoveFolder folder) c = record { stored = option_map (removing_folder folder) c.stored; held = c.held }
 after (Print bytes) c = record { stored = c.stored; held = with_bytes bytes c.held }
 
 -- after all of them, in order
@@ -50,16 +64,23 @@ abbrev pub performed : List Effect → Contents → Contents
 performed [] c = c
 performed (e ∷ es) c = performed es (after e c)
 
--- a call on one file broke off
-pub record Torn (path : List (List ℕ)) (folder file : List ℕ) (old new : Option Stored) : Type 0 where
+-- a call broke off, and left of the tree what R says
+pub record Torn (R : Tree → Tree → Type 0) (old new : Option Stored) : Type 0 where
   pub untold : old ≡ None → new ≡ None
-  pub told : (s : Stored) → old ≡ Some s → (u : Stored) × (new ≡ Some u) × (BrokeOff path folder file s.tree u.tree) × (u.writes ≡ s.writes)
+  pub told : (s : Stored) → old ≡ Some s → (u : Stored) × (new ≡ Some u) × (R s.tree u.tree) × (u.writes ≡ s.writes)
+
+-- what is left of the tree where an effect broke off: one file or one folder may be in the middle
+abbrev pub LeftBroken : Effect → Tree → Tree → Type 0
+LeftBroken (Write folder file bytes) old new = BrokeOff (folder_path folder) folder file old new
+LeftBroken (Remove folder file) old new = BrokeOff [] folder file old new
+LeftBroken (MakeFolder folder) old new = FolderBrokeOff (folder_path folder) folder old new
+LeftBroken (RemoveFolder folder) old new = FolderBrokeOff [] folder old new
+LeftBroken (Print bytes) old new = new ≡ old
 
 -- one effect broke off
 abbrev pub Off : Effect → Contents → Contents → Type 0
-Off (Write folder file bytes) old new = Torn (folder_path folder) folder file old.stored new.stored × (new.held ≡ old.held)
-Off (Remove folder file) old new = Torn [] folder file old.stored new.stored × (new.held ≡ old.held)
 Off (Print bytes) old new = (n : ℕ) × (new ≡ record { stored = old.stored; held = with_bytes (take n bytes) old.held })
+Off e old new = Torn (LeftBroken e) old.stored new.stored × (new.held ≡ old.held)
 
 -- the effects in order, up to some place, where one may have broken off
 unfoldable pub Partly : List Effect → Contents → Contents → Type 0

@@ -1,9 +1,9 @@
 //! The calls on the outside that a run makes.
-ghost use Rattle.std.specs.Prelude.{◌≡◌, ◌≢◌, [], ◌∷◌, Some, IfOk, IfErr, is_some, if◌then◌else◌};
+ghost use Rattle.std.specs.Prelude.{◌≡◌, ◌≢◌, [], ◌∷◌, Some, IfOk, IfErr, is_some, not, if◌then◌else◌};
 ghost use Rattle.outside.specs.Counts.{risen};
 ghost use Rattle.outside.specs.Reading.{OnlyRead};
-ghost use Rattle.outside.specs.Tree.{Tree, file_at, files_of};
-ghost use Rattle.effects.specs.Effects.{Write, Remove, Print, Does};
+ghost use Rattle.outside.specs.Tree.{Tree, file_at, files_of, has_folder, has_empty_folder};
+ghost use Rattle.effects.specs.Effects.{Write, Remove, MakeFolder, RemoveFolder, Print, Does, world_of};
 ghost use Rattle.effects.specs.Blame.{StoreBlames, SinkBlames};
 
 use crate::Stop;
@@ -20,7 +20,7 @@ pub fn read_file<F: Folders>(
     file: &Text,
 ) -> Result<Option<Text>, Stop>
     ensures told { IfOk result (λ bytes. (t : Tree) → (F.state store.old).tree ≡ Some t → bytes ≡ file_at t folder.now file.now) }
-    ensures does { (o : _) → Does [] (F.state store.old, o) (F.state store.new, o) result }
+    ensures does { (o : _) → Does [] (world_of (F.state store.old) o) (world_of (F.state store.new) o) result }
     ensures tree { (F.state store.new).tree ≡ (F.state store.old).tree }
     ensures only_read { OnlyRead (F.state store.old) (F.state store.new) }
     ensures blames { StoreBlames (F.state store.old) (F.state store.new) result }
@@ -41,7 +41,7 @@ pub fn write_file<F: Folders>(
     file: &Text,
     bytes: &[u8],
 ) -> Result<(), Stop>
-    ensures does { (o : _) → Does (Write folder.now file.now bytes.now ∷ []) (F.state store.old, o) (F.state store.new, o) result }
+    ensures does { (o : _) → Does (Write folder.now file.now bytes.now ∷ []) (world_of (F.state store.old) o) (world_of (F.state store.new) o) result }
     ensures counted { IfOk result (λ _. (F.state store.new).writes ≡ risen ((F.state store.old).writes) 1) }
     ensures reads { (F.state store.new).read_faults ≡ (F.state store.old).read_faults }
     ensures no_read { IfErr result (λ e. e ≢ Stop.ReadFault) }
@@ -63,7 +63,7 @@ pub fn remove_file<F: Folders>(
     file: &Text,
 ) -> Result<bool, Stop>
     ensures was { IfOk result (λ was. (t : Tree) → (F.state store.old).tree ≡ Some t → was ≡ is_some (file_at t folder.now file.now)) }
-    ensures does { (o : _) → Does (Remove folder.now file.now ∷ []) (F.state store.old, o) (F.state store.new, o) result }
+    ensures does { (o : _) → Does (Remove folder.now file.now ∷ []) (world_of (F.state store.old) o) (world_of (F.state store.new) o) result }
     ensures counted { IfOk result (λ was. (F.state store.new).writes ≡ (if was then risen ((F.state store.old).writes) 1 else (F.state store.old).writes)) }
     ensures reads { (F.state store.new).read_faults ≡ (F.state store.old).read_faults }
     ensures no_read { IfErr result (λ e. e ≢ Stop.ReadFault) }
@@ -76,10 +76,44 @@ pub fn remove_file<F: Folders>(
     }
 }
 
+/// Makes a folder and those above it, where it is missing, and answers whether it was.
+#[tactic(auto, using(crate::proofs::EffectLemmas::unmoved, crate::proofs::EffectLemmas::torn_make_folder), unfolding(crate::specs::Effects::contents))]
+pub fn make_folder<F: Folders>(alloc: Global, store: &mut F, folder: &Text) -> Result<bool, Stop>
+    ensures made { IfOk result (λ made. (t : Tree) → (F.state store.old).tree ≡ Some t → made ≡ not (has_folder t folder.now)) }
+    ensures does { (o : _) → Does (MakeFolder folder.now ∷ []) (world_of (F.state store.old) o) (world_of (F.state store.new) o) result }
+    ensures counted { IfOk result (λ made. (F.state store.new).writes ≡ (if made then risen ((F.state store.old).writes) 1 else (F.state store.old).writes)) }
+    ensures reads { (F.state store.new).read_faults ≡ (F.state store.old).read_faults }
+    ensures no_read { IfErr result (λ e. e ≢ Stop.ReadFault) }
+    ensures blames { StoreBlames (F.state store.old) (F.state store.new) result }
+{
+    match store.make_folder(alloc, folder) {
+        Ok(made) => Ok(made),
+        Err(StoreFault::Failed) => Err(Stop::WriteFault),
+        Err(StoreFault::NoMemory) => Err(Stop::NoMemory),
+    }
+}
+
+/// Removes a folder that is there without files and subfolders, and answers whether it was so.
+#[tactic(auto, using(crate::proofs::EffectLemmas::unmoved, crate::proofs::EffectLemmas::torn_remove_folder), unfolding(crate::specs::Effects::contents))]
+pub fn remove_folder<F: Folders>(alloc: Global, store: &mut F, folder: &Text) -> Result<bool, Stop>
+    ensures was { IfOk result (λ was. (t : Tree) → (F.state store.old).tree ≡ Some t → was ≡ has_empty_folder t folder.now) }
+    ensures does { (o : _) → Does (RemoveFolder folder.now ∷ []) (world_of (F.state store.old) o) (world_of (F.state store.new) o) result }
+    ensures counted { IfOk result (λ was. (F.state store.new).writes ≡ (if was then risen ((F.state store.old).writes) 1 else (F.state store.old).writes)) }
+    ensures reads { (F.state store.new).read_faults ≡ (F.state store.old).read_faults }
+    ensures no_read { IfErr result (λ e. e ≢ Stop.ReadFault) }
+    ensures blames { StoreBlames (F.state store.old) (F.state store.new) result }
+{
+    match store.remove_folder(alloc, folder) {
+        Ok(gone) => Ok(gone),
+        Err(StoreFault::Failed) => Err(Stop::WriteFault),
+        Err(StoreFault::NoMemory) => Err(Stop::NoMemory),
+    }
+}
+
 /// Prints bytes.
 #[tactic(auto, using(crate::proofs::EffectLemmas::piece_written, crate::proofs::EffectLemmas::torn_print), unfolding(crate::specs::Effects::contents))]
 pub fn print<K: Sink>(alloc: Global, output: &mut K, bytes: &[u8]) -> Result<(), Stop>
-    ensures does { (s : _) → Does (Print bytes.now ∷ []) (s, K.state output.old) (s, K.state output.new) result }
+    ensures does { (s : _) → Does (Print bytes.now ∷ []) (world_of s (K.state output.old)) (world_of s (K.state output.new)) result }
     ensures blames { SinkBlames (K.state output.old) (K.state output.new) result }
 {
     let mut at = 0;
@@ -101,7 +135,7 @@ pub fn list_files<F: Folders>(
     folder: &Text,
 ) -> Result<Vec<Text>, Stop>
     ensures told { IfOk result (λ names. (t : Tree) → (F.state store.old).tree ≡ Some t → names.items ≡ files_of t folder.now) }
-    ensures does { (o : _) → Does [] (F.state store.old, o) (F.state store.new, o) result }
+    ensures does { (o : _) → Does [] (world_of (F.state store.old) o) (world_of (F.state store.new) o) result }
     ensures tree { (F.state store.new).tree ≡ (F.state store.old).tree }
     ensures only_read { OnlyRead (F.state store.old) (F.state store.new) }
     ensures blames { StoreBlames (F.state store.old) (F.state store.new) result }
