@@ -1,5 +1,9 @@
 pub mod Catalogue
-pub mod Sound
-pub mod Refusals
+pub mod Placed
+pub mod States
 pub mod Changes
+pub mod Refusals
+pub mod Sound
+pub mod Edits
 pub mod Reading
+pub mod Pairs
