@@ -1,19 +1,19 @@
 -- The faults of a file, met one record after the other.
-use Rattle.std.proofs.Common.{◌≡◌, ◌≢◌, ◌<◌, ◌≤◌, ◌+◌, ◌==◌, ◌∷◌, ◌++◌, ◌∙◌, [], ℕ, List, Option, Some, None, true, false, refl, sym, ap, subst, suc, length, take, drop, get_or, arith, inl, inr, append_assoc}
+use Rattle.std.proofs.Common.{◌≡◌, ◌<◌, ◌≤◌, ◌+◌, ◌==◌, ◌∷◌, ◌++◌, ◌∙◌, [], ℕ, List, Option, Some, None, true, false, refl, sym, ap, subst, suc, length, take, drop, get_or, arith, inl, inr, append_assoc}
 use Rattle.std.specs.Prelude.{Bool, cond, not, ◌||◌, bytes_eq, nat_le, nat_lt, option_map, remove}
 use Rattle.std.specs.Option.{option_or}
 use Rattle.std.specs.List.{list_all, IsDistinct, AllByRecursion}
 use Rattle.std.specs.Cmp.Lexicographic.{nat_list_eq_equiv}
 use Rattle.std.proofs.lemmas.List.Folds.{list_any-append}
 use Rattle.std.proofs.lemmas.Map.Keys.{IsDistinct-push}
-use Rattle.std.proofs.lemmas.List.{append-nil, take_more, drop_more, drop_all}
-use Rattle.std.proofs.lemmas.Bool.{eq-eqb, ne_eqb, cases_Bool, eqb-true}
+use Rattle.std.proofs.lemmas.List.{append-nil, take_more, drop_all}
+use Rattle.std.proofs.lemmas.Bool.{cases_Bool, eqb-true}
 use Rattle.std.proofs.lemmas.Bool.Decides.{nat_tests}
 use Rattle.ss_text.specs.Texts.{Text, Row, is_in}
 use Rattle.schema_model.specs.Sound.{IsHeader, IsRelation}
 use Rattle.schema_model.specs.Catalogue.{relation_value}
 use Rattle.csv_catalog.specs.declared.judge.FileFault.{FileFault}
-use Rattle.csv_catalog.specs.declared.judge.FileFault.TheVariants.{OtherLength, TooMany, Repeated}
+use Rattle.csv_catalog.specs.declared.judge.FileFault.TheVariants.{Repeated}
 use Rattle.csv_catalog.specs.FileFaults.{repeated_after, first_repeated, rows_fault, header_fault, file_fault, header_of, rows_of}
 use Rattle.csv_catalog.specs.RecordText.{has_field}
 use Rattle.csv_catalog.proofs.ListLemmas.{next_left}
@@ -33,22 +33,6 @@ repeated_more names i t lt is fresh h =
 pub repeated_end : (names : Row) (i : ℕ) → length names ≤ i → repeated_after (take i names) (drop i names) ≡ first_repeated names → first_repeated names ≡ None
 unfolding repeated_after
 repeated_end names i past h = sym h ∙ ap (λ (ts : Row). repeated_after (take i names) ts) (drop_all i names past)
-
-pub other_length : (want nth count : ℕ) (rows : List Row) (i : ℕ) → i < length rows → length (get_or rows i []) ≢ want → rows_fault want nth count (drop i rows) ≡ Some (OtherLength nth want (length (get_or rows i [])))
-unfolding rows_fault
-other_length want nth count rows i lt differs = rw (drop_more rows i [] lt, ne_eqb _ _ differs) refl
-
-pub too_many : (want nth count : ℕ) (rows : List Row) (i : ℕ) → i < length rows → length (get_or rows i []) ≡ want → nat_le 1000000 count ≡ true → rows_fault want nth count (drop i rows) ≡ Some TooMany
-unfolding rows_fault
-too_many want nth count rows i lt fits full = rw (drop_more rows i [] lt, fits, eq-eqb want want refl, full) refl
-
-pub row_passed : (want nth count : ℕ) (rows : List Row) (i : ℕ) → i < length rows → length (get_or rows i []) ≡ want → nat_le 1000000 count ≡ false → rows_fault want (nth + 1) (count + 1) (drop (i + 1) rows) ≡ rows_fault want nth count (drop i rows)
-unfolding rows_fault
-row_passed want nth count rows i lt fits room = rw (drop_more rows i [] lt, fits, eq-eqb want want refl, room) refl
-
-pub rows_passed : (want nth count : ℕ) (rows : List Row) (i : ℕ) → length rows ≤ i → rows_fault want nth count (drop i rows) ≡ None
-unfolding rows_fault
-rows_passed want nth count rows i past = rw (drop_all i rows past) refl
 
 -- names of which none stands earlier are distinct
 no_names : IsDistinct bytes_eq []

@@ -12,3 +12,6 @@ pub mod FilesLemmas
 pub mod DatabaseLemmas
 pub mod PutLemmas
 pub mod LoadLemmas
+pub mod JudgedLemmas
+pub mod SavedLemmas
+pub mod SavedTreeLemmas

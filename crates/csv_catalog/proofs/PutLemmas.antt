@@ -1,20 +1,45 @@
 -- Rows and relations, put one after the other.
-use Rattle.std.proofs.Common.{◌≡◌, ◌<◌, ◌≤◌, ◌+◌, ◌∷◌, ◌++◌, ◌∙◌, [], ℕ, List, true, refl, sym, ap, subst, zero, suc, length, slice_index_or, arith, append_assoc}
+use Rattle.std.proofs.Common.{◌≡◌, ◌<◌, ◌≤◌, ◌+◌, ◌∷◌, ◌++◌, ◌∙◌, [], ℕ, List, true, refl, sym, ap, subst, zero, suc, length, map, slice_index_or, Result, Ok, Err, OnOk, arith, append_assoc}
 use Rattle.std.specs.List.{AllByRecursion, list_all}
 use Rattle.std.specs.List.Sorted.{IsStrictlySortedBy}
 use Rattle.std.specs.declared.cmp.Ordering.TheVariants.{Less}
 use Rattle.std.proofs.lemmas.Bool.{and_parts}
-use Rattle.std.proofs.lemmas.List.{append-nil}
+use Rattle.std.proofs.lemmas.List.{append-nil, length-map}
 use Rattle.std.proofs.lemmas.List.Sums.{sum_by-cons, sum_by_push}
 use Rattle.ss_text.specs.Label.{is_table_label}
 use Rattle.ss_text.specs.Texts.{Text, Row, text_cmp}
 use Rattle.ss_text.specs.Places.{at_place}
 use Rattle.ss_text.proofs.PlaceLemmas.{length_at_place, length_last, map_last}
 use Rattle.schema_model.specs.Catalogue.{RelationValue, DatabaseValue, CatalogueValue, relation_value, database_value, relation_names, rows_in, row_count, database_at, relation_at, with_row, with_relation, with_relation_at}
+use Rattle.schema_model.specs.States.{CatalogueState, DatabaseState, RelationState, plain_database, plain_relation, settled}
 use Rattle.schema_model.specs.Sound.{AreNames, IsRelation}
 use Rattle.schema_model.proofs.Kept.{row_counted, relation_counted}
 use Rattle.csv_catalog.specs.Put.{with_rows, with_relations, CanTakeRows, CanTakeRelations, CanTakeDatabase}
 use Rattle.csv_catalog.specs.Reading.{names_of, rows_counted}
+
+-- a catalogue that is settled over some list is so over its own
+pub settled_as : (c : CatalogueState) (d : CatalogueValue) → c ≡ settled d → c ≡ settled c.databases
+settled_as c d e = e ∙ ap settled (sym (ap (λ (x : CatalogueState). x.databases) e))
+
+pub settled_if : {A E : Type 0} (r : Result A E) (new : CatalogueState) (c d : CatalogueValue) → c ≡ d → OnOk r (new ≡ settled c) → OnOk r (new ≡ settled d)
+settled_if (Ok a) new c d e h = h ∙ ap settled e
+settled_if (Err x) new c d e h = tt
+
+pub counted_databases : (ds : List DatabaseState) (c : CatalogueValue) → map plain_database ds ≡ c → length ds ≡ length c
+counted_databases ds c are = sym (length-map ds plain_database) ∙ ap length are
+
+-- the databases of a catalogue stand where those of its plain list do
+mapped_at : (ds : List DatabaseState) (i : ℕ) (d : DatabaseState) → i < length (map plain_database ds) → database_at i (map plain_database ds) ≡ plain_database (slice_index_or ds i d)
+mapped_at [] i d lt = absurd (omega arith)
+mapped_at (x ∷ xs) zero d lt = refl
+mapped_at (x ∷ xs) (suc i) d lt = mapped_at xs i d (omega arith)
+
+pub counted_relations : (ds : List DatabaseState) (c : CatalogueValue) (i : ℕ) (d : DatabaseState) (rs : List RelationState) → map plain_database ds ≡ c → i < length c → d ≡ slice_index_or ds i d → rs ≡ d.relations → length rs ≡ length (database_at i c).relations
+counted_relations ds c i d rs are lt is same =
+    ap length same ∙ sym (length-map d.relations plain_relation)
+    ∙ ap (λ (x : DatabaseState). length (map plain_relation x.relations)) is
+    ∙ sym (ap (λ (x : DatabaseValue). length x.relations) (mapped_at ds i d (subst (λ (x : CatalogueValue). i < length x) (sym are) lt)))
+    ∙ ap (λ (x : CatalogueValue). length (database_at i x).relations) are
 
 module _ {A : Type 0} where
   at_twice : (i : ℕ) (f g : A → A) (xs : List A) → at_place i f (at_place i g xs) ≡ at_place i (λ x. f (g x)) xs

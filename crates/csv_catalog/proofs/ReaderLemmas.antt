@@ -1,34 +1,15 @@
 -- A reader of bytes in memory that gives one record after the other.
-use Rattle.std.proofs.Common.{◌≡◌, ◌<◌, ◌∷◌, ◌++◌, ◌∙◌, [], ℕ, List, Bor, Option, Some, None, refl, sym, ap, true, false, inl, length, unwrap_or}
-use Rattle.csv.specs.Machine.{Read, next_record, ends_at_end}
+use Rattle.std.proofs.Common.{◌≡◌, ◌<◌, ◌+◌, ◌∷◌, ◌++◌, ◌∙◌, [], ℕ, List, Option, Some, None, refl, sym, ap, true, false, inl, length, unwrap_or, arith}
+use Rattle.csv.specs.Machine.{Read, next_record}
 use Rattle.csv.specs.Reading.{Reached, Ready, ReadRecord, ReadsNext, NextIs, default_config, source_of, pending_of, strip_bom}
-use Rattle.csv.specs.declared.reader.Reader.{Reader}
 use Rattle.csv.specs.declared.reader.Trim.TheVariants as trim
 use Rattle.csv.specs.declared.parser.State.{State}
 use Rattle.csv.specs.declared.parser.State.TheVariants as st
 use Rattle.csv.proofs.ReadFacts.{rows-more, rows-end}
 use Rattle.ss_text.specs.Texts.{Row}
 use Rattle.csv_catalog.specs.Records.{records_of}
-use Rattle.csv_catalog.proofs.AllRecords.{all_records, shorter, fewer}
-
-abbrev BytesReader : Type 0
-BytesReader = Reader (Bor (List ℕ))
-
-abbrev pub bytes_of : Bor (List ℕ) → Option (List ℕ)
-bytes_of s = Some s.now
-
--- the bytes that are left
-abbrev pub left_of : BytesReader → List ℕ
-left_of r = unwrap_or (source_of bytes_of r) []
-
--- a reader of these bytes that gave these rows
-pub record IsAt (bytes : List ℕ) (rows : List Row) (r : BytesReader) : Type 0 where
-  pub plain : r.trim ≡ trim.None
-  pub ready : Ready r
-  pub config : r.config ≡ default_config
-  pub source : source_of bytes_of r ≡ Some (left_of r)
-  pub between : ends_at_end r.state ≡ false
-  pub reached : Reached default_config st.StartRecord (strip_bom bytes) rows r.state (left_of r)
+use Rattle.csv_catalog.specs.Reader.{BytesReader, bytes_of, left_of, IsAt}
+use Rattle.csv_catalog.proofs.AllRecords.{all_records, counted_front, shorter, fewer}
 
 -- before the first record
 pub at_start : (bytes : List ℕ) (r : BytesReader) → r.trim ≡ trim.None → Ready r → r.config ≡ default_config → source_of bytes_of r ≡ Some (strip_bom bytes) → r.state ≡ st.StartRecord → IsAt bytes [] r
@@ -85,3 +66,11 @@ module _ (bytes : List ℕ) (rows : List Row) (a b : BytesReader) (row : Row) (h
 -- no further record
 pub at_end : (bytes : List ℕ) (rows : List Row) (a b : BytesReader) (row : Row) → IsAt bytes rows a → ReadRecord bytes_of a b false row → rows ≡ records_of bytes
 at_end bytes rows a b row h read = all_records bytes rows (a.state, left_of a, h.reached, rows-end bytes_of a b row default_config (left_of a) h.config h.source read)
+
+-- what it gave stands at the front of all
+pub given_front : (bytes : List ℕ) (rows : List Row) (r : BytesReader) → IsAt bytes rows r → (more : List Row) × (records_of bytes ≡ rows ++ more)
+unfolding records_of
+given_front bytes rows r h = counted_front (length (strip_bom bytes) + 1) st.StartRecord r.state (strip_bom bytes) (left_of r) rows h.reached refl (less (length (strip_bom bytes)))
+  where
+    less : (n : ℕ) → n < n + 1
+    less n = omega arith

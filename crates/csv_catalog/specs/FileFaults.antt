@@ -17,6 +17,10 @@ repeated_after seen (t ∷ ts) = if is_in t seen then Some t else repeated_after
 abbrev pub first_repeated : Row → Option Text
 first_repeated names = repeated_after [] names
 
+-- a row that has another length than the header, or is one row too many; nth is the number of its record, and count that of the rows before it
+abbrev pub row_fault : ℕ → ℕ → ℕ → Row → Option FileFault
+row_fault want nth count row = if not (length row == want) then Some (OtherLength nth want (length row)) else if nat_le 1000000 count then Some TooMany else None
+
 -- the first row that has another length than the header, or is one row too many; nth is the number of its record, and count that of the rows of all relations before it
 unfoldable pub rows_fault : ℕ → ℕ → ℕ → List Row → Option FileFault
 rows_fault want nth count [] = None

@@ -5,3 +5,7 @@ pub mod FileFaults
 pub mod Loaded
 pub mod Reading
 pub mod Put
+pub mod Reader
+pub mod Judged
+pub mod Saved
+pub mod SavedTree

@@ -2,6 +2,7 @@
 use Rattle.std.specs.Prelude.{ℕ, Bool, true, false, ◌==◌, ◌||◌, ◌&&◌, List, [], ◌∷◌, ◌++◌, map, if◌then◌else◌, length}
 use Rattle.std.specs.List.{list_any, join_with_byte}
 use Rattle.ss_text.specs.Texts.{Text, Row}
+use Rattle.schema_model.specs.Catalogue.{RelationValue}
 
 -- comma, double quote, CR and LF
 abbrev pub is_mark : ℕ → Bool
@@ -34,6 +35,10 @@ record_text fields = (if is_one_empty fields then in_quotes [] else join_with_by
 unfoldable pub csv_text : List Row → List ℕ
 csv_text [] = []
 csv_text (row ∷ rows) = record_text row ++ csv_text rows
+
+-- the records of a relation's file
+abbrev pub relation_records : RelationValue → List Row
+relation_records r = r.attributes ∷ r.rows
 
 -- whether the bytes of a byte order mark stand at the front
 abbrev pub begins_with_bom : Text → Bool

@@ -50,7 +50,7 @@ pub(crate) fn read_database<F: Folders>(
 }
 
 // The folder of a database.
-fn database_folder(alloc: Global, db: &Text) -> Result<Text, NoMemory>
+pub(crate) fn database_folder(alloc: Global, db: &Text) -> Result<Text, NoMemory>
     ensures { IfOk result (λ folder. folder ≡ database_folder db.now) }
 {
     let mut bytes = Vec::from_slice(alloc, b"sources/")?;

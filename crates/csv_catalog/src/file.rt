@@ -7,9 +7,8 @@ ghost use Rattle.outside.specs.Reading.{OnlyRead};
 ghost use Rattle.csv_catalog.specs.Reading.{WhereTold, MayBeKept};
 
 use crate::LoadFault;
-use crate::judge::{file_fault, told_fault};
+use crate::judge::{Judged, judged_records, told_fault};
 use crate::listing::RelationFile;
-use crate::read::records;
 use crate::relation::ReadRelation;
 use outside::{Folders, StoreFault};
 use ss_text::Text;
@@ -40,10 +39,9 @@ pub(crate) fn read_relation<F: Folders>(
         Err(StoreFault::Failed) => return Err(LoadFault::ReadFault),
         Err(StoreFault::NoMemory) => return Err(LoadFault::NoMemory),
     };
-    let found = records(alloc, bytes.as_slice())?;
     let (name, label) = file.into_names();
-    match file_fault(alloc, count, &found)? {
-        Some(fault) => Err(told_fault(db, name, fault)?),
-        None => Ok(Some(ReadRelation::of(label, found, count))),
+    match judged_records(alloc, bytes.as_slice(), count)? {
+        Judged::Refused { fault } => Err(told_fault(db, name, fault)?),
+        Judged::Sound { records } => Ok(Some(ReadRelation::of(label, records, count))),
     }
 }

@@ -1,8 +1,12 @@
 //! What is wrong in the records of a file.
-ghost use Rattle.std.specs.Prelude.{◌≡◌, ◌≤◌, IfOk, length};
-ghost use Rattle.csv_catalog.specs.FileFaults.{file_fault, header_fault, rows_fault, first_repeated, told_fault};
+ghost use Rattle.std.specs.Prelude.{◌≡◌, ◌≤◌, ◌+◌, ℕ, None, IfOk, length};
+ghost use Rattle.csv_catalog.specs.Records.{records_of};
+ghost use Rattle.csv_catalog.specs.FileFaults.{header_fault, first_repeated, row_fault, told_fault};
+ghost use Rattle.csv_catalog.specs.Judged.{AreJudged, fault_so_far, next_fault};
 
 use crate::LoadFault;
+use crate::read::{next_record, reader_of};
+use csv::ByteRecord;
 use schema_model::Which;
 use ss_text::{NoMemory, Row, Text};
 use std::alloc::Global;
@@ -22,23 +26,74 @@ pub(crate) enum FileFault {
     TooMany,
 }
 
-// The first fault of a file with these records, where so many rows were counted before.
+/// What was read of a file: its records, where they have no fault, or its first fault.
+#[derive(Debug, Drop)]
+pub(crate) enum Judged {
+    Sound { records: Vec<Row> },
+    Refused { fault: FileFault },
+}
+
+// Reads the records of a file as far as they have no fault, where so many rows were counted before.
+pub(crate) fn judged_records(alloc: Global, bytes: &[u8], count: usize) -> Result<Judged, NoMemory>
+    requires { count ≤ 1000000 }
+    ensures { IfOk result (λ judged. AreJudged count (records_of bytes.now) judged) }
+{
+    let mut reader = reader_of(alloc, bytes);
+    let mut found = ByteRecord::new(alloc);
+    let mut records = Vec::new(alloc);
+    loop {
+        let Some(row) = next_record(alloc, &mut reader, &mut found)? else {
+            return Ok(all_read(records));
+        };
+        match next_fault(alloc, count, &records, &row)? {
+            Some(fault) => return Ok(Judged::Refused { fault }),
+            None => records.push(row)?,
+        }
+    }
+}
+
+// All records of a file, of which none has a fault.
 #[tactic(auto, unfolding(crate::specs::FileFaults::file_fault))]
-pub(crate) fn file_fault(
+fn all_read(records: Vec<Row>) -> Judged
+    ensures { (count : ℕ) → fault_so_far count records.items ≡ None → AreJudged count records.items result }
+{
+    if records.is_empty() {
+        let fault = FileFault::NoRecord;
+        return Judged::Refused { fault };
+    }
+    Judged::Sound { records }
+}
+
+// The fault of the next record of a file, where those before it have none.
+fn next_fault(
     alloc: Global,
     count: usize,
     records: &[Row],
+    row: &Row,
 ) -> Result<Option<FileFault>, NoMemory>
-    requires { count ≤ 1000000 }
-    ensures { IfOk result (λ fault. fault ≡ file_fault count records.now) }
+    requires { count + length records.now ≤ 1000001 }
+    ensures { IfOk result (λ fault. fault ≡ next_fault count records.now row.now) }
 {
     match records {
-        [] => Ok(Some(FileFault::NoRecord)),
-        [header, rows @ ..] => match header_fault(alloc, header)? {
-            Some(fault) => Ok(Some(fault)),
-            None => Ok(rows_fault(header.cells().len(), count, rows)),
-        },
+        [] => header_fault(alloc, row),
+        [header, rows @ ..] => Ok(row_fault(header.cells().len(), count, rows.len(), row)),
     }
+}
+
+// The fault of a row behind so many rows of its file: it has another length than the header, or is one too many.
+fn row_fault(want: usize, count: usize, before: usize, row: &Row) -> Option<FileFault>
+    requires { count + before ≤ 1000000 }
+    ensures { result ≡ row_fault want (2 + before) (count + before) row.now }
+{
+    let got = row.cells().len();
+    if got != want {
+        let nth = 2 + before as u64;
+        return Some(FileFault::OtherLength { nth, want, got });
+    }
+    if count + before >= MOST_ROWS {
+        return Some(FileFault::TooMany);
+    }
+    None
 }
 
 fn header_fault(alloc: Global, header: &Row) -> Result<Option<FileFault>, NoMemory>
@@ -64,28 +119,6 @@ fn first_repeated(alloc: Global, names: &[Text]) -> Result<Option<Text>, NoMemor
         }
     }
     Ok(None)
-}
-
-// The first row that has another length than the header, or is one too many.
-#[tactic(auto, using(crate::proofs::FaultLemmas::other_length, crate::proofs::FaultLemmas::too_many, crate::proofs::FaultLemmas::row_passed, crate::proofs::FaultLemmas::rows_passed))]
-fn rows_fault(want: usize, count: usize, rows: &[Row]) -> Option<FileFault>
-    requires { count ≤ 1000000 }
-    ensures { result ≡ rows_fault want 2 count rows.now }
-{
-    let mut nth = 2;
-    let mut counted = count;
-    for row in rows {
-        let got = row.cells().len();
-        if got != want {
-            return Some(FileFault::OtherLength { nth, want, got });
-        }
-        if counted >= MOST_ROWS {
-            return Some(FileFault::TooMany);
-        }
-        nth += 1;
-        counted += 1;
-    }
-    None
 }
 
 // A fault of a file, told with the names of the database and of the file.

@@ -4,6 +4,7 @@ ghost use Rattle.ss_text.specs.Label.{is_table_label};
 ghost use Rattle.outside.specs.Counts.{Rose};
 ghost use Rattle.schema_model.specs.Catalogue.{database_names, row_count};
 ghost use Rattle.schema_model.specs.Sound.{AreNames};
+ghost use Rattle.schema_model.specs.States.{settled};
 ghost use Rattle.csv_catalog.specs.Loaded.{loaded, databases_in, database_in, database_fault, is_refusal};
 ghost use Rattle.outside.specs.Reading.{OnlyRead};
 ghost use Rattle.csv_catalog.specs.Reading.{WhereTold};
@@ -27,7 +28,8 @@ const MOST_DATABASES: usize = 200;
 /// attributes, and whether one is named twice; then for each record in order its number of fields, and whether
 /// there are too many rows in all. `ReadFault` comes only where a call on the store failed. The store is only read.
 pub fn load<F: Folders>(alloc: Global, store: &mut F) -> Result<Catalogue, LoadFault>
-    ensures loaded { IfOk result (λ catalogue. WhereTold (F.state store.old) (λ t. loaded t ≡ Ok catalogue)) }
+    ensures loaded { IfOk result (λ catalogue. WhereTold (F.state store.old) (λ t. loaded t ≡ Ok catalogue.databases)) }
+    ensures settled { IfOk result (λ catalogue. catalogue ≡ settled catalogue.databases) }
     ensures refused { IfErr result (λ e. is_refusal e ≡ true → WhereTold (F.state store.old) (λ t. loaded t ≡ Err e)) }
     ensures read_fault { IsErrOf result LoadFault.ReadFault → Rose ((F.state store.old).read_faults) ((F.state store.new).read_faults) }
     ensures store { OnlyRead (F.state store.old) (F.state store.new) }
@@ -80,14 +82,15 @@ fn load_database<F: Folders>(
     catalogue: &mut Catalogue,
     db: Text,
 ) -> Result<(), LoadFault>
-    requires names { AreNames (database_names catalogue.old ++ db ∷ []) }
-    requires place { length catalogue.old < 200 }
-    requires few { row_count catalogue.old ≤ 1000000 }
-    ensures sound { OnOk result (WhereTold (F.state store.old) (λ t. database_fault t db (row_count catalogue.old) ≡ None)) }
-    ensures told { OnOk result (WhereTold (F.state store.old) (λ t. catalogue.new ≡ catalogue.old ++ database_in t db ∷ [])) }
-    ensures refused { IfErr result (λ e. is_refusal e ≡ true → WhereTold (F.state store.old) (λ t. database_fault t db (row_count catalogue.old) ≡ Some e)) }
-    ensures names { OnOk result (database_names catalogue.new ≡ database_names catalogue.old ++ db ∷ []) }
-    ensures few { OnOk result (row_count catalogue.new ≤ 1000000) }
+    requires names { AreNames (database_names catalogue.old.databases ++ db ∷ []) }
+    requires place { length catalogue.old.databases < 200 }
+    requires few { row_count catalogue.old.databases ≤ 1000000 }
+    ensures sound { OnOk result (WhereTold (F.state store.old) (λ t. database_fault t db (row_count catalogue.old.databases) ≡ None)) }
+    ensures told { OnOk result (WhereTold (F.state store.old) (λ t. catalogue.new.databases ≡ catalogue.old.databases ++ database_in t db ∷ [])) }
+    ensures refused { IfErr result (λ e. is_refusal e ≡ true → WhereTold (F.state store.old) (λ t. database_fault t db (row_count catalogue.old.databases) ≡ Some e)) }
+    ensures names { OnOk result (database_names catalogue.new.databases ≡ database_names catalogue.old.databases ++ db ∷ []) }
+    ensures few { OnOk result (row_count catalogue.new.databases ≤ 1000000) }
+    ensures settled { OnOk result (catalogue.new ≡ settled catalogue.new.databases) }
     ensures read_fault { IsErrOf result LoadFault.ReadFault → Rose ((F.state store.old).read_faults) ((F.state store.new).read_faults) }
     ensures store { OnlyRead (F.state store.old) (F.state store.new) }
 {

@@ -2,6 +2,7 @@
 ghost use Rattle.std.specs.Prelude.{◌≡◌, [], ◌∷◌, ◌++◌, OnOk};
 ghost use Rattle.ss_text.specs.Places.{at_place};
 ghost use Rattle.schema_model.specs.Catalogue.{database_value, with_relation, with_relation_at};
+ghost use Rattle.schema_model.specs.States.{settled};
 ghost use Rattle.csv_catalog.specs.Put.{with_rows, with_relations, CanTakeRows, CanTakeRelations, CanTakeDatabase};
 
 use crate::relation::ReadRelation;
@@ -15,8 +16,8 @@ pub(crate) fn put_database(
     name: Text,
     relations: Vec<ReadRelation>,
 ) -> Result<(), NoMemory>
-    requires { CanTakeDatabase catalogue.old name relations.items }
-    ensures { OnOk result (catalogue.new ≡ catalogue.old ++ database_value name relations.items ∷ []) }
+    requires { CanTakeDatabase catalogue.old.databases name relations.items }
+    ensures { OnOk result (catalogue.new ≡ settled (catalogue.old.databases ++ database_value name relations.items ∷ [])) }
 {
     let db = catalogue.databases().len();
     catalogue.put_database(name)?;
@@ -29,8 +30,9 @@ fn put_relations(
     db: usize,
     relations: Vec<ReadRelation>,
 ) -> Result<(), NoMemory>
-    requires { CanTakeRelations catalogue.old db relations.items }
-    ensures { OnOk result (catalogue.new ≡ at_place db (with_relations relations.items) catalogue.old) }
+    requires settled { catalogue.old ≡ settled catalogue.old.databases }
+    requires takes { CanTakeRelations catalogue.old.databases db relations.items }
+    ensures { OnOk result (catalogue.new ≡ settled (at_place db (with_relations relations.items) catalogue.old.databases)) }
 {
     for relation in relations {
         put_relation(catalogue, db, relation)?;
@@ -45,8 +47,8 @@ fn put_relation(
     db: usize,
     relation: ReadRelation,
 ) -> Result<(), NoMemory>
-    requires { CanTakeRelations catalogue.old db (relation ∷ []) }
-    ensures { OnOk result (catalogue.new ≡ at_place db (with_relation relation) catalogue.old) }
+    requires { CanTakeRelations catalogue.old.databases db (relation ∷ []) }
+    ensures { OnOk result (catalogue.new ≡ settled (at_place db (with_relation relation) catalogue.old.databases)) }
 {
     let rel = catalogue.databases()[db].relations().len();
     let (label, attributes, rows) = relation.into_parts();
@@ -61,8 +63,9 @@ fn put_rows(
     rel: usize,
     rows: Vec<Row>,
 ) -> Result<(), NoMemory>
-    requires { CanTakeRows catalogue.old db rel rows.items }
-    ensures { OnOk result (catalogue.new ≡ at_place db (with_relation_at rel (with_rows rows.items)) catalogue.old) }
+    requires settled { catalogue.old ≡ settled catalogue.old.databases }
+    requires takes { CanTakeRows catalogue.old.databases db rel rows.items }
+    ensures { OnOk result (catalogue.new ≡ settled (at_place db (with_relation_at rel (with_rows rows.items)) catalogue.old.databases)) }
 {
     for row in rows {
         catalogue.put_row(db, rel, row)?;

@@ -1,8 +1,8 @@
 //! What `csv` gives for texts that only a careful reader gets right, and catalogues of small stores.
 ghost use Rattle.std.specs.Prelude.{◌<◌, All};
 
-use crate::{LoadFault, load, record_text, records, relation_text};
-use outside::MemFolders;
+use crate::{LoadFault, Pair, load, record_text, records, relation_text, save_changed};
+use outside::{Folders, MemFolders};
 use schema_model::{Catalogue, Database};
 use ss_text::{NoMemory, Row, Text};
 use std::alloc::Global;
@@ -250,5 +250,61 @@ fn loads_in_order(rt: HostRuntime) -> Result<(), Fail> {
             "call {failing} fails, and gives {found:?}"
         );
     }
+    Ok(())
+}
+
+// A pair of these names.
+fn pair(alloc: Global, db: &str, rel: &str) -> Result<Pair, NoMemory> {
+    Pair::of(
+        &Text::of(alloc, db.as_bytes())?,
+        &Text::of(alloc, rel.as_bytes())?,
+    )
+}
+
+// What a store has under `sources` as a catalogue, and the names of the folders there.
+fn saved(alloc: Global, store: &mut MemFolders) -> Result<Vec<u8>, NoMemory> {
+    let mut out = outcome(alloc, load(alloc, store))?;
+    let sources = Text::of(alloc, b"sources")?;
+    match store.subfolders(alloc, &sources) {
+        Ok(names) => out.extend_from_slice(&joined(alloc, b"", &names)?)?,
+        Err(_) => return Err(NoMemory),
+    }
+    Ok(out)
+}
+
+#[test]
+fn saves_what_has_changed(rt: HostRuntime) -> Result<(), Fail> {
+    let alloc = rt.alloc();
+    let files = [
+        ("sources/d", "r.csv", "a\n1\n"),
+        ("sources/d", "s.csv", "b\n"),
+    ];
+    let mut store = store_of(alloc, Vec::new(alloc), &files)?;
+    let Ok(catalogue) = load(alloc, &mut store) else {
+        return Err(Fail::from("no catalogue"));
+    };
+    let others = [
+        ("sources/d", "r.csv", "old\n"),
+        ("sources/x", "y.csv", "a\n"),
+        ("sources/z", "notes", "stays"),
+    ];
+    let mut store = store_of(alloc, Vec::new(alloc), &others)?;
+    let databases = vec![in alloc;
+        Text::of(alloc, b"d")?,
+        Text::of(alloc, b"x")?,
+        Text::of(alloc, b"z")?,
+    ]?;
+    let pairs = vec![in alloc;
+        pair(alloc, "d", "r")?,
+        pair(alloc, "d", "s")?,
+        pair(alloc, "x", "y")?,
+    ]?;
+    let done = save_changed(alloc, &mut store, &catalogue, &databases, &pairs);
+    assert_eq!(rt; done, Ok(()));
+    let found = saved(alloc, &mut store)?;
+    assert!(rt;
+        found.as_slice() == b"d r:a\n1\n s:b\n;z; d z".as_slice(),
+        "{found:?}"
+    );
     Ok(())
 }

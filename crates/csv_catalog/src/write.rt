@@ -1,9 +1,10 @@
 //! The canonical text of records and relations.
-ghost use Rattle.std.specs.Prelude.{◌≡◌, ◌≢◌, ◌++◌, [], ◌∷◌, IfOk, OnOk, List, true, false};
-ghost use Rattle.std.specs.List.{list_all};
+ghost use Rattle.std.specs.Prelude.{◌≡◌, ◌≢◌, ◌++◌, [], IfOk, OnOk, List, map, true, false};
+ghost use Rattle.std.specs.List.{list_all, AllByRecursion};
+ghost use Rattle.schema_model.specs.States.{plain_relation};
 ghost use Rattle.ss_text.specs.Texts.{Row};
 ghost use Rattle.csv_catalog.specs.Records.{records_of};
-ghost use Rattle.csv_catalog.specs.RecordText.{record_text, csv_text, has_field, starts_with_bom};
+ghost use Rattle.csv_catalog.specs.RecordText.{record_text, csv_text, relation_records, has_field, starts_with_bom};
 ghost use Rattle.csv_catalog.specs.Written.{IsBetweenRecords, written};
 
 use csv::{Writer, WriterBuilder};
@@ -27,25 +28,23 @@ pub fn record_text(alloc: Global, row: &Row) -> Result<Text, NoMemory>
 /// order.
 #[tactic(auto, unfolding(crate::specs::RecordText::csv_text))]
 pub fn relation_text(alloc: Global, relation: &Relation) -> Result<Text, NoMemory>
-    ensures { IfOk result (λ text. text ≡ csv_text (relation.now.attributes ∷ relation.now.rows)) }
+    ensures { IfOk result (λ text. text ≡ csv_text (relation_records (plain_relation relation.now))) }
 {
     let mut writer = new_writer(alloc);
     write_row(&mut writer, relation.attributes())?;
-    write_rows(&mut writer, relation)?;
+    write_rows(&mut writer, &relation.rows(alloc)?)?;
     text_of(writer)
 }
 
-// Writes the rows of a relation.
-fn write_rows(writer: &mut Writer<Vec<u8>>, relation: &Relation) -> Result<(), NoMemory>
-    requires some { relation.now.attributes ≢ [] }
+// Writes these rows.
+fn write_rows(writer: &mut Writer<Vec<u8>>, rows: &[&Row]) -> Result<(), NoMemory>
+    requires some { AllByRecursion (λ row. row ≢ []) (map (λ row. row.now) rows.now) }
     requires between { IsBetweenRecords writer.old }
-    ensures text { OnOk result (written writer.new ≡ written writer.old ++ csv_text relation.now.rows) }
+    ensures text { OnOk result (written writer.new ≡ written writer.old ++ csv_text (map (λ row. row.now) rows.now)) }
     ensures between { OnOk result (IsBetweenRecords writer.new) }
 {
-    let mut next = relation.first();
-    while let Some(place) = next {
-        write_row(writer, relation.row(place))?;
-        next = relation.after(place);
+    for row in rows {
+        write_row(writer, row)?;
     }
     Ok(())
 }

@@ -12,15 +12,16 @@ returns-then-len-gt-MOST_DATABASES-clause-refused g c =
 
 pub load_database-requires-clause-names : goal.load_database-requires-clause-names
 load_database-requires-clause-names g c =
-    grows_names c.in-Some.db (into_iter_items c.next.new.self) c.loop-db.catalogue (rw c.in-Some.ensures.steps.0 at c.loop-db.invariant.grows)
+    grows_names c.in-Some.db (into_iter_items c.next.new.self) c.loop-db.catalogue.databases (rw c.in-Some.ensures.steps.0 at c.loop-db.invariant.grows)
 
 pub loop-db-preserved : goal.loop-db-preserved
 loop-db-preserved g c =
     let inv = rw c.in-Some.ensures.steps.0 at c.loop-db.invariant in
     let read = c.in-Ok.ensures in
     record {
-      told = λ t h. loading_more t c.in-Some.db (into_iter_items c.next.new.self) c.loop-db.catalogue c.load_database.new.catalogue (inv.told t h) (read.sound t (inv.store.tree ∙ h)) (read.told t (inv.store.tree ∙ h));
-      grows = grows_more c.in-Some.db (into_iter_items c.next.new.self) c.loop-db.catalogue c.load_database.new.catalogue inv.grows read.names read.few;
+      told = λ t h. loading_more t c.in-Some.db (into_iter_items c.next.new.self) c.loop-db.catalogue.databases c.load_database.new.catalogue.databases (inv.told t h) (read.sound t (inv.store.tree ∙ h)) (read.told t (inv.store.tree ∙ h));
+      settled = read.settled;
+      grows = grows_more c.in-Some.db (into_iter_items c.next.new.self) c.loop-db.catalogue.databases c.load_database.new.catalogue.databases inv.grows read.names read.few;
       store = only_read_then _ _ _ inv.store read.store;
     }
 
@@ -28,11 +29,11 @@ pub returns-in-Err-clause-refused : goal.returns-in-Err-clause-refused
 returns-in-Err-clause-refused g c =
     let inv = rw c.in-Some.ensures.steps.0 at c.loop-db.invariant in
     let few : length c.in_ok-names.names.items ≤ 200 = grind (arith, common_steps) in
-    λ r t h. loading_refused t c.in_ok-names.names.items c.in-Some.db (into_iter_items c.next.new.self) c.loop-db.catalogue _ (c.in_ok-names.ensures.told t h) few (inv.told t h) (c.in-Err.ensures.refused r t (inv.store.tree ∙ h))
+    λ r t h. loading_refused t c.in_ok-names.names.items c.in-Some.db (into_iter_items c.next.new.self) c.loop-db.catalogue.databases _ (c.in_ok-names.ensures.told t h) few (inv.told t h) (c.in-Err.ensures.refused r t (inv.store.tree ∙ h))
 
 pub returns-clause-loaded : goal.returns-clause-loaded
 returns-clause-loaded g c =
     let left = into_iter_items c.loop-db.db-iterator in
     let none : left ≡ [] = grind (arith, common_steps) in
     let few : length c.in_ok-names.names.items ≤ 200 = grind (arith, common_steps) in
-    λ t h. loading_done t c.in_ok-names.names.items left c.loop-db.catalogue (c.in_ok-names.ensures.told t h) few none (c.loop-db.invariant.told t h)
+    λ t h. loading_done t c.in_ok-names.names.items left c.loop-db.catalogue.databases (c.in_ok-names.ensures.told t h) few none (c.loop-db.invariant.told t h)

@@ -1,15 +1,12 @@
-use Rattle.std.proofs.Common.{◌≡◌, ◌++◌, length}
+use Rattle.std.proofs.Common.{◌≡◌, ◌≢◌, ◌++◌, [], map, drop}
+use Rattle.std.specs.List.{AllByRecursion}
 use Rattle.csv_catalog.specs.RecordText.{csv_text}
 use Rattle.csv_catalog.specs.Written.{IsBetweenRecords, written}
-use Rattle.csv_catalog.proofs.WritingLemmas.{rows_from, IsPlace}
 use Rattle.csv_catalog.proofs.write.write_rows.Given as goal
 
-abbrev pub invariant-loop-next : goal.invariant-loop-next
-invariant-loop-next l = record {
+abbrev pub invariant-loop-row : goal.invariant-loop-row
+invariant-loop-row l = record {
   between : IsBetweenRecords l.writer;
-  text : written l.writer ++ csv_text (rows_from l.relation.rows l.next) ≡ written l.fn.writer ++ csv_text l.relation.rows;
-  there : IsPlace l.relation.rows l.next;
+  text : written l.writer ++ csv_text (map (λ r. r.now) (drop l.row-index l.rows)) ≡ written l.fn.writer ++ csv_text (map (λ r. r.now) l.rows);
+  some : AllByRecursion (λ row. row ≢ []) (map (λ r. r.now) (drop l.row-index l.rows));
 }
-
-abbrev pub decreases-loop-next : goal.decreases-loop-next
-decreases-loop-next l = length (rows_from l.relation.rows l.next)
