@@ -10,3 +10,6 @@ pub mod Printable
 pub mod Kept
 pub mod Printed
 pub mod RoundTrip
+pub mod Decided
+pub mod EveryText
+pub mod WellWritten

@@ -1,5 +1,5 @@
 -- What a view text is read as, and where it is refused.
-use Rattle.std.specs.Prelude.{◌≡◌, ℕ, suc, List, [], take, slice_get, Some, Result, Ok, Err, IsTrue, ⊤}
+use Rattle.std.specs.Prelude.{◌≡◌, ◌≢◌, ◌⊎◌, ℕ, suc, List, [], take, slice_get, Some, Result, Ok, Err, IsTrue, ⊤}
 use Rattle.view_def.specs.declared.written.ViewText.{ViewText}
 use Rattle.view_def.specs.Tree.{Tree, tree_of}
 use Rattle.ss_lexer.specs.Lexemes.{Lexeme, Bad_byte, Open_quote, Piece, pieces}
@@ -53,3 +53,7 @@ IsRefused bytes f = IsRefusedAt (pieces bytes) f
 abbrev pub IsReadAs : Tree → Result ViewText ParseFault → Type 0
 IsReadAs t (Ok v) = tree_of v ≡ t
 IsReadAs t (Err f) = f ≡ fault.NoMemory
+
+-- the bytes are a view text, or are refused at some place
+abbrev pub HasReading : List ℕ → Type 0
+HasReading bytes = ((t : Tree) × IsRead bytes t) ⊎ ((f : ParseFault) × (f ≢ fault.NoMemory) × IsRefused bytes f)

@@ -16,5 +16,13 @@ mod tests;
 mod unquote;
 mod view;
 
+ghost use Rattle.std.specs.Prelude.{ℕ, List};
+ghost use Rattle.ss_parser.specs.Refused.{HasReading};
+
 pub use fault::ParseFault;
 pub use view::parse;
+
+/// Every text is a view text, or is refused at some place.
+pub fn every_text_has_a_reading()
+    ensures { (bytes : List ℕ) → HasReading bytes }
+{}

@@ -2,6 +2,7 @@
 ghost use Rattle.std.specs.Prelude.{◌≡◌, vec_items, option_map, IfOk, IfErr};
 ghost use Rattle.view_def.specs.RawConditions.{raw_of};
 ghost use Rattle.view_def.specs.Tree.{Tree, tree_of};
+ghost use Rattle.view_def.specs.Written.{IsWritten};
 ghost use Rattle.view_def.specs.Print.{print};
 ghost use Rattle.ss_parser.specs.Views.{columns as columns_phrase, target as target_phrase, header as header_phrase, selection, declarations as declarations_phrase, end as end_phrase, filtered, ending as ending_phrase, view as view_phrase};
 ghost use Rattle.ss_parser.specs.Heads.{head_in};
@@ -21,6 +22,7 @@ const MOST_OPEN: u8 = 64;
 /// Reads a view text: its tree, or the refusal that stands earliest in the text.
 pub fn parse(alloc: Global, bytes: &[u8]) -> Result<ViewText, ParseFault>
     ensures read { IfOk result (λ v. IsRead bytes.now (tree_of v)) }
+    ensures written { IfOk result (λ v. IsWritten (tree_of v)) }
     ensures refused { IfErr result (λ e. IsRefused bytes.now e) }
     ensures whole { (t : Tree) → IsRead bytes.now t → IsReadAs t result }
 

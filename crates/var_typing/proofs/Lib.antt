@@ -7,7 +7,7 @@ mod ProfileDeclarations
 mod ProfileHeader
 mod ProfileScope
 mod ProfileTerms
-mod ProfileTheorem
+pub mod ProfileTheorem
 mod TermLemmas
 mod TypedLemmas
 mod WalkLemmas
