@@ -80,3 +80,13 @@ clash_of s values = None
 unfoldable pub conflict : List Fact → Option Clash
 conflict fs =
     slice_get (filter_map (λ (s : Spot). clash_of s (ascending text_cmp (values_at (facts_of s.0 fs) s.1 s.2))) (spots_of fs)) 0
+
+-- what is made of a label that is not legal, or else of a conflict: a label is refused before any conflict
+abbrev pub first_refusal : {A : Type 0} → (IllegalLabel → A) → (Clash → A) → Option IllegalLabel → Option Clash → Option A
+first_refusal label clash (Some l) c = Some (label l)
+first_refusal label clash None (Some c) = Some (clash c)
+first_refusal label clash None None = None
+
+-- and of that for which a view with these facts is refused
+unfoldable pub refusal_by : {A : Type 0} → (IllegalLabel → A) → (Clash → A) → Shape → List Fact → Option A
+refusal_by label clash shape fs = first_refusal label clash (illegal shape fs) (conflict fs)

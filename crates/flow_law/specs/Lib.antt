@@ -5,3 +5,8 @@ pub mod FactTables
 pub mod Script
 pub mod Lines
 pub mod KeyedRows
+pub mod FactOrder
+pub mod Neighbours
+pub mod Labelled
+pub mod FactRows
+pub mod Stops

@@ -12,7 +12,7 @@ mod table;
 mod tables;
 
 pub use line::TableLine;
-pub use refused::{Clash, IllegalLabel};
+pub use refused::{Clash, IllegalLabel, Stop};
 pub use shape::Shape;
 pub use table::Table;
 pub use tables::Tables;

@@ -1,0 +1,5 @@
+pub mod FactLemmas
+pub mod FrontLemmas
+pub mod ValueLemmas
+pub mod TableRows
+pub mod OrderedFacts

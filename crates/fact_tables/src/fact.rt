@@ -1,0 +1,196 @@
+//! A fact of a view, borrowed from the catalogue and the view.
+ghost use Rattle.std.specs.Prelude.{◌≡◌, ◌<◌, ◌≤◌, refl, drop, length, slice_get, option_copied, option_map, IfOk, OnSome};
+ghost use Rattle.std.specs.List.{prefix_len};
+ghost use Rattle.ss_text.specs.Texts.{text_eq, row_eq};
+ghost use Rattle.flow_law.specs.Facts.{column_of, value_in};
+ghost use Rattle.std.specs.Ordering.{eq_by_cmp, as_partial_cmp};
+ghost use Rattle.std.specs.Cmp.{partial_equiv_from_equiv, partial_order_from_agreeing_total, eq_by_cmp_equiv};
+ghost use Rattle.fact_tables.specs.Borrowed.{fact_value};
+ghost use Rattle.fact_tables.specs.Cells.{is_past};
+ghost use Rattle.flow_law.specs.FactOrder.{fact_cmp, fact_total};
+
+use crate::key::Key;
+use crate::label::Label;
+use ss_text::{NoMemory, Row, Text};
+use std::alloc::Global;
+use std::cmp::Ordering;
+use std::marker::Model;
+
+/// A table label, a key, and a column with its value where the view has a variable column. Facts are in
+/// order by label, then by key, then by column and value.
+#[derive(Drop)]
+pub struct Fact<'a> {
+    label: Label<'a>,
+    key: Key<'a>,
+    cell: Option<(Label<'a>, &'a Text)>,
+}
+
+impl<'a> Model for Fact<'a> {
+    ghost use Rattle.flow_law.specs.Facts.{Fact};
+    ghost use Rattle.fact_tables.specs.Borrowed.{fact_value};
+
+    ghost Value = { Fact };
+
+    ghost view = { λ f. fact_value f.label f.key f.cell };
+}
+
+impl<'a> Fact<'a> {
+    /// The fact with these parts.
+    pub fn of(label: Label<'a>, key: Key<'a>, cell: Option<(Label<'a>, &'a Text)>) -> Fact<'a>
+        ensures { result ≡ fact_value label.entry key.entry cell.entry }
+    {
+        Fact { label, key, cell }
+    }
+
+    /// Its table label.
+    pub(crate) fn label(&self) -> &Label<'a>
+        ensures { result.now ≡ self.now.label }
+    {
+        &self.label
+    }
+
+    /// Its column label.
+    pub(crate) fn column(&self) -> Option<&Label<'a>>
+        ensures { option_copied result ≡ column_of self.now }
+    {
+        match &self.cell {
+            Some((column, _)) => Some(column),
+            None => None,
+        }
+    }
+
+    /// Its column label and value.
+    pub(crate) fn cell(&self) -> Option<(&Label<'a>, &'a Text)>
+        ensures { option_map (λ c. (c.0.now, c.1.now)) result ≡ self.now.cell }
+    {
+        match &self.cell {
+            Some((column, value)) => Some((column, *value)),
+            None => None,
+        }
+    }
+
+    /// Its value, where it names this column.
+    pub(crate) fn value(&self, column: &Label<'_>) -> Option<&'a Text>
+        ensures { option_copied result ≡ value_in column.now self.now }
+    {
+        match &self.cell {
+            Some((named, value)) if column == named => Some(*value),
+            _ => None,
+        }
+    }
+
+    /// Whether its cell stands behind the empty value of this column.
+    pub(crate) fn is_past(&self, column: &Label<'_>) -> bool
+        ensures { result ≡ is_past column.now self.now }
+    {
+        let Some((named, value)) = &self.cell else {
+            return false;
+        };
+        match named.cmp(column) {
+            Ordering::Less => false,
+            Ordering::Equal => !value.as_slice().is_empty(),
+            Ordering::Greater => true,
+        }
+    }
+
+    /// A copy of its key.
+    pub(crate) fn copy_key(&self, alloc: Global) -> Result<Row, NoMemory>
+        ensures { IfOk result (λ key. key ≡ self.now.key) }
+    {
+        let labels = self.key.labels();
+        let mut cells = Vec::with_capacity(alloc, labels.len())?;
+        for label in labels {
+            cells.push(label.text().copy()?)?;
+        }
+        Ok(Row::of(cells))
+    }
+
+    /// Whether it has the key of another.
+    pub(crate) fn has_key_of(&self, other: &Fact<'_>) -> bool
+        ensures { result ≡ row_eq self.now.key other.now.key }
+    {
+        self.key == other.key
+    }
+}
+
+/// The fact at a place.
+pub(crate) fn fact_at<'f, 'a>(facts: &'f [Fact<'a>], place: usize) -> Option<&'f Fact<'a>>
+    ensures fact { option_copied result ≡ slice_get facts.now place }
+    ensures there { OnSome result (place < length facts.now) }
+{
+    facts.get(place)
+}
+
+/// The facts from a place on.
+pub(crate) fn facts_from<'f, 'a>(facts: &'f [Fact<'a>], place: usize) -> &'f [Fact<'a>]
+    requires { place ≤ length facts.now }
+    ensures { result.now ≡ drop place facts.now }
+{
+    &facts[place..]
+}
+
+/// How many facts at the front have this label.
+pub(crate) fn label_count(facts: &[Fact<'_>], label: &Label<'_>) -> usize
+    ensures count { result ≡ prefix_len (λ f. text_eq label.now f.label) facts.now }
+    ensures within { result ≤ length facts.now }
+{
+    facts
+        .iter()
+        .take_while(|fact| label == fact.label())
+        .count()
+}
+
+/// How many facts at the front have the key of this one.
+pub(crate) fn key_count(facts: &[Fact<'_>], first: &Fact<'_>) -> usize
+    ensures count { result ≡ prefix_len (λ f. row_eq first.now.key f.key) facts.now }
+    ensures within { result ≤ length facts.now }
+{
+    facts
+        .iter()
+        .take_while(|fact| first.has_key_of(fact))
+        .count()
+}
+
+impl PartialEq for Fact<'_> {
+    ghost eq = { eq_by_cmp fact_cmp };
+
+    ghost laws = { partial_equiv_from_equiv (eq_by_cmp_equiv fact_total) };
+
+    fn eq(&self, other: &Self) -> bool {
+        self.cmp(other).is_eq()
+    }
+}
+
+impl Eq for Fact<'_> {
+    ghost laws = { eq_by_cmp_equiv fact_total };
+}
+
+impl PartialOrd for Fact<'_> {
+    ghost partial_cmp = { as_partial_cmp fact_cmp };
+
+    ghost laws = { partial_order_from_agreeing_total fact_cmp fact_total (λ a b. refl) (λ a b. refl) };
+
+    fn partial_cmp(&self, other: &Self) -> Option<Ordering> {
+        Some(self.cmp(other))
+    }
+}
+
+impl Ord for Fact<'_> {
+    ghost cmp = { fact_cmp };
+
+    ghost total = { fact_total };
+
+    ghost matches_partial_cmp = { λ a b. refl };
+
+    ghost matches_eq = { λ a b. refl };
+
+    fn cmp(&self, other: &Self) -> Ordering {
+        match self.label.cmp(&other.label) {
+            Ordering::Equal => match self.key.cmp(&other.key) {
+                Ordering::Equal => self.cell.cmp(&other.cell),
+                differs => differs,
+            },
+            differs => differs,
+        }
+    }
+}
