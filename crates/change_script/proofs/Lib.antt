@@ -1,2 +1,4 @@
 mod WorkedRows
 pub mod BetweenLemmas
+pub mod AppliedLaw
+pub mod FitLemmas
