@@ -4,11 +4,10 @@ pub mod Valuations
 pub mod Held
 pub mod Truth
 pub mod Meaning
-pub mod FactOrder
-pub mod Borrowed
 pub mod Listing
-pub mod Cells
-pub mod Labelled
-pub mod Neighbours
 pub mod Refusal
-pub mod Front
+pub mod Early
+pub mod EarlyTests
+pub mod Indexed
+pub mod Lookups
+pub mod Sources

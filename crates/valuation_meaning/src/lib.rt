@@ -1,4 +1,4 @@
-//! The plain meaning of a view: its tables, over the whole catalogue.
+//! The meaning of a view: its tables, over the whole catalogue.
 //!
 //! Its contract: `evaluate` gives the tables of the facts of a view, one fact for each assignment of rows and
 //! names to its declarations that counts, or the illegal label or the conflict for which the view is refused.
@@ -6,18 +6,14 @@
 #![tactic(auto)]
 
 mod column;
+mod early;
 mod element;
 mod evaluation;
-mod fact;
-mod front;
-mod key;
-mod label;
+mod index;
 mod listing;
-mod lookup;
+mod lookups;
 mod ranges;
-mod refused;
 mod shape;
-mod tables;
 mod truth;
 mod value;
 

@@ -1,23 +1,26 @@
 //! The facts of a view, listed one for each valuation.
-ghost use Rattle.std.specs.Prelude.{◌≡◌, ◌&&◌, [], ◌++◌, drop, map, option_copied, option_map, option_to_list, length, slice_get, vec_len, ◌<◌, IfOk, OnOk, OnSome, if◌then◌else◌};
+ghost use Rattle.std.specs.Prelude.{◌≡◌, ◌&&◌, [], ◌∷◌, ◌++◌, drop, map, option_copied, option_map, option_to_list, length, slice_get, vec_len, ◌<◌, IfOk, OnOk, OnSome, IsTrue, Some, if◌then◌else◌};
 ghost use Rattle.view_def.specs.Conditions.{condition_of};
 ghost use Rattle.view_def.specs.Query.{query_of};
-ghost use Rattle.valuation_meaning.specs.Borrowed.{cell_value};
-ghost use Rattle.valuation_meaning.specs.Terms.{are_defined};
-ghost use Rattle.valuation_meaning.specs.Valuations.{counts, meets, terms_of_filter};
-ghost use Rattle.valuation_meaning.specs.Meaning.{given, values_of, cell_of, fact_of, facts};
-ghost use Rattle.valuation_meaning.specs.Elements.{place_text};
-ghost use Rattle.valuation_meaning.specs.Listing.{facts_after};
+ghost use Rattle.fact_tables.specs.Borrowed.{cell_value};
+ghost use Rattle.view_def.specs.Terms.{terms_of_filter};
+ghost use Rattle.valuation_meaning.specs.Terms.{value_of, are_defined};
+ghost use Rattle.valuation_meaning.specs.Valuations.{counts, meets};
+ghost use Rattle.valuation_meaning.specs.Meaning.{given, term_of, values_of, cell_of, fact_of, facts};
+ghost use Rattle.valuation_meaning.specs.Listing.{facts_after, AreEnough};
+ghost use Rattle.valuation_meaning.specs.Early.{AliasesAgree, Ends};
+ghost use Rattle.valuation_meaning.specs.Sources.{IsReady};
+ghost use Rattle.std.specs.List.{All};
 
+use crate::early::{EarlyMember, EarlyTerm, early_members, early_terms, fails_member, lacks_term};
 use crate::element::Element;
-use crate::fact::Fact;
-use crate::key::Key;
-use crate::label::Label;
+use crate::lookups::{Lookup, lookup_for, lookups, operand_value};
 use crate::ranges::elements;
 use crate::truth::truth;
 use crate::value::{place_text, value_of};
 use bumpalo::Bump;
 use bumpalo::collections::into_bump_slice;
+use fact_tables::{Fact, Key, Label};
 use schema_model::Catalogue;
 use ss_text::{NoMemory, Text};
 use std::alloc::Global;
@@ -26,7 +29,7 @@ use view_def::{Cond, Place, Range, Term, View};
 /// The text of a place that has one.
 fn text_of<'a>(valuation: &[Element<'a>], place: &'a Place, empty: &'a Text) -> &'a Text
     requires { empty.now ≡ [] }
-    ensures { result.now ≡ given (place_text valuation.now place.now) }
+    ensures { result.now ≡ given (value_of valuation.now (term_of place.now)) }
 {
     place_text(valuation, place).unwrap_or(empty)
 }
@@ -38,7 +41,7 @@ fn values_of<'a>(
     terms: &'a [Term],
 ) -> Result<Option<&'a [Label<'a>]>, NoMemory>
     ensures { IfOk result (λ ts. option_map (λ ts. ts.now) ts
-        ≡ (if are_defined valuation.now terms.now then Some (values_of valuation.now terms.now) else None)) }
+        ≡ (if are_defined (value_of valuation.now) terms.now then Some (values_of (value_of valuation.now) terms.now) else None)) }
 {
     let mut values = Vec::with_capacity(arena, terms.len())?;
     for term in terms {
@@ -53,7 +56,7 @@ fn values_of<'a>(
 /// Whether a condition is true and every term in it defined. No condition is true.
 fn holds(valuation: &[Element<'_>], filter: &Option<Cond>) -> bool
     ensures { let filter = option_map condition_of filter.now in
-        result ≡ (are_defined valuation.now (terms_of_filter filter) && meets valuation.now filter) }
+        result ≡ (are_defined (value_of valuation.now) (terms_of_filter filter) && meets (value_of valuation.now) filter) }
 {
     match filter {
         None => true,
@@ -70,7 +73,7 @@ fn cell_of<'a>(
 ) -> Option<Option<(Label<'a>, &'a Text)>>
     requires { empty.now ≡ [] }
     ensures { option_map cell_value result
-        ≡ (if are_defined valuation.now (option_to_list value.now) then Some (cell_of valuation.now column.now value.now) else None) }
+        ≡ (if are_defined (value_of valuation.now) (option_to_list value.now) then Some (cell_of (value_of valuation.now) column.now value.now) else None) }
 {
     let Some(value) = value else {
         return Some(None);
@@ -92,7 +95,7 @@ fn fact_of<'a>(
 ) -> Result<Option<Fact<'a>>, NoMemory>
     requires { empty.now ≡ [] }
     ensures { let query = query_of view.now in
-        IfOk result (λ fact. fact ≡ (if counts query valuation.now then Some (fact_of query valuation.now) else None)) }
+        IfOk result (λ fact. fact ≡ (if counts query (value_of valuation.now) then Some (fact_of query (value_of valuation.now)) else None)) }
 {
     if !holds(valuation, &view.filter) {
         return Ok(None);
@@ -115,25 +118,62 @@ fn declaration(view: &View, place: usize) -> Option<&Range>
     view.decls.get(place)
 }
 
-/// Where the facts of a view are read from, an arena for their keys, and an empty text.
+/// Where the facts of a view are read from, an arena for their keys, an empty text, and what is tested and looked up
+/// before a valuation is whole.
 #[derive(Drop)]
 struct Source<'a> {
     arena: &'a Bump<Global>,
     catalogue: &'a Catalogue,
     view: &'a View,
     empty: &'a Text,
+    members: Vec<EarlyMember<'a>>,
+    terms: Vec<EarlyTerm<'a>>,
+    lookups: Vec<Lookup<'a>>,
 }
 
 impl<'a> Source<'a> {
     /// Adds the fact of a valuation, where the valuation counts.
     fn add_fact(&self, valuation: &[Element<'a>], facts: &mut Vec<Fact<'a>>) -> Result<(), NoMemory>
         requires { self.now.empty.now ≡ [] }
-        ensures { OnOk result (facts.new.items ≡ facts.old.items ++ facts_after self.now.catalogue.now (query_of self.now.view.now) valuation.now []) }
+        ensures { OnOk result (facts.new.items ≡ facts.old.items ++ facts_after self.now.catalogue.now.databases (query_of self.now.view.now) valuation.now []) }
     {
         if let Some(fact) = fact_of(self.arena, self.view, self.empty, valuation)? {
             facts.push(fact)?;
         }
         Ok(())
+    }
+
+    /// Whether no valuation that begins with these elements counts, as far as the last of them tells.
+    fn ends(&self, valuation: &[Element<'a>]) -> bool
+        requires { IsReady self.now }
+        ensures { IsTrue result → Ends (query_of self.now.view.now) valuation.now }
+    {
+        fails_member(&self.members, valuation) || lacks_term(&self.terms, valuation)
+    }
+
+    /// The elements of the next declaration, without some with which no valuation counts.
+    fn candidates(
+        &self,
+        alloc: Global,
+        valuation: &[Element<'a>],
+        range: &'a Range,
+    ) -> Result<Vec<Element<'a>>, NoMemory>
+        requires ready { IsReady self.now }
+        requires agree { AliasesAgree (query_of self.now.view.now) valuation.now }
+        requires range { Some range.now ≡ slice_get self.now.view.now.decls.items (length valuation.now) }
+        ensures facts { let query = query_of self.now.view.now in
+            IfOk result (λ es. AreEnough self.now.catalogue.now.databases query valuation.now es.items) }
+        ensures agree { IfOk result (λ es. All (λ e. AliasesAgree (query_of self.now.view.now) (valuation.now ++ e ∷ [])) es.items) }
+    {
+        let Some(lookup) = lookup_for(&self.lookups, valuation.len()) else {
+            let all = elements(alloc, self.catalogue, valuation, range)?;
+            return Ok(all);
+        };
+        let Some(text) = operand_value(valuation, &lookup.sought) else {
+            return Ok(Vec::new(alloc));
+        };
+        let found = lookup.index.rows(alloc, text)?;
+        Ok(found)
     }
 
     /// Adds the facts of the valuations that begin with these elements.
@@ -143,16 +183,20 @@ impl<'a> Source<'a> {
         valuation: &mut Vec<Element<'a>>,
         facts: &mut Vec<Fact<'a>>,
     ) -> Result<(), NoMemory>
-        requires { self.now.empty.now ≡ [] }
+        requires ready { IsReady self.now }
+        requires agree { AliasesAgree (query_of self.now.view.now) valuation.old.items }
         ensures facts { let query = query_of self.now.view.now in
             let begun = valuation.old.items in
-            OnOk result (facts.new.items ≡ facts.old.items ++ facts_after self.now.catalogue.now query begun (drop (length begun) query.decls)) }
+            OnOk result (facts.new.items ≡ facts.old.items ++ facts_after self.now.catalogue.now.databases query begun (drop (length begun) query.decls)) }
         ensures same { OnOk result (valuation.new.items ≡ valuation.old.items) }
     {
         let Some(range) = declaration(self.view, valuation.len()) else {
             return self.add_fact(valuation, facts);
         };
-        for element in elements(alloc, self.catalogue, valuation, range)? {
+        if self.ends(valuation) {
+            return Ok(());
+        }
+        for element in self.candidates(alloc, valuation, range)? {
             valuation.push(element)?;
             self.add_facts(alloc, valuation, facts)?;
             valuation.pop();
@@ -170,13 +214,16 @@ pub(crate) fn facts<'a>(
     empty: &'a Text,
 ) -> Result<Vec<Fact<'a>>, NoMemory>
     requires { empty.now ≡ [] }
-    ensures { IfOk result (λ fs. fs.items ≡ facts catalogue.now (query_of view.now)) }
+    ensures { IfOk result (λ fs. fs.items ≡ facts catalogue.now.databases (query_of view.now)) }
 {
     let source = Source {
         arena,
         catalogue,
         view,
         empty,
+        members: early_members(alloc, view)?,
+        terms: early_terms(alloc, view)?,
+        lookups: lookups(alloc, catalogue, view)?,
     };
     let mut valuation = Vec::with_capacity(alloc, view.decls.len())?;
     let mut facts = Vec::new(alloc);

@@ -1,10 +1,10 @@
-use Rattle.std.proofs.Common.{length, sym, ◌∙◌}
+use Rattle.std.proofs.Common.{length, sym, ◌∙◌, append-nil}
 use Rattle.std.proofs.lemmas.List.{map-id}
 use Rattle.std.proofs.lemmas.Iterator.Adapters.{YieldsList-from_vec}
 use Rattle.std.proofs.lemmas.Iterator.Consumers.{YieldsList-end}
 use Rattle.view_def.specs.Query.{query_of}
 use Rattle.ss_text.proofs.GroupWalk.{none_left}
-use Rattle.valuation_meaning.proofs.ListingLemmas.{collected}
+use Rattle.valuation_meaning.proofs.AliasLemmas.{no_facts}
 use Rattle.valuation_meaning.proofs.listing.Source.+add_facts.Goals as goal
 
 pub returns-in_default-clause-facts : goal.returns-in_default-clause-facts
@@ -14,6 +14,14 @@ returns-in_default-clause-facts t c =
     let none = rw (c.len.ensures, v.ok.0) at c.in_default.ensures.declaration in
     rw (none_left ds (length v.items) none, ← c.deref.ensures.value) c.add_fact.ensures
 
+pub returns-then-ends-clause-facts : goal.returns-then-ends-clause-facts
+returns-then-ends-clause-facts t c =
+    let s = c.args.self.now in
+    let q = query_of s.view.now in
+    let v = c.args.valuation.now.items in
+    let ends = rw c.deref-2.ensures.value at (c.ends.ensures c.if-ends.true) in
+    rw (no_facts s.catalogue.now.databases q v c.requires.agree ends) (sym (append-nil c.args.facts.now.items))
+
 pub returns-clause-facts : goal.returns-clause-facts
 returns-clause-facts t c =
     let s = c.args.self.now in
@@ -21,7 +29,6 @@ returns-clause-facts t c =
     let gives = c.into_iter-element-iterator.ensures.into_iter_gives in
     let all = YieldsList-from_vec {s = c.into_iter-element-iterator.result} _ gives.0 (gives.1 ∙ c.in_ok-element-items.element-items.ok.0) in
     let done = (YieldsList-end all c.loop-element.yielded c.loop-element.element-iterator c.loop-element.yielded_by c.next.result c.next.new.self c.in-None.is c.next.ensures.steps).0 in
-    let from = rw c.deref-2.ensures.value at c.in_ok-element-items.ensures in
-    let same = sym (map-id c.loop-element.yielded) ∙ done ∙ from in
-    let here = rw (c.len.ensures, v.ok.0) at c.in-Some.ensures.declaration in
-    rw (collected s.catalogue.now (query_of s.view.now) v.items s.view.now.decls.items c.in-Some.range.now (length v.items) c.loop-element.yielded here same) c.loop-element.invariant.facts
+    let same = sym (map-id c.loop-element.yielded) ∙ done in
+    let from = rw c.deref-3.ensures.value at c.in_ok-element-items.ensures.facts in
+    rw (rw (← same) at from) c.loop-element.invariant.facts

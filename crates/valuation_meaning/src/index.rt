@@ -1,0 +1,94 @@
+//! The rows of a relation by the cell under an attribute.
+ghost use Rattle.std.specs.Prelude.{◌≡◌, map, IfOk, length};
+ghost use Rattle.schema_model.specs.States.{plain_relation};
+ghost use Rattle.valuation_meaning.specs.Elements.{A_row};
+ghost use Rattle.valuation_meaning.specs.Indexed.{cells_of, places_of, IsIndexed};
+
+use crate::column::cell_under;
+use crate::element::Element;
+use indexmap::IndexMap;
+use schema_model::Relation;
+use ss_text::{NoMemory, Row, Text};
+use std::alloc::Global;
+use std::marker::Model;
+
+/// The rows of a relation; those with the same cell under an attribute are chained in their order.
+#[derive(Drop)]
+pub(crate) struct Index<'a> {
+    relation: &'a Relation,
+    attribute: &'a Text,
+    rows: Vec<&'a Row>,
+    heads: IndexMap<&'a Text, usize>,
+    next: Vec<Option<usize>>,
+}
+
+impl<'a> Model for Index<'a> {
+    ghost use Rattle.std.specs.Prelude.{◌≡◌};
+    ghost use Rattle.schema_model.specs.States.{plain_relation};
+    ghost use Rattle.valuation_meaning.specs.Indexed.{Indexed, cells_of, rows_now, IsIndexed};
+
+    ghost Value = { Indexed };
+
+    ghost view = { λ i. (plain_relation i.relation.now, i.attribute.now) };
+
+    ghost invariant = { λ i. record {
+      rows : rows_now i.rows.items ≡ (plain_relation i.relation.now).rows;
+      indexed : IsIndexed (cells_of (plain_relation i.relation.now, i.attribute.now)) i.heads.entries i.next.items 0;
+    } };
+}
+
+// No next row for so many rows.
+fn no_next(alloc: Global, count: usize) -> Result<Vec<Option<usize>>, NoMemory>
+    ensures { IfOk result (λ next. length next.items ≡ count) }
+{
+    let mut next = Vec::with_capacity(alloc, count)?;
+    while next.len() < count {
+        next.push(None)?;
+    }
+    Ok(next)
+}
+
+impl<'a> Index<'a> {
+    /// The index of a relation by an attribute. It is made from the last row to the first, so that the row that
+    /// was the first of its cell so far is the next of the row before it.
+    pub(crate) fn of(
+        alloc: Global,
+        relation: &'a Relation,
+        attribute: &'a Text,
+    ) -> Result<Index<'a>, NoMemory>
+        ensures { IfOk result (λ index. index ≡ (plain_relation relation.now, attribute.now)) }
+    {
+        let rows = relation.rows(alloc)?;
+        let mut heads = IndexMap::new(alloc);
+        let mut next = no_next(alloc, rows.len())?;
+        let mut position = rows.len();
+        while position > 0 {
+            position -= 1;
+            let row = rows[position];
+            if let Some(cell) = cell_under(relation.attributes(), attribute, row) {
+                next[position] = heads.insert(cell, position)?;
+            }
+        }
+        Ok(Index {
+            relation,
+            attribute,
+            rows,
+            heads,
+            next,
+        })
+    }
+
+    /// The rows whose cell is this text, in their order.
+    pub(crate) fn rows(&self, alloc: Global, text: &'a Text) -> Result<Vec<Element<'a>>, NoMemory>
+        ensures { IfOk result (λ es. es.items ≡ map (A_row self.now.0) (places_of text.now 0 (cells_of self.now))) }
+    {
+        let mut rows = Vec::new(alloc);
+        let mut next = self.heads.get(&text).copied();
+        while let Some(position) = next {
+            let row = self.rows[position];
+            rows.push(Element::of_row(self.relation, position, row))?;
+            next = self.next[position];
+        }
+        Ok(rows)
+    }
+}
