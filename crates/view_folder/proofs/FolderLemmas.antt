@@ -16,7 +16,8 @@ use Rattle.std.proofs.lemmas.Cmp.{nat_list_cmp_total, tied_itself, eq_by_cmp_equ
 use Rattle.ss_text.specs.Texts.{Text, text_cmp, text_eq, is_in}
 use Rattle.outside.specs.Counts.{risen}
 use Rattle.outside.specs.Tree.{Tree, Place, place_cmp, file_at, files_of, names_in}
-use Rattle.outside.proofs.PlaceLemmas.{place_total, place_exact, names_ascend}
+use Rattle.outside.specs.WholeLaw.{place_exact}
+use Rattle.outside.proofs.PlaceLemmas.{place_total, names_ascend}
 use Rattle.effects.specs.Effects.{Stored, performed, writing, removing}
 use Rattle.effects.proofs.EffectLemmas.{performed_append}
 use Rattle.view_folder.specs.declared.file.File.{File}

@@ -13,7 +13,7 @@ use Rattle.ss_text.proofs.KeyLemmas.{text_order, equal_itself, equal_is}
 use Rattle.outside.specs.Counts.{risen}
 use Rattle.outside.specs.Tree.{Tree, Place, file_at}
 use Rattle.effects.specs.declared.stop.Stop.{Stop}
-use Rattle.effects.specs.Effects.{World, Does, Effect, Write, Remove, Stored, Contents, stored_of, contents, after, performed, writing, removing}
+use Rattle.effects.specs.Effects.{World, world_of, Does, Effect, Write, Remove, Stored, Contents, stored_of, contents, after, performed, writing, removing}
 use Rattle.outside.specs.States.{StoreState, SinkState}
 use Rattle.flow_law.specs.declared.shape.Shape.{Shape}
 use Rattle.flow_law.specs.Tables.{TableValue, TablesValue, table_of, labels_of}
@@ -211,7 +211,7 @@ tree_of (Some t) n s h = ap (option_map (λ (u : Stored). u.tree)) h
 
 -- where all of it was done, the files of these labels are those of their tables, and all others stay
 pub named_held : (d : Text) (shape : Shape) (ts : TablesValue) (ls : List Text) (old new : StoreState) (o : SinkState) (t u : Tree) → old.tree ≡ Some t → new.tree ≡ Some u
-    → contents (new, o) ≡ performed (later_sync d shape ts ls) (contents (old, o)) → HoldsNamed d shape ts ls t u
+    → contents (world_of new o) ≡ performed (later_sync d shape ts ls) (contents (world_of old o)) → HoldsNamed d shape ts ls t u
 unfolding contents
 named_held d shape ts ls old new o t u was is did =
     let s : Stored = record { tree = t; writes = old.writes } in
@@ -229,7 +229,7 @@ named_held d shape ts ls old new o t u was is did =
 abbrev pub nothing_held : SinkState
 nothing_held = record { held = None; faults = 0 }
 
-pub named_hold : (d : Text) (shape : Shape) (ts : TablesValue) (ls : List Text) (old new : StoreState) (r : Result ℕ Stop) → ((o : SinkState) → Does (later_sync d shape ts ls) (old, o) (new, o) r)
+pub named_hold : (d : Text) (shape : Shape) (ts : TablesValue) (ls : List Text) (old new : StoreState) (r : Result ℕ Stop) → ((o : SinkState) → Does (later_sync d shape ts ls) (world_of old o) (world_of new o) r)
     → IfOk r (λ _. (t u : Tree) → old.tree ≡ Some t → new.tree ≡ Some u → HoldsNamed d shape ts ls t u)
 named_hold d shape ts ls old new (Ok n) does = λ t u was is. named_held d shape ts ls old new nothing_held t u was is (does nothing_held)
 named_hold d shape ts ls old new (Err e) does = tt
@@ -261,7 +261,7 @@ module _ (d : Text) (shape : Shape) (ts : TablesValue) (ls : List Text) (s : Sto
       none n = omega arith
 
   pub counting_more : (i n m : ℕ) (old new : StoreState) (o : SinkState) (l : Text) (b : Bool) → i < length ls → l ≡ get_or ls i l → IsCounting i n (stored_of old.tree old.writes)
-      → contents (new, o) ≡ performed (label_synced d shape ts l ∷ []) (contents (old, o)) → ((t : Tree) → old.tree ≡ Some t → b ≡ is_counted d ts t l) → m ≡ from_bool b
+      → contents (world_of new o) ≡ performed (label_synced d shape ts l ∷ []) (contents (world_of old o)) → ((t : Tree) → old.tree ≡ Some t → b ≡ is_counted d ts t l) → m ≡ from_bool b
       → IsCounting (i + 1) (n + m) (stored_of new.tree new.writes)
   unfolding contents
   counting_more i n m old new o l b lt at h does was one =

@@ -1,22 +1,24 @@
 -- The files of tables, and what the opening sync leaves and counts.
-use Rattle.std.proofs.Common.{◌≡◌, ◌+◌, ◌<◌, ◌∙◌, ℕ, Bool, false, List, [], ◌∷◌, map, length, drop, get_or, Option, Some, is_some, refl, sym, ap, subst, arith}
+use Rattle.std.proofs.Common.{◌≡◌, ◌+◌, ◌<◌, ◌∙◌, ℕ, Bool, true, false, cond, not, ◌&&◌, ◌||◌, Bor, List, [], ◌∷◌, ◌++◌, append_assoc, map, length, take, drop, get_or, Option, Some, is_some, refl, sym, ap, subst, arith}
 use Rattle.std.specs.Prelude.{unwrap_or, Result, Ok, Err, IfOk}
 use Rattle.std.specs.Int.{from_bool}
 use Rattle.std.specs.List.{AllByRecursion}
 use Rattle.std.specs.List.Sorted.{IsStrictlySortedBy}
 use Rattle.std.specs.Ordering.{is_eq}
 use Rattle.std.specs.declared.cmp.Ordering.TheVariants.{Less}
-use Rattle.std.specs.Cmp.Lexicographic.{texts_ties}
-use Rattle.ss_text.specs.Texts.{Text, text_cmp}
+use Rattle.std.specs.Cmp.Lexicographic.{texts_ties, nat_list_eq_equiv}
+use Rattle.std.proofs.lemmas.List.{take_more}
+use Rattle.std.proofs.lemmas.List.Folds.{list_any-append}
+use Rattle.ss_text.specs.Texts.{Text, text_cmp, text_eq}
 use Rattle.outside.specs.States.{StoreState, SinkState}
 use Rattle.outside.specs.Tree.{Tree, file_at, files_of}
 use Rattle.effects.specs.declared.stop.Stop.{Stop}
-use Rattle.effects.specs.Effects.{World, Does, Remove, Stored, Contents, stored_of, contents, performed, removing}
+use Rattle.effects.specs.Effects.{World, world_of, Does, Remove, Stored, Contents, stored_of, contents, performed, removing}
 use Rattle.flow_law.specs.declared.shape.Shape.{Shape}
 use Rattle.flow_law.specs.Tables.{TablesValue, labels_of}
 use Rattle.flow_law.specs.InOrder.{AreTables}
 use Rattle.view_folder.specs.declared.file.File.{File}
-use Rattle.view_folder.specs.Files.{is_named, file_name, other_names, AreViewFiles, Apart, AreThere}
+use Rattle.view_folder.specs.Files.{is_named, has_name, is_csv_name, file_name, other_names, AreViewFiles, Apart, AreThere}
 use Rattle.view_folder.specs.TableFiles.{table_file, table_files}
 use Rattle.view_folder.specs.Sync.{written, opening_sync, opening_count, HoldsExactly}
 use Rattle.view_folder.proofs.FolderLemmas.{now, wrote, synced, holds_exactly, performed_written, each_there, others_apart, still_there}
@@ -37,6 +39,26 @@ pub are_view_files : (shape : Shape) (ts : TablesValue) → AreTables ts → Are
 unfolding table_files
 are_view_files shape ts h = files_of_tables shape ts h.labels
 
+-- one more name among those of files
+pub named_more : (files : List File) (i : ℕ) (f : File) (q : Text) (b : Bool) → i < length files → f ≡ get_or files i f → b ≡ is_named (take i files) q → cond (text_eq f.name q) true b ≡ is_named (take (i + 1) files) q
+named_more files i f q b lt is e =
+    rw (e, take_more files i f lt, list_any-append (λ (x : File). text_eq q x.name) (take i files) (get_or files i f ∷ []), ← is, nat_list_eq_equiv.symm f.name q) (joined (text_eq q f.name) (is_named (take i files) q))
+  where
+    joined : (a b : Bool) → cond a true b ≡ (b || (a || false))
+    joined true true = refl
+    joined true false = refl
+    joined false true = refl
+    joined false false = refl
+
+-- one more name, which is another's or not
+pub other_more : (files : List File) (taken : List (Bor Text)) (name : Text) (rest others new : List Text) → has_name taken name ≡ is_named files name
+    → new ≡ cond (is_csv_name name && not (has_name taken name)) (others ++ name ∷ []) others → new ++ other_names files rest ≡ others ++ other_names files (name ∷ rest)
+other_more files taken name rest others new named is = rw (is, named) (by_case (is_csv_name name && not (is_named files name)))
+  where
+    by_case : (b : Bool) → cond b (others ++ name ∷ []) others ++ other_names files rest ≡ others ++ cond b (name ∷ other_names files rest) (other_names files rest)
+    by_case true = append_assoc others (name ∷ []) (other_names files rest)
+    by_case false = refl
+
 -- the same sync under equal names
 pub does_same : {A : Type 0} (d e : Text) (fs gs : List File) (t : Tree) (w v : World) (r : Result A Stop) → d ≡ e → fs ≡ gs → Does (opening_sync d fs (files_of t d)) w v r → Does (opening_sync e gs (files_of t e)) w v r
 does_same d e fs gs t w v r p q h = subst (λ (x : Text). Does (opening_sync x gs (files_of t x)) w v r) p (subst (λ (f : List File). Does (opening_sync d f (files_of t d)) w v r) q h)
@@ -44,7 +66,7 @@ does_same d e fs gs t w v r p q h = subst (λ (x : Text). Does (opening_sync x g
 module _ (d : Text) (fs : List File) (h : AreViewFiles fs) where
   -- where all of it was done, the folder holds exactly these files
   pub all_held : (old new : StoreState) (o : SinkState) (t u : Tree) → old.tree ≡ Some t → new.tree ≡ Some u
-      → contents (new, o) ≡ performed (opening_sync d fs (files_of t d)) (contents (old, o)) → HoldsExactly d fs t u
+      → contents (world_of new o) ≡ performed (opening_sync d fs (files_of t d)) (contents (world_of old o)) → HoldsExactly d fs t u
   unfolding contents
   all_held old new o t u was is did =
       let s : Stored = record { tree = t; writes = old.writes } in
@@ -54,14 +76,14 @@ module _ (d : Text) (fs : List File) (h : AreViewFiles fs) where
       let same : last.tree ≡ u = ap (λ (tree : Option Tree). unwrap_or tree u) (sym (tree_of new.tree new.writes last done) ∙ is) in
       subst (HoldsExactly d fs t) same (holds_exactly d fs s h)
 
-  pub all_hold : (old new : StoreState) (r : Result ℕ Stop) → ((o : SinkState) (t : Tree) → old.tree ≡ Some t → Does (opening_sync d fs (files_of t d)) (old, o) (new, o) r)
+  pub all_hold : (old new : StoreState) (r : Result ℕ Stop) → ((o : SinkState) (t : Tree) → old.tree ≡ Some t → Does (opening_sync d fs (files_of t d)) (world_of old o) (world_of new o) r)
       → IfOk r (λ _. (t u : Tree) → old.tree ≡ Some t → new.tree ≡ Some u → HoldsExactly d fs t u)
   all_hold old new (Ok n) does = λ t u was is. all_held old new nothing_held t u was is (does nothing_held t was)
   all_hold old new (Err e) does = tt
 
   -- each other file was there when its turn came
   pub others_counted : (old mid : StoreState) (o : SinkState) (t : Tree) (names : List Text) (n : ℕ) → old.tree ≡ Some t → names ≡ other_names fs (files_of t d)
-      → contents (mid, o) ≡ performed (written d fs) (contents (old, o))
+      → contents (world_of mid o) ≡ performed (written d fs) (contents (world_of old o))
       → ((u : Tree) → mid.tree ≡ Some u → Apart names → AreThere d names u → n ≡ length names)
       → length fs + n ≡ opening_count fs (files_of t d)
   unfolding contents
@@ -87,7 +109,7 @@ module _ (d : Text) (ls : List Text) where
   removing_starts old t was a h = record { stored = record { tree = t; writes = old.writes }; is = ap (λ (tree : Option Tree). stored_of tree old.writes) was; apart = a; there = h; counts = refl }
 
   pub removing_more : (i n m : ℕ) (old new : StoreState) (o : SinkState) (l : Text) (b : Bool) → i < length ls → l ≡ get_or ls i l → IsRemoving i n (stored_of old.tree old.writes)
-      → contents (new, o) ≡ performed (Remove d l ∷ []) (contents (old, o)) → ((t : Tree) → old.tree ≡ Some t → b ≡ is_some (file_at t d l)) → m ≡ from_bool b
+      → contents (world_of new o) ≡ performed (Remove d l ∷ []) (contents (world_of old o)) → ((t : Tree) → old.tree ≡ Some t → b ≡ is_some (file_at t d l)) → m ≡ from_bool b
       → IsRemoving (i + 1) (n + m) (stored_of new.tree new.writes)
   unfolding contents
   removing_more i n m old new o l b lt at h does was one =

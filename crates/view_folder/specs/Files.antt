@@ -1,5 +1,6 @@
 -- The files of a view folder.
 use Rattle.std.specs.Prelude.{◌≡◌, true, false, ◌-◌, Bool, ◌&&◌, not, List, [], ◌∷◌, ◌++◌, filter, drop, length, Option, None, Some, is_some, if◌then◌else◌, codes}
+use Rattle.std.specs.Borrow.{Bor}
 use Rattle.ss_text.specs.Texts.{Text, text_eq, is_in}
 use Rattle.std.specs.List.{list_any, AllByRecursion}
 use Rattle.outside.specs.Tree.{Tree, file_at}
@@ -8,6 +9,10 @@ use Rattle.view_folder.specs.declared.file.File.{File}
 -- whether a file has this name
 abbrev pub is_named : List File → Text → Bool
 is_named files name = list_any (λ (f : File). text_eq name f.name) files
+
+-- whether a name is behind one of these references
+abbrev pub has_name : List (Bor Text) → Text → Bool
+has_name names name = list_any (λ (n : Bor Text). text_eq name n.now) names
 
 -- the bytes of the file of a name, where there is one
 abbrev pub bytes_in : List File → Text → Option Text

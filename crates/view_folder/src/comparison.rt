@@ -5,7 +5,7 @@ ghost use Rattle.std.specs.BTreeMap.{get};
 ghost use Rattle.ss_text.specs.Texts.{text_eq, text_cmp};
 ghost use Rattle.outside.specs.Tree.{Tree, file_at};
 ghost use Rattle.outside.specs.Reading.{OnlyRead};
-ghost use Rattle.effects.specs.Effects.{Does};
+ghost use Rattle.effects.specs.Effects.{Does, world_of};
 ghost use Rattle.effects.specs.Blame.{StoreBlames};
 ghost use Rattle.view_folder.specs.Files.{bytes_in, is_csv_name};
 ghost use Rattle.view_folder.specs.Comparison.{compared_names, difference, compared, comparison};
@@ -42,7 +42,7 @@ pub fn compare<F: Folders>(
     files: &[File],
 ) -> Result<Comparison, Stop>
     ensures told { IfOk result (λ c. (t : Tree) → (F.state store.old).tree ≡ Some t → c ≡ comparison folder.now files.now t) }
-    ensures does { (o : _) → Does [] (F.state store.old, o) (F.state store.new, o) result }
+    ensures does { (o : _) → Does [] (world_of (F.state store.old) o) (world_of (F.state store.new) o) result }
     ensures only_read { OnlyRead (F.state store.old) (F.state store.new) }
     ensures blames { StoreBlames (F.state store.old) (F.state store.new) result }
 {

@@ -4,7 +4,7 @@ ghost use Rattle.std.specs.List.Sorted.{IsStrictlySortedBy};
 ghost use Rattle.ss_text.specs.Texts.{text_cmp};
 ghost use Rattle.outside.specs.Counts.{risen};
 ghost use Rattle.outside.specs.Tree.{Tree};
-ghost use Rattle.effects.specs.Effects.{Does};
+ghost use Rattle.effects.specs.Effects.{Does, world_of};
 ghost use Rattle.effects.specs.Blame.{StoreBlames};
 ghost use Rattle.view_folder.specs.Files.{view_folder};
 ghost use Rattle.view_folder.specs.TableFiles.{FitShape};
@@ -30,7 +30,7 @@ pub fn sync<F: Folders>(
     labels: &[Text],
 ) -> Result<usize, Stop>
     requires { FitShape shape.now tables.now }
-    ensures does { (o : _) → Does (later_sync (view_folder view_db.now) shape.now tables.now labels.now) (F.state store.old, o) (F.state store.new, o) result }
+    ensures does { (o : _) → Does (later_sync (view_folder view_db.now) shape.now tables.now labels.now) (world_of (F.state store.old) o) (world_of (F.state store.new) o) result }
     ensures holds { IfOk result (λ _. (t u : Tree) → (F.state store.old).tree ≡ Some t → (F.state store.new).tree ≡ Some u → HoldsNamed (view_folder view_db.now) shape.now tables.now labels.now t u) }
     ensures writes { IfOk result (λ n. (F.state store.new).writes ≡ risen ((F.state store.old).writes) n) }
     ensures count { IfOk result (λ n. (t : Tree) → (F.state store.old).tree ≡ Some t → IsStrictlySortedBy text_cmp labels.now → n ≡ later_count (view_folder view_db.now) tables.now labels.now t) }
@@ -53,7 +53,7 @@ fn sync_labels<F: Folders>(
     labels: &[Text],
 ) -> Result<usize, Stop>
     requires { FitShape shape.now tables.now }
-    ensures does { (o : _) → Does (later_sync folder.now shape.now tables.now labels.now) (F.state store.old, o) (F.state store.new, o) result }
+    ensures does { (o : _) → Does (later_sync folder.now shape.now tables.now labels.now) (world_of (F.state store.old) o) (world_of (F.state store.new) o) result }
     ensures writes { IfOk result (λ n. (F.state store.new).writes ≡ risen ((F.state store.old).writes) n) }
     ensures count { IfOk result (λ n. (t : Tree) → (F.state store.old).tree ≡ Some t → IsStrictlySortedBy text_cmp labels.now → n ≡ later_count folder.now tables.now labels.now t) }
     ensures reads { (F.state store.new).read_faults ≡ (F.state store.old).read_faults }
@@ -78,7 +78,7 @@ fn sync_label<F: Folders>(
     label: &Text,
 ) -> Result<bool, Stop>
     requires { FitShape shape.now tables.now }
-    ensures does { (o : _) → Does (label_synced folder.now shape.now tables.now label.now ∷ []) (F.state store.old, o) (F.state store.new, o) result }
+    ensures does { (o : _) → Does (label_synced folder.now shape.now tables.now label.now ∷ []) (world_of (F.state store.old) o) (world_of (F.state store.new) o) result }
     ensures was { IfOk result (λ was. (t : Tree) → (F.state store.old).tree ≡ Some t → was ≡ is_counted folder.now tables.now t label.now) }
     ensures counted { IfOk result (λ was. (F.state store.new).writes ≡ (if was then risen ((F.state store.old).writes) 1 else (F.state store.old).writes)) }
     ensures reads { (F.state store.new).read_faults ≡ (F.state store.old).read_faults }

@@ -1,10 +1,11 @@
 //! The opening sync.
-ghost use Rattle.std.specs.Prelude.{◌≡◌, ◌≤◌, ◌&&◌, not, length, Some, IfOk, filter};
+ghost use Rattle.std.specs.Prelude.{◌≡◌, List, ℕ, ◌≢◌, ◌≤◌, ◌&&◌, not, length, Some, IfOk, IfErr, IsErrOf, filter, [], ◌∷◌, ◌++◌, OnOk, if◌then◌else◌};
 ghost use Rattle.outside.specs.Counts.{risen};
+ghost use Rattle.outside.specs.Reading.{OnlyRead};
 ghost use Rattle.outside.specs.Tree.{Tree, files_of};
-ghost use Rattle.effects.specs.Effects.{Does};
+ghost use Rattle.effects.specs.Effects.{Does, world_of};
 ghost use Rattle.effects.specs.Blame.{StoreBlames};
-ghost use Rattle.view_folder.specs.Files.{is_named, is_csv_name, other_names, view_folder, AreViewFiles, Apart, AreThere};
+ghost use Rattle.view_folder.specs.Files.{is_named, has_name, is_csv_name, other_names, view_folder, AreViewFiles, Apart, AreThere};
 ghost use Rattle.view_folder.specs.TableFiles.{FitShape, table_files};
 ghost use Rattle.view_folder.specs.Sync.{written, removed, opening_sync, opening_count, HoldsExactly};
 
@@ -15,10 +16,11 @@ use flow_law::{Shape, Tables};
 use outside::Folders;
 use ss_text::{NoMemory, Text};
 use std::alloc::Global;
+use std::collections::HashSet;
 
 /// Brings the folder of a view's database to exactly these tables: the file of each is written, in the order of their
 /// labels, and then every other file of the folder whose name ends in `.csv` is removed, ascending. Answers how
-/// many files were written, or were there and removed.
+/// many files were written, or were there and removed. It reads before it writes.
 #[tactic(auto, using(effects::proofs::EffectLemmas::nothing_yet))]
 pub fn sync_all<F: Folders>(
     alloc: Global,
@@ -28,10 +30,11 @@ pub fn sync_all<F: Folders>(
     tables: &Tables,
 ) -> Result<usize, Stop>
     requires { FitShape shape.now tables.now }
-    ensures does { (o : _) (t : Tree) → (F.state store.old).tree ≡ Some t → Does (opening_sync (view_folder view_db.now) (table_files shape.now tables.now) (files_of t (view_folder view_db.now))) (F.state store.old, o) (F.state store.new, o) result }
+    ensures does { (o : _) (t : Tree) → (F.state store.old).tree ≡ Some t → Does (opening_sync (view_folder view_db.now) (table_files shape.now tables.now) (files_of t (view_folder view_db.now))) (world_of (F.state store.old) o) (world_of (F.state store.new) o) result }
     ensures holds { IfOk result (λ _. (t u : Tree) → (F.state store.old).tree ≡ Some t → (F.state store.new).tree ≡ Some u → HoldsExactly (view_folder view_db.now) (table_files shape.now tables.now) t u) }
     ensures count { IfOk result (λ n. (t : Tree) → (F.state store.old).tree ≡ Some t → n ≡ opening_count (table_files shape.now tables.now) (files_of t (view_folder view_db.now))) }
     ensures writes { IfOk result (λ n. (F.state store.new).writes ≡ risen ((F.state store.old).writes) n) }
+    ensures read_first { IsErrOf result Stop.ReadFault → OnlyRead (F.state store.old) (F.state store.new) }
     ensures blames { StoreBlames (F.state store.old) (F.state store.new) result }
 {
     let folder = folder_of_view(alloc, view_db)?;
@@ -49,9 +52,10 @@ fn sync_files<F: Folders>(
     files: &[File],
 ) -> Result<usize, Stop>
     requires { AreViewFiles files.now }
-    ensures does { (o : _) (t : Tree) → (F.state store.old).tree ≡ Some t → Does (opening_sync folder.now files.now (files_of t folder.now)) (F.state store.old, o) (F.state store.new, o) result }
+    ensures does { (o : _) (t : Tree) → (F.state store.old).tree ≡ Some t → Does (opening_sync folder.now files.now (files_of t folder.now)) (world_of (F.state store.old) o) (world_of (F.state store.new) o) result }
     ensures count { IfOk result (λ n. (t : Tree) → (F.state store.old).tree ≡ Some t → n ≡ opening_count files.now (files_of t folder.now)) }
     ensures writes { IfOk result (λ n. (F.state store.new).writes ≡ risen ((F.state store.old).writes) n) }
+    ensures read_first { IsErrOf result Stop.ReadFault → OnlyRead (F.state store.old) (F.state store.new) }
     ensures blames { StoreBlames (F.state store.old) (F.state store.new) result }
 {
     let names = list_files(alloc, store, folder)?;
@@ -65,24 +69,39 @@ fn sync_files<F: Folders>(
 fn others_among(alloc: Global, files: &[File], names: Vec<Text>) -> Result<Vec<Text>, NoMemory>
     ensures { IfOk result (λ others. others.items ≡ other_names files.now names.items) }
 {
-    let others = names
-        .into_iter()
-        .filter(|name| is_other(files, name))
-        .collect(alloc)?;
+    let taken = names_of(alloc, files)?;
+    let mut others = Vec::new(alloc);
+    for name in names {
+        push_other(&mut others, &taken, name)?;
+    }
     Ok(others)
 }
 
-fn is_other(files: &[File], name: &Text) -> bool
-    ensures { result ≡ (is_csv_name name.now && not (is_named files.now name.now)) }
+// The names of the files.
+fn names_of(alloc: Global, files: &[File]) -> Result<HashSet<&Text>, NoMemory>
+    ensures { IfOk result (λ names. (name : List ℕ) → has_name names.keys name ≡ is_named files.now name) }
 {
-    is_csv_name(name) && !is_named(files, name)
+    let mut names = HashSet::new(alloc);
+    for file in files {
+        names.insert(&file.name)?;
+    }
+    Ok(names)
 }
 
-// Whether a file has this name.
-fn is_named(files: &[File], name: &Text) -> bool
-    ensures { result ≡ is_named files.now name.now }
+// Puts a name last that ends in `.csv` and is not taken.
+fn push_other(others: &mut Vec<Text>, taken: &HashSet<&Text>, name: Text) -> Result<(), NoMemory>
+    ensures { OnOk result (others.new.items ≡ (if is_csv_name name && not (has_name taken.now.keys name) then others.old.items ++ name ∷ [] else others.old.items)) }
 {
-    files.iter().any(|file| *name == file.name)
+    if is_other(taken, &name) {
+        others.push(name)?;
+    }
+    Ok(())
+}
+
+fn is_other(taken: &HashSet<&Text>, name: &Text) -> bool
+    ensures { result ≡ (is_csv_name name.now && not (has_name taken.now.keys name.now)) }
+{
+    is_csv_name(name) && !taken.contains(&name)
 }
 
 // Writes these files, in order.
@@ -93,8 +112,9 @@ fn write_files<F: Folders>(
     folder: &Text,
     files: &[File],
 ) -> Result<(), Stop>
-    ensures does { (o : _) → Does (written folder.now files.now) (F.state store.old, o) (F.state store.new, o) result }
+    ensures does { (o : _) → Does (written folder.now files.now) (world_of (F.state store.old) o) (world_of (F.state store.new) o) result }
     ensures writes { IfOk result (λ _. (F.state store.new).writes ≡ risen ((F.state store.old).writes) (length files.now)) }
+    ensures no_read { IfErr result (λ e. e ≢ Stop.ReadFault) }
     ensures blames { StoreBlames (F.state store.old) (F.state store.new) result }
 {
     for file in files {
@@ -111,10 +131,11 @@ fn remove_files<F: Folders>(
     folder: &Text,
     names: &[Text],
 ) -> Result<usize, Stop>
-    ensures does { (o : _) → Does (removed folder.now names.now) (F.state store.old, o) (F.state store.new, o) result }
+    ensures does { (o : _) → Does (removed folder.now names.now) (world_of (F.state store.old) o) (world_of (F.state store.new) o) result }
     ensures each { IfOk result (λ n. (t : Tree) → (F.state store.old).tree ≡ Some t → Apart names.now → AreThere folder.now names.now t → n ≡ length names.now) }
     ensures few { IfOk result (λ n. n ≤ length names.now) }
     ensures writes { IfOk result (λ n. (F.state store.new).writes ≡ risen ((F.state store.old).writes) n) }
+    ensures no_read { IfErr result (λ e. e ≢ Stop.ReadFault) }
     ensures blames { StoreBlames (F.state store.old) (F.state store.new) result }
 {
     let mut count = 0;

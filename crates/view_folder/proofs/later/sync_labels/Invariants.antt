@@ -1,7 +1,7 @@
 use Rattle.std.proofs.Common.{◌≡◌, ◌≤◌, Some, drop}
 use Rattle.outside.specs.Counts.{risen}
 use Rattle.outside.specs.States.{SinkState}
-use Rattle.effects.specs.Effects.{Stored, stored_of, contents, Doing}
+use Rattle.effects.specs.Effects.{Stored, stored_of, contents, Doing, world_of}
 use Rattle.view_folder.specs.Sync.{later_sync}
 use Rattle.view_folder.proofs.LaterLemmas.{IsCounting}
 use Rattle.view_folder.proofs.later.sync_labels.Given as goal
@@ -10,7 +10,7 @@ abbrev pub invariant-loop-label : goal.invariant-loop-label
 invariant-loop-label g l =
     let state = g.F.Folders.state in
     record {
-      doing : (o : SinkState) → Doing (later_sync l.folder l.shape l.tables l.labels) (later_sync l.folder l.shape l.tables (drop l.label-index l.labels)) (contents (state l.fn.store, o)) (contents (state l.store, o));
+      doing : (o : SinkState) → Doing (later_sync l.folder l.shape l.tables l.labels) (later_sync l.folder l.shape l.tables (drop l.label-index l.labels)) (contents (world_of (state l.fn.store) o)) (contents (world_of (state l.store) o));
       counting : (s : Stored) → stored_of (state l.fn.store).tree (state l.fn.store).writes ≡ Some s → IsCounting l.folder l.shape l.tables l.labels s l.label-index l.count (stored_of (state l.store).tree (state l.store).writes);
       counted : (state l.store).writes ≡ risen (state l.fn.store).writes l.count;
       few : l.count ≤ l.label-index;
