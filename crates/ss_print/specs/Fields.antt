@@ -4,7 +4,7 @@ use Rattle.ss_text.specs.Texts.{Text, Row}
 use Rattle.schema_model.specs.declared.refusal.Which.{Which}
 use Rattle.schema_model.specs.declared.refusal.Which.TheVariants.{Databases, Relations, Attributes, Rows}
 use Rattle.schema_model.specs.declared.change.Change.{Change}
-use Rattle.schema_model.specs.declared.change.Change.TheVariants.{Insert, Delete, AddAttribute, DropAttribute, RenameAttribute, CreateRelation, DropRelation, RenameRelation}
+use Rattle.schema_model.specs.declared.change.Change.TheVariants.{Insert, Delete, AddAttribute, DropAttribute, RenameAttribute, CreateRelation, DropRelation, RenameRelation, CreateDatabase, DropDatabase, RenameDatabase}
 use Rattle.schema_model.specs.declared.change.ChangeFault.{ChangeFault}
 use Rattle.schema_model.specs.declared.change.ChangeFault.TheVariants as changes
 use Rattle.schema_model.specs.declared.refusal.Refusal.{Refusal}
@@ -76,10 +76,9 @@ first_field row = slice_index_or row 0 []
 abbrev pub line_fields : Row → ChangeFault → Row
 line_fields row changes.UnknownVerb = codes "unknown-verb" ∷ first_field row ∷ []
 line_fields row (changes.FieldCount got) = codes "field-count" ∷ first_field row ∷ decimal got ∷ []
-line_fields row changes.NotYet = codes "not-yet" ∷ first_field row ∷ []
 line_fields row changes.NoMemory = []
 
--- the database and the relation that a change names
+-- the database and the relation that a change names; one that names no relation has its database's name here
 abbrev pub database_in : Change → Text
 database_in (Insert db rel row) = db
 database_in (Delete db rel row) = db
@@ -89,6 +88,9 @@ database_in (RenameAttribute db rel name to) = db
 database_in (CreateRelation db rel attributes) = db
 database_in (DropRelation db rel) = db
 database_in (RenameRelation db rel to) = db
+database_in (CreateDatabase db) = db
+database_in (DropDatabase db) = db
+database_in (RenameDatabase db to) = db
 
 abbrev pub relation_in : Change → Text
 relation_in (Insert db rel row) = rel
@@ -99,11 +101,13 @@ relation_in (RenameAttribute db rel name to) = rel
 relation_in (CreateRelation db rel attributes) = rel
 relation_in (DropRelation db rel) = rel
 relation_in (RenameRelation db rel to) = rel
+relation_in g = database_in g
 
--- the relation's name after the change
-abbrev pub new_relation : Change → Text
-new_relation (RenameRelation db rel to) = to
-new_relation g = relation_in g
+-- the name after the change of what it makes or renames
+abbrev pub new_name : Change → Text
+new_name (RenameRelation db rel to) = to
+new_name (RenameDatabase db to) = to
+new_name g = relation_in g
 
 -- the attribute that a change is for; a change that is for none has its relation's name here
 abbrev pub attribute_in : Change → Text
@@ -121,9 +125,10 @@ new_attribute g place = attribute_in g
 -- a change that the catalogue refuses
 abbrev pub refusal_fields : Change → Refusal → Row
 refusal_fields g refusal.NoDatabase = codes "no-database" ∷ database_in g ∷ []
-refusal_fields g refusal.IllegalName = codes "illegal-name" ∷ new_relation g ∷ []
+refusal_fields g refusal.IllegalName = codes "illegal-name" ∷ new_name g ∷ []
+refusal_fields g refusal.DatabaseThere = codes "database-there" ∷ new_name g ∷ []
 refusal_fields g refusal.NoRelation = codes "no-relation" ∷ database_in g ∷ relation_in g ∷ []
-refusal_fields g refusal.RelationThere = codes "relation-there" ∷ database_in g ∷ new_relation g ∷ []
+refusal_fields g refusal.RelationThere = codes "relation-there" ∷ database_in g ∷ new_name g ∷ []
 refusal_fields g refusal.NoAttribute = codes "no-attribute" ∷ database_in g ∷ relation_in g ∷ attribute_in g ∷ []
 refusal_fields g (refusal.AttributeThere place) = codes "attribute-there" ∷ database_in g ∷ relation_in g ∷ new_attribute g place ∷ []
 refusal_fields g refusal.LastAttribute = codes "last-attribute" ∷ database_in g ∷ relation_in g ∷ attribute_in g ∷ []

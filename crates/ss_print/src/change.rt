@@ -1,6 +1,6 @@
 //! Refusals of a change line.
 ghost use Rattle.std.specs.Prelude.{◌≡◌, ◌∷◌, ◌++◌, [], IfOk};
-ghost use Rattle.ss_print.specs.Fields.{escape_fields, line_fields, refusal_fields, first_field, database_in, relation_in, new_relation, attribute_in, new_attribute};
+ghost use Rattle.ss_print.specs.Fields.{escape_fields, line_fields, refusal_fields, first_field, database_in, relation_in, new_name, attribute_in, new_attribute};
 
 use crate::fields::Fields;
 use crate::load::counted;
@@ -31,7 +31,6 @@ pub fn line_fields(alloc: Global, line: &Row, fault: ChangeFault) -> Result<Row,
                 alloc, got as u64,
             )?
         }
-        ChangeFault::NotYet => with_first(Fields::named(alloc, b"not-yet")?, alloc, line)?,
         ChangeFault::NoMemory => return Ok(Row::of(Vec::new(alloc))),
     };
     Ok(fields.row())
@@ -54,13 +53,14 @@ pub fn refusal_fields(alloc: Global, change: &Change, refusal: Refusal) -> Resul
     let (db, rel) = (database(change), relation(change));
     let fields = match refusal {
         Refusal::NoDatabase => Fields::named(alloc, b"no-database")?.text(db)?,
-        Refusal::IllegalName => {
-            Fields::named(alloc, b"illegal-name")?.text(new_relation(change))?
+        Refusal::IllegalName => { Fields::named(alloc, b"illegal-name")?.text(new_name(change))? }
+        Refusal::DatabaseThere => {
+            Fields::named(alloc, b"database-there")?.text(new_name(change))?
         }
         Refusal::NoRelation => Fields::named(alloc, b"no-relation")?.text(db)?.text(rel)?,
         Refusal::RelationThere => Fields::named(alloc, b"relation-there")?
             .text(db)?
-            .text(new_relation(change))?,
+            .text(new_name(change))?,
         Refusal::NoAttribute => Fields::named(alloc, b"no-attribute")?
             .text(db)?
             .text(rel)?
@@ -96,11 +96,14 @@ fn database(change: &Change) -> &Text
         | Change::RenameAttribute { db, .. }
         | Change::CreateRelation { db, .. }
         | Change::DropRelation { db, .. }
-        | Change::RenameRelation { db, .. } => db,
+        | Change::RenameRelation { db, .. }
+        | Change::CreateDatabase { db }
+        | Change::DropDatabase { db }
+        | Change::RenameDatabase { db, .. } => db,
     }
 }
 
-// The relation that it names.
+// The relation that it names, or the database's name where it names none.
 fn relation(change: &Change) -> &Text
     ensures { result.now ≡ relation_in change.now }
 {
@@ -113,15 +116,16 @@ fn relation(change: &Change) -> &Text
         | Change::CreateRelation { rel, .. }
         | Change::DropRelation { rel, .. }
         | Change::RenameRelation { rel, .. } => rel,
+        _ => database(change),
     }
 }
 
-// The relation's name after the change.
-fn new_relation(change: &Change) -> &Text
-    ensures { result.now ≡ new_relation change.now }
+// The name after the change of what it makes or renames.
+fn new_name(change: &Change) -> &Text
+    ensures { result.now ≡ new_name change.now }
 {
     match change {
-        Change::RenameRelation { to, .. } => to,
+        Change::RenameRelation { to, .. } | Change::RenameDatabase { to, .. } => to,
         _ => relation(change),
     }
 }

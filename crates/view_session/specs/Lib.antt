@@ -1,2 +1,3 @@
 pub mod ConditionCode
+pub mod Named
 pub mod Session

@@ -1,7 +1,5 @@
 -- A view that is kept up to date: what it stands for, and what a change does to it.
-use Rattle.std.specs.Prelude.{◌≡◌, List, [], ◌++◌, map, Option, None, Some, ⊤}
-use Rattle.ss_text.specs.Texts.{Text, text_cmp}
-use Rattle.ss_text.specs.Ascending.{ascending}
+use Rattle.std.specs.Prelude.{◌≡◌, List, Option, None, Some, ⊤}
 use Rattle.schema_model.specs.Catalogue.{CatalogueValue}
 use Rattle.schema_model.specs.declared.change.Change.{Change}
 use Rattle.schema_model.specs.Changes.{after}
@@ -9,26 +7,26 @@ use Rattle.schema_model.specs.Refusals.{fault}
 use Rattle.view_def.specs.Query.{Query}
 use Rattle.flow_law.specs.declared.line.TableLine.{TableLine}
 use Rattle.flow_law.specs.Tables.{TablesValue}
-use Rattle.flow_law.specs.Lines.{label_of}
 use Rattle.flow_law.specs.Script.{script}
 use Rattle.valuation_meaning.specs.Meaning.{meaning}
 use Rattle.valuation_meaning.specs.Refusal.{refusal}
 use Rattle.valuation_meaning.specs.declared.evaluation.EvalFault.{EvalFault}
 use Rattle.valuation_meaning.specs.declared.evaluation.EvalFault.TheVariants as eval
+use Rattle.view_session.specs.Named.{Names, no_names, with_names}
 use Rattle.view_session.specs.declared.fault.OpenFault.{OpenFault}
 use Rattle.view_session.specs.declared.fault.OpenFault.TheVariants as opening
 use Rattle.view_session.specs.declared.fault.Refused.{Refused}
 use Rattle.view_session.specs.declared.fault.Refused.TheVariants as refused
 
--- the view, the catalogue that it stands for, and the labels that lines named, each once, ascending
+-- the view, the catalogue that it stands for, and what was named since names were last cleared
 pub record SessionState : Type 0 where
   pub query : Query
   pub catalogue : CatalogueValue
-  pub changed : List Text
+  pub changed : Names
 
 -- a session that was just opened
 abbrev pub opened : Query → CatalogueValue → SessionState
-opened q c = record { query = q; catalogue = c; changed = [] }
+opened q c = record { query = q; catalogue = c; changed = no_names }
 
 -- the tables that it stands for
 abbrev pub tables_of : SessionState → TablesValue
@@ -38,9 +36,13 @@ tables_of s = meaning s.catalogue s.query
 abbrev pub lines_to : SessionState → CatalogueValue → List TableLine
 lines_to s c = script (tables_of s) (meaning c s.query)
 
--- the session with another catalogue, and with the labels of these lines
-abbrev pub moved : SessionState → CatalogueValue → SessionState
-moved s c = record { query = s.query; catalogue = c; changed = ascending text_cmp (s.changed ++ map label_of (lines_to s c)) }
+-- the session with another catalogue, and with the names of the change and of the lines
+abbrev pub moved_to : CatalogueValue → SessionState → Change → SessionState
+moved_to c s g = record { query = s.query; catalogue = c; changed = with_names s.changed s.catalogue g (lines_to s c) }
+
+-- the session after a change
+abbrev pub moved : SessionState → Change → SessionState
+moved s g = moved_to (after s.catalogue g) s g
 
 -- the fault of an opening, and of a change, where a view is refused
 abbrev pub open_fault : EvalFault → OpenFault

@@ -5,6 +5,7 @@
 //! ones. It knows nothing of lines, of files or of how a script is printed.
 #![tactic(auto)]
 
+mod changed;
 mod fault;
 mod session;
 

@@ -1,34 +1,36 @@
 //! A view over a catalogue, and its changes.
-ghost use Rattle.std.specs.Prelude.{◌≡◌, ◌++◌, None, IfOk, IfErr, OnOk, OnErr, IsTrue, map};
+ghost use Rattle.std.specs.Prelude.{◌≡◌, None, IfOk, IfErr, OnOk, OnErr, IsTrue};
+ghost use Rattle.std.specs.List.Sorted.{IsStrictlySortedBy};
 ghost use Rattle.ss_text.specs.Texts.{text_cmp};
-ghost use Rattle.ss_text.specs.Ascending.{ascending};
-ghost use Rattle.schema_model.specs.Changes.{after, is_row_change};
+ghost use Rattle.schema_model.specs.Changes.{after, is_well_formed};
+ghost use Rattle.schema_model.specs.Pairs.{pair_cmp};
 ghost use Rattle.schema_model.specs.Refusals.{fault};
+ghost use Rattle.schema_model.specs.States.{settled};
 ghost use Rattle.view_def.specs.Query.{query_of};
-ghost use Rattle.flow_law.specs.Lines.{label_of};
 ghost use Rattle.valuation_meaning.specs.Meaning.{shape_of};
 ghost use Rattle.valuation_meaning.specs.Refusal.{refusal};
-ghost use Rattle.view_session.specs.Session.{opened, tables_of, lines_to, moved, IsOpenFault, IsAccepted, IsRefused, IsRefusedBy};
+ghost use Rattle.view_session.specs.Session.{opened, tables_of, lines_to, moved, moved_to, IsOpenFault, IsAccepted, IsRefused, IsRefusedBy};
 
+use crate::changed::Changed;
 use crate::{OpenFault, Refused};
 use change_script::Script;
 use flow_law::{Shape, Tables};
-use schema_model::{Catalogue, Change};
-use ss_text::{NoMemory, Text, make_ascending};
+use schema_model::{Catalogue, Change, Pair};
+use ss_text::{NoMemory, Text};
 use std::alloc::Global;
 use std::marker::Model;
 use valuation_meaning::{evaluate, shape_of};
 use view_def::View;
 
-/// A view that is kept up to date, which contracts see as the view, the catalogue that it stands for, and the
-/// labels that script lines named since they were last cleared. Its tables are the view's meaning.
+/// A view that is kept up to date, which contracts see as the view, the catalogue that it stands for, and what
+/// was named since the names were last cleared. Its tables are the view's meaning.
 #[derive(Drop)]
 pub struct Session {
     view: Box<View>,
     catalogue: Catalogue,
     shape: Shape,
     tables: Tables,
-    changed: Vec<Text>,
+    changed: Changed,
 }
 
 impl Model for Session {
@@ -43,30 +45,20 @@ impl Model for Session {
 
     ghost coded = { let mark_code : Coded Mark = Prim.hlevel codes in Prim.hlevel (codes, condition_code mark_code) };
 
-    ghost view = { λ s. record { query = query_of s.view.value; catalogue = s.catalogue; changed = s.changed.items } };
+    ghost view = { λ s. record { query = query_of s.view.value; catalogue = s.catalogue.databases; changed = s.changed } };
 
     ghost invariant = { λ s. record {
       shape : s.shape ≡ shape_of (query_of s.view.value);
-      tables : s.tables ≡ meaning s.catalogue (query_of s.view.value);
+      tables : s.tables ≡ meaning s.catalogue.databases (query_of s.view.value);
     } };
-}
-
-// Puts the labels of a script's lines last.
-fn push_labels(labels: &mut Vec<Text>, script: &Script) -> Result<(), NoMemory>
-    ensures { OnOk result (labels.new.items ≡ labels.old.items ++ map label_of script.now) }
-{
-    for line in script.lines() {
-        labels.push(line.label().copy()?)?;
-    }
-    Ok(())
 }
 
 impl Session {
     /// Opens a view over a catalogue. Where its facts have an illegal label, or else a conflict, it is refused.
     pub fn open(alloc: Global, catalogue: Catalogue, view: Box<View>) -> Result<Session, OpenFault>
-        ensures session { IfOk result (λ session. session ≡ opened (query_of view.value) catalogue) }
-        ensures allowed { OnOk result (refusal catalogue (query_of view.value) ≡ None) }
-        ensures refused { IfErr result (λ e. IsOpenFault (refusal catalogue (query_of view.value)) e) }
+        ensures session { IfOk result (λ session. session ≡ opened (query_of view.value) catalogue.databases) }
+        ensures allowed { OnOk result (refusal catalogue.databases (query_of view.value) ≡ None) }
+        ensures refused { IfErr result (λ e. IsOpenFault (refusal catalogue.databases (query_of view.value)) e) }
     {
         let shape = shape_of(&view)?;
         let tables = evaluate(alloc, &catalogue, &view)?;
@@ -75,17 +67,17 @@ impl Session {
             catalogue,
             shape,
             tables,
-            changed: Vec::new(alloc),
+            changed: Changed::none(alloc),
         })
     }
 
-    /// Makes a change of one row, and answers the lines by which the tables change. After each refusal the
-    /// session is as before.
+    /// Makes a change, and answers the lines by which the tables change. After each refusal the session is as
+    /// before.
     pub fn apply(&mut self, alloc: Global, change: &Change) -> Result<Script, Refused>
-        requires { IsTrue (is_row_change change.now) }
+        requires { IsTrue (is_well_formed change.now) }
         ensures script { IfOk result (λ lines. lines ≡ lines_to self.old (after self.old.catalogue change.now)) }
         ensures accepted { OnOk result (IsAccepted self.old change.now) }
-        ensures moved { OnOk result (self.new ≡ moved self.old (after self.old.catalogue change.now)) }
+        ensures moved { OnOk result (self.new ≡ moved self.old change.now) }
         ensures refused { IfErr result (λ e. IsRefused self.old change.now e) }
         ensures same { OnErr result (self.new ≡ self.old) }
     {
@@ -93,47 +85,41 @@ impl Session {
             return Err(Refused::Change(refusal));
         }
         let catalogue = self.catalogue_after(change)?;
-        self.move_to(alloc, catalogue)
+        self.move_to(alloc, catalogue, change)
     }
 
     // The catalogue after a change that it does not refuse.
     fn catalogue_after(&self, change: &Change) -> Result<Catalogue, NoMemory>
-        requires row_change { IsTrue (is_row_change change.now) }
+        requires well_formed { IsTrue (is_well_formed change.now) }
         requires accepted { fault self.now.catalogue change.now ≡ None }
-        ensures { IfOk result (λ catalogue. catalogue ≡ after self.now.catalogue change.now) }
+        ensures { IfOk result (λ catalogue. catalogue ≡ settled (after self.now.catalogue change.now)) }
     {
         let mut catalogue = self.catalogue.copy()?;
-        match catalogue.commit(change) {
-            Ok(()) => Ok(catalogue),
-            Err(NoMemory) => Err(NoMemory),
-        }
+        let ready = catalogue.reserve(change)?;
+        catalogue.commit(ready);
+        Ok(catalogue)
     }
 
-    // Stands for another catalogue, where the view over it is not refused.
-    fn move_to(&mut self, alloc: Global, catalogue: Catalogue) -> Result<Script, Refused>
-        ensures script { IfOk result (λ lines. lines ≡ lines_to self.old catalogue) }
-        ensures allowed { OnOk result (refusal catalogue self.old.query ≡ None) }
-        ensures moved { OnOk result (self.new ≡ moved self.old catalogue) }
-        ensures refused { IfErr result (λ e. IsRefusedBy (refusal catalogue self.old.query) e) }
+    // Stands for another catalogue, to which a change led, where the view over it is not refused.
+    fn move_to(
+        &mut self,
+        alloc: Global,
+        catalogue: Catalogue,
+        change: &Change,
+    ) -> Result<Script, Refused>
+        ensures script { IfOk result (λ lines. lines ≡ lines_to self.old catalogue.databases) }
+        ensures allowed { OnOk result (refusal catalogue.databases self.old.query ≡ None) }
+        ensures moved { OnOk result (self.new ≡ moved_to catalogue.databases self.old change.now) }
+        ensures refused { IfErr result (λ e. IsRefusedBy (refusal catalogue.databases self.old.query) e) }
         ensures same { OnErr result (self.new ≡ self.old) }
     {
         let tables = evaluate(alloc, &catalogue, &self.view)?;
         let script = Script::between(alloc, &self.tables, &tables)?;
-        let changed = self.changed_with(&script)?;
+        let changed = self.changed.with(alloc, &self.catalogue, change, &script)?;
         self.catalogue = catalogue;
         self.tables = tables;
         self.changed = changed;
         Ok(script)
-    }
-
-    // The changed labels with those of a script.
-    fn changed_with(&self, script: &Script) -> Result<Vec<Text>, NoMemory>
-        ensures { IfOk result (λ labels. labels.items ≡ ascending text_cmp (self.now.changed ++ map label_of script.now)) }
-    {
-        let mut labels = self.changed.clone()?;
-        push_labels(&mut labels, script)?;
-        make_ascending(&mut labels)?;
-        Ok(labels)
     }
 
     /// The tables, which are the view's meaning over the catalogue.
@@ -152,19 +138,37 @@ impl Session {
 
     /// The catalogue that the session stands for.
     pub fn catalogue(&self) -> &Catalogue
-        ensures { result.now ≡ self.now.catalogue }
+        ensures { result.now.databases ≡ self.now.catalogue }
     {
         &self.catalogue
     }
 
-    /// The labels that script lines named since they were last cleared, each once, ascending.
+    /// The labels that script lines named since the names were last cleared, each once, ascending.
     pub fn changed_labels(&self) -> &[Text]
-        ensures { result.now ≡ self.now.changed }
+        ensures labels { result.now ≡ self.now.changed.labels }
+        ensures ascends { IsStrictlySortedBy text_cmp result.now }
     {
-        &self.changed
+        self.changed.labels()
     }
 
-    /// Forgets which labels were named.
+    /// The relations that changes named since then, each once, ascending: a rename names both names, and a drop or
+    /// a rename of a database each of its relations.
+    pub fn changed_relations(&self) -> &[Pair]
+        ensures relations { result.now ≡ self.now.changed.relations }
+        ensures ascends { IsStrictlySortedBy pair_cmp result.now }
+    {
+        self.changed.relations()
+    }
+
+    /// The databases that came, went or got another name since then, each once, ascending; a rename names both.
+    pub fn changed_databases(&self) -> &[Text]
+        ensures databases { result.now ≡ self.now.changed.databases }
+        ensures ascends { IsStrictlySortedBy text_cmp result.now }
+    {
+        self.changed.databases()
+    }
+
+    /// Forgets what was named.
     pub fn clear_changed(&mut self)
         ensures { self.new ≡ opened self.old.query self.old.catalogue }
     {
