@@ -353,8 +353,8 @@ const READ: [(Row, &str); 7] = [
     ),
 ];
 
-// The first row whose lines leave what it does not want, with its place.
-fn first_difference(
+/// The first row whose lines leave what it does not want, with its place.
+pub fn first_difference(
     alloc: Global,
     rows: &[(Row, &str)],
 ) -> Result<Option<(usize, &'static str)>, StoreFault> {

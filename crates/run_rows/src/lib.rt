@@ -20,3 +20,5 @@ mod place;
 mod row;
 #[cfg(test)]
 mod rows;
+#[cfg(test)]
+mod schemas;

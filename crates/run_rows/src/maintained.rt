@@ -11,7 +11,7 @@ const SOURCE: File = (
     "category,dept,salFloor\nProf,cs,72000\nProf,math,65000\nAssoc,cs,60000\n",
 );
 
-// Constant columns alone, where rows come and go and a verb is not yet known.
+// Constant columns alone, where rows come and go, and an attribute comes that the view does not show.
 const NAMES: Row = Row {
     words: &["maintain", "Q"],
     files: &[
@@ -23,8 +23,8 @@ const NAMES: Row = Row {
         SOURCE,
     ],
     want: Want {
-        status: 1,
-        printed: "synced\t1\nrow+\tnames\tLect\ndone\t1\ndone\t0\nrow-\tnames\tProf\ndone\t1\nrefused\tnot-yet\tadd-attribute\nsynced\t1\n",
+        status: 0,
+        printed: "synced\t1\nrow+\tnames\tLect\ndone\t1\ndone\t0\nrow-\tnames\tProf\ndone\t1\ndone\t0\nsynced\t1\n",
         folder: "views/Q",
         held: &[("names.csv", "category\nAssoc\nLect\n")],
     },

@@ -9,7 +9,7 @@ use Rattle.effects.specs.Effects.{World, Does}
 use Rattle.effects.specs.declared.stop.Stop.{Stop}
 use Rattle.schema_model.specs.Changes.{after}
 use Rattle.schema_model.specs.Refusals.{fault}
-use Rattle.schema_model.specs.Reading.{Read, IsAnswer, change_so_far}
+use Rattle.schema_model.specs.Reading.{Read, IsAnswer, change_of}
 use Rattle.schema_model.specs.Catalogue.{CatalogueValue}
 use Rattle.schema_model.specs.declared.change.Change.{Change}
 use Rattle.schema_model.specs.declared.change.ChangeFault.{ChangeFault}
@@ -38,16 +38,16 @@ refused_views (opening.Conflict e) row c q h is = rw (refused_clash c q e h) is
 refused_views opening.NoMemory row c q h is = absurd is
 
 -- a change that is made
-accepted_is : (o : OpenValue) (g : Change) → IsAccepted o.session g → by_fault o g (fault o.session.catalogue g) ≡ changing o (after o.session.catalogue g)
-accepted_is o g h = ap (by_fault o g) h.change ∙ ap (by_view o (after o.session.catalogue g)) (not_refused (after o.session.catalogue g) o.session.query h.view)
+accepted_is : (o : OpenValue) (g : Change) → IsAccepted o.session g → by_fault o g (fault o.session.catalogue g) ≡ changing o g
+accepted_is o g h = ap (by_fault o g) h.change ∙ ap (by_view o g) (not_refused (after o.session.catalogue g) o.session.query h.view)
 
 -- and one that is refused
 refused_is : (o : OpenValue) (g : Change) (e : Refused) (row : Row) → IsRefused o.session g e → IsFieldsOf g e row → by_fault o g (fault o.session.catalogue g) ≡ refusing o row
 refused_is o g (refused.Change r) row h f = ap (by_fault o g) h ∙ ap (refusing o) (sym f)
 refused_is o g (refused.Illegal e) row h f =
-    ap (by_fault o g) h.0 ∙ ap (by_view o (after o.session.catalogue g)) (refused_label (after o.session.catalogue g) o.session.query e h.1) ∙ ap (refusing o) (sym f)
+    ap (by_fault o g) h.0 ∙ ap (by_view o g) (refused_label (after o.session.catalogue g) o.session.query e h.1) ∙ ap (refusing o) (sym f)
 refused_is o g (refused.Conflict e) row h f =
-    ap (by_fault o g) h.0 ∙ ap (by_view o (after o.session.catalogue g)) (refused_clash (after o.session.catalogue g) o.session.query e h.1) ∙ ap (refusing o) (sym f)
+    ap (by_fault o g) h.0 ∙ ap (by_view o g) (refused_clash (after o.session.catalogue g) o.session.query e h.1) ∙ ap (refusing o) (sym f)
 refused_is o g refused.NoMemory row h f = absurd f
 
 -- `sync` alone, and with further fields
@@ -71,11 +71,10 @@ no_sync_view o n row fields more e = e ∙ ap (λ (a : Answer). a.view) (sym (no
 pub unread : (x : Read) (f : ChangeFault) → IsAnswer x (Err f) → f ≢ change.NoMemory → Err f ≡ x
 unread x change.UnknownVerb h some = h
 unread x (change.FieldCount got) h some = h
-unread x change.NotYet h some = h
 unread x change.NoMemory h some = absurd (some refl)
 
-pub unread_view : (o n : OpenValue) (row fields : Row) (f : ChangeFault) → IsAnswer (change_so_far row) (Err f) → f ≢ change.NoMemory → fields ≡ line_fields row f → n ≡ (refusing o fields).view → n ≡ (by_change o row (change_so_far row)).view
-unread_view o n row fields f h some g is = is ∙ ap (λ x. (by_change o row x).view) (unread (change_so_far row) f h some)
+pub unread_view : (o n : OpenValue) (row fields : Row) (f : ChangeFault) → IsAnswer (change_of row) (Err f) → f ≢ change.NoMemory → fields ≡ line_fields row f → n ≡ (refusing o fields).view → n ≡ (by_change o row (change_of row)).view
+unread_view o n row fields f h some g is = is ∙ ap (λ x. (by_change o row x).view) (unread (change_of row) f h some)
 
 module _ {A : Type 0} (w v : World) (r : Result A Stop) where
   abbrev DoesBy : Answer → Type 0
@@ -87,11 +86,11 @@ module _ {A : Type 0} (w v : World) (r : Result A Stop) where
   pub refused_does : (o : OpenValue) (g : Change) (e : Refused) (row : Row) → IsRefused o.session g e → IsFieldsOf g e row → Does (refuses row ∷ []) w v r → DoesBy (by_fault o g (fault o.session.catalogue g))
   refused_does o g e row h f d = subst DoesBy (sym (refused_is o g e row h f)) d
 
-  pub read_does : (o : OpenValue) (row : Row) (g : Change) → Ok g ≡ change_so_far row → DoesBy (by_fault o g (fault o.session.catalogue g)) → DoesBy (by_change o row (change_so_far row))
+  pub read_does : (o : OpenValue) (row : Row) (g : Change) → Ok g ≡ change_of row → DoesBy (by_fault o g (fault o.session.catalogue g)) → DoesBy (by_change o row (change_of row))
   read_does o row g e d = subst (λ x. DoesBy (by_change o row x)) e d
 
-  pub unread_does : (o : OpenValue) (row fields : Row) (f : ChangeFault) → IsAnswer (change_so_far row) (Err f) → f ≢ change.NoMemory → fields ≡ line_fields row f → Does (refuses fields ∷ []) w v r → DoesBy (by_change o row (change_so_far row))
-  unread_does o row fields f h some g d = subst (λ x. DoesBy (by_change o row x)) (unread (change_so_far row) f h some) (subst (λ (x : Row). DoesBy (refusing o x)) g d)
+  pub unread_does : (o : OpenValue) (row fields : Row) (f : ChangeFault) → IsAnswer (change_of row) (Err f) → f ≢ change.NoMemory → fields ≡ line_fields row f → Does (refuses fields ∷ []) w v r → DoesBy (by_change o row (change_of row))
+  unread_does o row fields f h some g d = subst (λ x. DoesBy (by_change o row x)) (unread (change_of row) f h some) (subst (λ (x : Row). DoesBy (refusing o x)) g d)
 
   pub one_sync_does : (o : OpenValue) (row : Row) → length row ≡ 1 → DoesBy (syncing o) → DoesBy (by_sync o row)
   one_sync_does o row one d = subst DoesBy (sym (one_sync o row one)) d
@@ -102,7 +101,7 @@ module _ {A : Type 0} (w v : World) (r : Result A Stop) where
   pub syncs_does : (o : OpenValue) (row : Row) → is_sync row ≡ true → DoesBy (by_sync o row) → DoesBy (by_row o row)
   syncs_does o row e d = rw e d
 
-  pub changes_does : (o : OpenValue) (row : Row) → is_sync row ≡ false → DoesBy (by_change o row (change_so_far row)) → DoesBy (by_row o row)
+  pub changes_does : (o : OpenValue) (row : Row) → is_sync row ≡ false → DoesBy (by_change o row (change_of row)) → DoesBy (by_row o row)
   changes_does o row e d = rw e d
 
   pub spelled_does : (o : OpenValue) (line : List ℕ) (row : Row) → unspell line ≡ Ok row → DoesBy (by_row o row) → DoesBy (answer o line)
@@ -112,7 +111,7 @@ module _ {A : Type 0} (w v : World) (r : Result A Stop) where
   unspelled_does o line f at fields h is e d = subst (λ x. DoesBy (by_spelling o x)) (sym (subst (λ (x : LineFault). IsUnspelled line (Err x)) is h)) (subst (λ (x : Row). DoesBy (refusing o x)) e d)
 
 -- the view after a change
-pub accepted_view : (o n : OpenValue) (g : Change) → IsAccepted o.session g → n ≡ (changing o (after o.session.catalogue g)).view → n ≡ (by_fault o g (fault o.session.catalogue g)).view
+pub accepted_view : (o n : OpenValue) (g : Change) → IsAccepted o.session g → n ≡ (changing o g).view → n ≡ (by_fault o g (fault o.session.catalogue g)).view
 accepted_view o n g h e = e ∙ ap (λ (a : Answer). a.view) (sym (accepted_is o g h))
 
 pub refused_view : (o n : OpenValue) (g : Change) (e : Refused) (row : Row) → IsRefused o.session g e → IsFieldsOf g e row → n ≡ (refusing o row).view → n ≡ (by_fault o g (fault o.session.catalogue g)).view

@@ -39,7 +39,7 @@ module _ (old new : World) (s : Status) (done : s ≡ status.Done) where
       record {
         opened = record { accepted = a; catalogue = c; defined = defined; loaded = loaded; unrefused = judged };
         files = holds.0;
-        printed = ap (λ (x : Contents). x.held) f.done ∙ ap (λ m. with_bytes (same_line m) old.1.held) holds.1;
+        printed = ap (λ (x : Contents). x.held) f.done ∙ ap (λ m. with_bytes (same_line m) old.output.held) holds.1;
       }
 
   by_view : (d : Definition) (t : Tree) (a : Accepted) (c : CatalogueValue) → d ≡ Ok a → loaded_or_refused t ≡ Ok c → (o : Option Row) → refusal_of c a.query ≡ o → Finished (verified_view t a.query c o) old new s → IsVerified d t old new

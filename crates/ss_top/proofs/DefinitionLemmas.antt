@@ -1,18 +1,22 @@
 -- What a definition is read as, once.
-use Rattle.std.proofs.Common.{◌≡◌, ◌≢◌, inl, inr, ℕ, List, refl, sym, ap, ◌∙◌}
+use Rattle.std.proofs.Common.{◌≡◌, ◌≢◌, inl, inr, ℕ, List, [], ◌∷◌, Option, None, Some, codes, refl, sym, ap, ◌∙◌}
 use Rattle.std.specs.Prelude.{Ok, Err}
-use Rattle.ss_text.specs.Texts.{Text, Row}
+use Rattle.ss_text.specs.Texts.{Text}
 use Rattle.outside.specs.Tree.{Tree}
 use Rattle.view_def.specs.Query.{Query}
 use Rattle.view_def.specs.Tree as tree
 use Rattle.ss_parser.specs.Refused as grammar
+use Rattle.ss_parser.specs.Refused.{HasReading}
+use Rattle.ss_parser.proofs.EveryText.{every_text}
 use Rattle.ss_parser.specs.declared.fault.ParseFault.{ParseFault}
 use Rattle.ss_parser.specs.declared.fault.ParseFault.TheVariants as parse
 use Rattle.ss_parser.proofs.Refusals.{one_refusal, read_not_refused}
 use Rattle.var_typing.specs.Typed.{typed}
 use Rattle.var_typing.specs.declared.fault.TypeFault.{TypeFault}
 use Rattle.ss_print.specs.Fields.{parse_fields, type_fields}
-use Rattle.ss_top.specs.Opening.{IsDefinition, definition_bytes, HasDefinition}
+use Rattle.ss_top.specs.Opening.{IsDefinition, definition_bytes}
+use Rattle.ss_top.specs.Commands.{Asked, Check, Show, Maintain, Verify, Other}
+use Rattle.ss_top.specs.Runs.{IsDefined}
 use Rattle.ss_top.specs.Stages.{Definition, IsRead, typed_or_refused}
 
 pub has_type : (v : tree.Tree) (q : Query) → typed v ≡ Ok q → (let d : Definition = Ok (record { written = v; query = q }) in d ≡ typed_or_refused v)
@@ -35,15 +39,19 @@ unfolding IsRead
 refused_as bytes f d some refused none (inl (t, read, e)) = absurd (some (none t read))
 refused_as bytes f d some refused none (inr (g, also, h, e)) = ap (λ x. Err (parse_fields x)) (one_refusal bytes f g some also refused h) ∙ sym e
 
--- what bytes were read as is what they are
-pub is_read : (bytes : List ℕ) (v : tree.Tree) (d : Definition) → grammar.IsRead bytes v → d ≡ typed_or_refused v → IsRead bytes d
+-- every text is read as something, so that each name has its definition over each tree
+reading : (bytes : List ℕ) → HasReading bytes → (d : Definition) × IsRead bytes d
 unfolding IsRead
-is_read bytes v d read e = inl (v, read, e)
+reading bytes (inl (v, read)) = (typed_or_refused v, inl (v, read, refl))
+reading bytes (inr (f, some, refused)) = (Err (parse_fields f), inr (f, some, refused, refl))
 
-pub is_refused : (bytes : List ℕ) (f : ParseFault) (row : Row) → f ≢ parse.NoMemory → grammar.IsRefused bytes f → row ≡ parse_fields f → (let d : Definition = Err row in IsRead bytes d)
-unfolding IsRead
-is_refused bytes f row some refused e = inr (f, some, refused, ap Err e)
+pub some_definition : (name : Text) (o : Option (List ℕ)) → (d : Definition) × IsDefinition name o d
+some_definition name None = (Err (codes "no-definition" ∷ name ∷ []), refl)
+some_definition name (Some bytes) = reading bytes (every_text bytes)
 
--- a definition that is there, by its name and by what is asked
-pub has_definition : (name : Text) (t : Tree) (d : Definition) → IsDefinition name (definition_bytes t name) d → HasDefinition name t
-has_definition name t d h = record { definition = d; is = h }
+pub is_defined : (a : Asked) (t : Tree) → IsDefined a t
+is_defined (Check name) t = let d = some_definition name (definition_bytes t name) in record { definition = d.0; is = d.1 }
+is_defined (Show name) t = let d = some_definition name (definition_bytes t name) in record { definition = d.0; is = d.1 }
+is_defined (Maintain name) t = let d = some_definition name (definition_bytes t name) in record { definition = d.0; is = d.1 }
+is_defined (Verify name) t = let d = some_definition name (definition_bytes t name) in record { definition = d.0; is = d.1 }
+is_defined Other t = record { definition = Err []; is = tt }

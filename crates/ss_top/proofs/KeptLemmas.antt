@@ -1,6 +1,5 @@
 -- What the folder of an opened view holds while lines are answered.
 use Rattle.std.proofs.Common.{◌≡◌, ℕ, true, false, ◌||◌, map, length, List, [], ◌∷◌, ◌++◌, Option, None, Some, refl, sym, ap, ◌∙◌, subst, append_assoc, ◌+◌, arith, filter}
-use Rattle.std.specs.Prelude.{Result, Ok, Err, if◌then◌else◌}
 use Rattle.std.specs.Option.{option_map_or}
 use Rattle.std.specs.Cmp.Lexicographic.{nat_list_cmp_total}
 use Rattle.ss_text.specs.Texts.{Text, Row, text_eq, text_cmp, is_in}
@@ -10,17 +9,11 @@ use Rattle.ss_text.proofs.SetLemmas.{same_ascending}
 use Rattle.ss_text.proofs.KeyLemmas.{text_order}
 use Rattle.outside.specs.Streams.{with_bytes}
 use Rattle.outside.specs.Tree.{Tree, files_of}
-use Rattle.effects.specs.Effects.{Effect, Write, Remove, Print, Stored, performed}
+use Rattle.effects.specs.Effects.{Effect, Write, Remove, MakeFolder, RemoveFolder, Print, Stored, performed}
 use Rattle.effects.proofs.EffectLemmas.{performed_append}
 use Rattle.schema_model.specs.Catalogue.{CatalogueValue}
 use Rattle.schema_model.specs.declared.change.Change.{Change}
-use Rattle.schema_model.specs.declared.change.ChangeFault.{ChangeFault}
-use Rattle.schema_model.specs.declared.change.ChangeFault.TheVariants.{FieldCount}
-use Rattle.schema_model.specs.declared.refusal.Refusal.{Refusal}
 use Rattle.schema_model.specs.Changes.{after}
-use Rattle.schema_model.specs.Refusals.{fault}
-use Rattle.schema_model.specs.Reading.{change_so_far}
-use Rattle.tab_lines.specs.Spelling.{unspell}
 use Rattle.view_def.specs.Query.{Query}
 use Rattle.flow_law.specs.declared.shape.Shape.{Shape}
 use Rattle.flow_law.specs.Tables.{TablesValue, table_of, labels_of}
@@ -38,11 +31,11 @@ use Rattle.view_session.specs.Session.{tables_of, lines_to, SessionState}
 use Rattle.course.specs.Machine.{Goes, follow}
 use Rattle.ss_top.specs.Open.{OpenValue, just_opened}
 use Rattle.ss_top.specs.Opening.{opening_effects}
-use Rattle.ss_print.specs.Fields.{escape_fields, line_fields, refusal_fields}
 use Rattle.ss_top.specs.Printed.{tells_synced}
-use Rattle.ss_top.specs.Stages.{refusal_of, files_of_view}
-use Rattle.ss_top.specs.Answers.{Answer, answer, by_spelling, by_row, by_sync, by_change, by_fault, by_view, refusing, changing, syncing, sync_effects, sync_count, counts, is_sync, step}
-use Rattle.ss_top.specs.Promises.{printed_by, synced_count, Takes}
+use Rattle.ss_top.specs.Stages.{files_of_view}
+use Rattle.ss_top.specs.Answers.{Answer, answer, refusing, changing, syncing, sync_effects, sync_count, sync_writes, writes_by, synced_by, last_synced, step}
+use Rattle.ss_top.proofs.AnswerCases.{answer_case, answer_query}
+use Rattle.ss_top.specs.Promises.{printed_by, opening_writes, Takes}
 use Rattle.ss_top.proofs.StageLemmas.{meaning_in_order, are_view_files}
 
 -- the script of two meanings takes the one to the other
@@ -68,13 +61,12 @@ held_later d fs gs t u v h i = record {
   others = λ p ne. i.others p ne ∙ h.others p ne;
 }
 
--- the folder holds the files of the tables at the last sync, and only tables of labels that were named since are others now
-pub record IsKept (t : Tree) (o : OpenValue) (s : Stored) : Type 0 where
-  pub before : TablesValue
-  pub files : HoldsExactly (view_folder o.session.query.view_db) (table_files (shape_of o.session.query) before) t s.tree
-  pub unnamed : (label : Text) → is_in label o.session.changed ≡ false → table_of before label ≡ table_of (tables_of o.session) label
-  pub labels : o.synced ≡ labels_of before
-  pub apart : Apart o.session.changed
+-- the folder holds the files of the tables over the catalogue at the last sync, and only tables of labels that were named since are others now
+pub record IsKept (t : Tree) (o : OpenValue) (c : CatalogueValue) (s : Stored) : Type 0 where
+  pub files : HoldsExactly (view_folder o.session.query.view_db) (table_files (shape_of o.session.query) (meaning c o.session.query)) t s.tree
+  pub unnamed : (label : Text) → is_in label o.session.changed.labels ≡ false → table_of (meaning c o.session.query) label ≡ table_of (tables_of o.session) label
+  pub labels : o.synced ≡ labels_of (meaning c o.session.query)
+  pub apart : Apart o.session.changed.labels
 
 -- what effects print, one after the other
 with_more : (a b : List ℕ) (o : Option (List ℕ)) → with_bytes b (with_bytes a o) ≡ with_bytes (a ++ b) o
@@ -89,6 +81,8 @@ printed_append : (es fs : List Effect) → printed_by (es ++ fs) ≡ printed_by 
 printed_append [] fs = refl
 printed_append (Write folder file bytes ∷ es) fs = printed_append es fs
 printed_append (Remove folder file ∷ es) fs = printed_append es fs
+printed_append (MakeFolder folder ∷ es) fs = printed_append es fs
+printed_append (RemoveFolder folder ∷ es) fs = printed_append es fs
 printed_append (Print bytes ∷ es) fs = ap (λ t. bytes ++ t) (printed_append es fs) ∙ sym (append_assoc bytes (printed_by es) (printed_by fs))
 
 -- a sync of files prints nothing
@@ -111,10 +105,10 @@ sync_silent d shape ts [] es = refl
 sync_silent d shape ts (l ∷ ls) es = label_silent d shape ts l (later_sync d shape ts ls ++ es) ∙ sync_silent d shape ts ls es
 
 -- what effects leave of a store that was kept: it is kept for the view after them, and so many files were written or removed
-pub record Keeps (t : Tree) (s : Stored) (es : List Effect) (o : OpenValue) (n : ℕ) : Type 0 where
+pub record Keeps (t : Tree) (s : Stored) (es : List Effect) (o : OpenValue) (c : CatalogueValue) (n : ℕ) : Type 0 where
   pub stored : Stored
   pub done : (held : Option (List ℕ)) → performed es (record { stored = Some s; held = held }) ≡ record { stored = Some stored; held = with_bytes (printed_by es) held }
-  pub kept : IsKept t o stored
+  pub kept : IsKept t o c stored
   pub writes : stored.writes ≡ risen s.writes n
 
 none_risen : (w : ℕ) → w ≡ risen w 0
@@ -123,9 +117,9 @@ none_risen w = omega arith
 printing : (s : Stored) (bytes : List ℕ) (held : Option (List ℕ)) → performed (Print bytes ∷ []) (record { stored = Some s; held = held }) ≡ record { stored = Some s; held = with_bytes (printed_by (Print bytes ∷ [])) held }
 printing s bytes held = ap (λ (b : List ℕ). record { stored = Some s; held = with_bytes b held }) (sym (none_behind bytes))
 
-module _ (t : Tree) (o : OpenValue) (s : Stored) (k : IsKept t o s) where
+module _ (t : Tree) (o : OpenValue) (before : CatalogueValue) (s : Stored) (k : IsKept t o before s) where
   abbrev KeepsBy : Answer → Type 0
-  KeepsBy a = Keeps t s a.effects a.view a.count
+  KeepsBy a = Keeps t s a.effects a.view (synced_by a.said o.session.catalogue before) a.writes
 
   abbrev q : Query
   q = o.session.query
@@ -134,85 +128,63 @@ module _ (t : Tree) (o : OpenValue) (s : Stored) (k : IsKept t o s) where
   d = view_folder q.view_db
 
   refusing_keeps : (fields : Row) → KeepsBy (refusing o fields)
-  refusing_keeps fields = record { stored = s; done = printing s _; kept = record { before = k.before; files = k.files; unnamed = k.unnamed; labels = k.labels; apart = k.apart }; writes = none_risen s.writes }
+  refusing_keeps fields = record { stored = s; done = printing s _; kept = record { files = k.files; unnamed = k.unnamed; labels = k.labels; apart = k.apart }; writes = none_risen s.writes }
 
-  changing_keeps : (c : CatalogueValue) → KeepsBy (changing o c)
-  changing_keeps c = record {
+  changing_keeps : (g : Change) → KeepsBy (changing o g)
+  changing_keeps g = let c = after o.session.catalogue g in record {
     stored = s;
     done = printing s _;
     kept = record {
-      before = k.before;
       files = k.files;
       unnamed = λ label apart.
-          let neither = in_neither label o.session.changed (map label_of (lines_to o.session c)) (sym (in_ascending label (o.session.changed ++ map label_of (lines_to o.session c))) ∙ apart) in
+          let neither = in_neither label o.session.changed.labels (map label_of (lines_to o.session c)) (sym (in_ascending label (o.session.changed.labels ++ map label_of (lines_to o.session c))) ∙ apart) in
           k.unnamed label neither.0 ∙ unnamed_table_stays label (tables_of o.session) (meaning c q) (meaning_in_order o.session.catalogue q) (meaning_in_order c q) neither.1;
       labels = k.labels;
-      apart = apart_sorted (ascending text_cmp (o.session.changed ++ map label_of (lines_to o.session c))) (ascending_ascends text_cmp nat_list_cmp_total (o.session.changed ++ map label_of (lines_to o.session c)));
+      apart = apart_sorted (ascending text_cmp (o.session.changed.labels ++ map label_of (lines_to o.session c))) (ascending_ascends text_cmp nat_list_cmp_total (o.session.changed.labels ++ map label_of (lines_to o.session c)));
     };
     writes = none_risen s.writes;
   }
 
+  abbrev tables_held : TablesValue
+  tables_held = meaning before q
+
   abbrev pub synced_store : Stored
-  synced_store = later d (shape_of q) k.before (tables_of o.session) o.session.changed s
+  synced_store = later d (shape_of q) tables_held (tables_of o.session) o.session.changed.labels s
 
   pub now_held : HoldsExactly d (table_files (shape_of q) (tables_of o.session)) t synced_store.tree
-  now_held = held_later d (table_files (shape_of q) k.before) (table_files (shape_of q) (tables_of o.session)) t s.tree synced_store.tree k.files (later_holds d (shape_of q) k.before (tables_of o.session) o.session.changed s k.files.tables k.unnamed)
+  now_held = held_later d (table_files (shape_of q) tables_held) (table_files (shape_of q) (tables_of o.session)) t s.tree synced_store.tree k.files (later_holds d (shape_of q) tables_held (tables_of o.session) o.session.changed.labels s k.files.tables k.unnamed)
 
   pub sync_done : (held : Option (List ℕ)) → performed (sync_effects o) (record { stored = Some s; held = held }) ≡ record { stored = Some synced_store; held = with_bytes (printed_by (sync_effects o)) held }
   sync_done held =
-      let files = later_sync d (shape_of q) (tables_of o.session) o.session.changed in
+      let files = later_sync d (shape_of q) (tables_of o.session) o.session.changed.labels in
       let line = tells_synced (sync_count o) ∷ [] in
       performed_append files line (record { stored = Some s; held = held })
-      ∙ ap (performed line) (later_synced d (shape_of q) k.before (tables_of o.session) o.session.changed s held)
+      ∙ ap (performed line) (later_synced d (shape_of q) tables_held (tables_of o.session) o.session.changed.labels s held)
       ∙ printing synced_store _ held
-      ∙ ap (λ (b : List ℕ). record { stored = Some synced_store; held = with_bytes b held }) (sym (sync_silent d (shape_of q) (tables_of o.session) o.session.changed line))
+      ∙ ap (λ (b : List ℕ). record { stored = Some synced_store; held = with_bytes b held }) (sym (sync_silent d (shape_of q) (tables_of o.session) o.session.changed.labels line))
 
-  pub sync_writes : synced_store.writes ≡ risen s.writes (sync_count o)
-  sync_writes =
-      later_counted d (shape_of q) k.before (tables_of o.session) o.session.changed s k.files.tables k.apart
-      ∙ ap (λ (labels : List Text). risen s.writes (length (filter (λ l. is_in l (labels_of (tables_of o.session)) || is_in l labels) o.session.changed))) (sym k.labels)
+  pub store_writes : synced_store.writes ≡ risen s.writes (sync_writes o)
+  store_writes =
+      later_counted d (shape_of q) tables_held (tables_of o.session) o.session.changed.labels s k.files.tables k.apart
+      ∙ ap (λ (labels : List Text). risen s.writes (length (filter (λ l. is_in l (labels_of (tables_of o.session)) || is_in l labels) o.session.changed.labels))) (sym k.labels)
 
   syncing_keeps : KeepsBy (syncing o)
   syncing_keeps = record {
     stored = synced_store;
     done = sync_done;
-    kept = record { before = tables_of o.session; files = now_held; unnamed = λ label apart. refl; labels = refl; apart = tt };
-    writes = sync_writes;
+    kept = record { files = now_held; unnamed = λ label apart. refl; labels = refl; apart = tt };
+    writes = store_writes;
   }
 
-  view_keeps : (c : CatalogueValue) (r : Option Row) → KeepsBy (by_view o c r)
-  view_keeps c (Some fields) = refusing_keeps fields
-  view_keeps c None = changing_keeps c
-
-  fault_keeps : (g : Change) (r : Option Refusal) → KeepsBy (by_fault o g r)
-  fault_keeps g (Some r) = refusing_keeps (refusal_fields g r)
-  fault_keeps g None = view_keeps (after o.session.catalogue g) (refusal_of (after o.session.catalogue g) q)
-
-  change_keeps : (row : Row) (r : Result Change ChangeFault) → KeepsBy (by_change o row r)
-  change_keeps row (Err f) = refusing_keeps (line_fields row f)
-  change_keeps row (Ok g) = fault_keeps g (fault o.session.catalogue g)
-
-  sync_line_keeps : (row : Row) → KeepsBy (by_sync o row)
-  sync_line_keeps [] = refusing_keeps (line_fields [] (FieldCount 0))
-  sync_line_keeps (word ∷ []) = syncing_keeps
-  sync_line_keeps (word ∷ field ∷ more) = refusing_keeps (line_fields (word ∷ field ∷ more) (FieldCount (length (word ∷ field ∷ more))))
-
-  row_keeps : (row : Row) → KeepsBy (by_row o row)
-  row_keeps row = elim (is_sync row) as (λ b. KeepsBy (if b then by_sync o row else by_change o row (change_so_far row))) [ true ↦ sync_line_keeps row | false ↦ change_keeps row (change_so_far row) ]
-
-  spelling_keeps : (r : Result Row ℕ) → KeepsBy (by_spelling o r)
-  spelling_keeps (Err at) = refusing_keeps (escape_fields at)
-  spelling_keeps (Ok row) = row_keeps row
-
   answer_keeps : (line : List ℕ) → KeepsBy (answer o line)
-  answer_keeps line = spelling_keeps (unspell line)
+  answer_keeps = answer_case o KeepsBy refusing_keeps (λ g fits unrefused. changing_keeps g) syncing_keeps
 
 -- an opening leaves a store that is kept
 pub opening_files : (c : CatalogueValue) (q : Query) → files_of_view c q ≡ table_files (shape_of q) (meaning c q)
 unfolding files_of_view
 opening_files c q = refl
 
-pub opening_keeps : (s : Stored) (q : Query) (c : CatalogueValue) → Keeps s.tree s (opening_effects (view_folder q.view_db) (files_of_view c q) (files_of s.tree (view_folder q.view_db))) (just_opened q c) (synced_count s.tree c q)
+pub opening_keeps : (s : Stored) (q : Query) (c : CatalogueValue) → Keeps s.tree s (opening_effects (view_folder q.view_db) (files_of_view c q) (files_of s.tree (view_folder q.view_db))) (just_opened q c) c (opening_writes s.tree c q)
 opening_keeps s q c =
     let d : Text = view_folder q.view_db in
     let fs : List File = files_of_view c q in
@@ -226,7 +198,6 @@ opening_keeps s q c =
           ∙ printing last _ held
           ∙ ap (λ (b : List ℕ). record { stored = Some last; held = with_bytes b held }) (sym (opening_silent d fs (files_of s.tree d) line));
       kept = record {
-        before = meaning c q;
         files = subst (λ (gs : List File). HoldsExactly d gs s.tree last.tree) (opening_files c q) (holds_exactly d fs s (are_view_files c q));
         unnamed = λ label apart. refl;
         labels = refl;
@@ -249,8 +220,8 @@ done_more s m u es fs f g held =
 pub risen_more : (u v w m n : ℕ) → v ≡ risen u m → w ≡ risen v n → w ≡ risen u (m + n)
 risen_more u v w m n e f = omega (arith, e, f)
 
-keeps_more : (t : Tree) (s : Stored) (es fs : List Effect) (o p : OpenValue) (m n : ℕ) → (k : Keeps t s es o m) → Keeps t k.stored fs p n → Keeps t s (es ++ fs) p (m + n)
-keeps_more t s es fs o p m n k l = record {
+keeps_more : (t : Tree) (s : Stored) (es fs : List Effect) (o p : OpenValue) (c e : CatalogueValue) (m n : ℕ) → (k : Keeps t s es o c m) → Keeps t k.stored fs p e n → Keeps t s (es ++ fs) p e (m + n)
+keeps_more t s es fs o p c e m n k l = record {
   stored = l.stored;
   done = done_more s k.stored l.stored es fs k.done l.done;
   kept = l.kept;
@@ -262,43 +233,19 @@ with_none : (held : Option (List ℕ)) → with_bytes [] held ≡ held
 with_none None = refl
 with_none (Some h) = ap Some (none_behind h)
 
-pub keeps_yet : (t : Tree) (o : OpenValue) (s : Stored) → IsKept t o s → Keeps t s [] o 0
-keeps_yet t o s k = record { writes = none_risen s.writes; stored = s; done = λ held. ap (λ (h : Option (List ℕ)). record { stored = Some s; held = h }) (sym (with_none held)); kept = k }
+pub keeps_yet : (t : Tree) (o : OpenValue) (c : CatalogueValue) (s : Stored) → IsKept t o c s → Keeps t s [] o c 0
+keeps_yet t o c s k = record { writes = none_risen s.writes; stored = s; done = λ held. ap (λ (h : Option (List ℕ)). record { stored = Some s; held = h }) (sym (with_none held)); kept = k }
 
 -- all lines of an input
-pub record Followed (t : Tree) (s : Stored) (lines : List (List ℕ)) (es : List Effect) (o : OpenValue) (n : ℕ) : Type 0 where
+pub record Followed (t : Tree) (s : Stored) (lines : List (List ℕ)) (es : List Effect) (o : OpenValue) (c : CatalogueValue) (n : ℕ) : Type 0 where
   pub effects : List Effect
   pub last : OpenValue
   pub answered : follow step lines (Goes es o) ≡ Goes effects last
   pub query : last.session.query ≡ o.session.query
-  pub keeps : Keeps t s effects last (n + counts o lines)
+  pub keeps : Keeps t s effects last (last_synced o c lines) (n + writes_by o lines)
 
-answer_query : (o : OpenValue) (line : List ℕ) → (answer o line).view.session.query ≡ o.session.query
-answer_query o line = spelled (unspell line)
-  where
-    viewed : (c : CatalogueValue) (r : Option Row) → (by_view o c r).view.session.query ≡ o.session.query
-    viewed c (Some fields) = refl
-    viewed c None = refl
-
-    judged : (g : Change) (r : Option Refusal) → (by_fault o g r).view.session.query ≡ o.session.query
-    judged g (Some r) = refl
-    judged g None = viewed (after o.session.catalogue g) (refusal_of (after o.session.catalogue g) o.session.query)
-
-    changed : (row : Row) (r : Result Change ChangeFault) → (by_change o row r).view.session.query ≡ o.session.query
-    changed row (Err f) = refl
-    changed row (Ok g) = judged g (fault o.session.catalogue g)
-
-    synced : (row : Row) → (by_sync o row).view.session.query ≡ o.session.query
-    synced [] = refl
-    synced (word ∷ []) = refl
-    synced (word ∷ field ∷ more) = refl
-
-    spelled : (r : Result Row ℕ) → (by_spelling o r).view.session.query ≡ o.session.query
-    spelled (Err at) = refl
-    spelled (Ok row) = elim (is_sync row) as (λ b. (if b then by_sync o row else by_change o row (change_so_far row)).view.session.query ≡ o.session.query) [ true ↦ synced row | false ↦ changed row (change_so_far row) ]
-
-recounted : (t : Tree) (s : Stored) (es : List Effect) (o : OpenValue) (m n : ℕ) → m ≡ n → Keeps t s es o m → Keeps t s es o n
-recounted t s es o m n e k = subst (Keeps t s es o) e k
+recounted : (t : Tree) (s : Stored) (es : List Effect) (o : OpenValue) (c : CatalogueValue) (m n : ℕ) → m ≡ n → Keeps t s es o c m → Keeps t s es o c n
+recounted t s es o c m n e k = subst (Keeps t s es o c) e k
 
 none_more : (n : ℕ) → n ≡ n + 0
 none_more n = omega arith
@@ -306,15 +253,16 @@ none_more n = omega arith
 grouped : (n m k : ℕ) → (n + m) + k ≡ n + (m + k)
 grouped n m k = omega arith
 
-pub followed : (t : Tree) (s : Stored) (lines : List (List ℕ)) (es : List Effect) (o : OpenValue) (n : ℕ) → Keeps t s es o n → Followed t s lines es o n
-followed t s [] es o n k = record { effects = es; last = o; answered = refl; query = refl; keeps = recounted t s es o n (n + 0) (none_more n) k }
-followed t s (line ∷ lines) es o n k =
+pub followed : (t : Tree) (s : Stored) (lines : List (List ℕ)) (es : List Effect) (o : OpenValue) (c : CatalogueValue) (n : ℕ) → Keeps t s es o c n → Followed t s lines es o c n
+followed t s [] es o c n k = record { effects = es; last = o; answered = refl; query = refl; keeps = recounted t s es o c n (n + 0) (none_more n) k }
+followed t s (line ∷ lines) es o c n k =
     let a = answer o line in
-    let rest = followed t s lines (es ++ a.effects) a.view (n + a.count) (keeps_more t s es a.effects o a.view n a.count k (answer_keeps t o k.stored k.kept line)) in
+    let e = synced_by a.said o.session.catalogue c in
+    let rest = followed t s lines (es ++ a.effects) a.view e (n + a.writes) (keeps_more t s es a.effects o a.view c e n a.writes k (answer_keeps t o c k.stored k.kept line)) in
     record {
       effects = rest.effects;
       last = rest.last;
       answered = rest.answered;
       query = rest.query ∙ answer_query o line;
-      keeps = recounted t s rest.effects rest.last ((n + a.count) + counts a.view lines) (n + (a.count + counts a.view lines)) (grouped n a.count (counts a.view lines)) rest.keeps;
+      keeps = recounted t s rest.effects rest.last (last_synced a.view e lines) ((n + a.writes) + writes_by a.view lines) (n + (a.writes + writes_by a.view lines)) (grouped n a.writes (writes_by a.view lines)) rest.keeps;
     }

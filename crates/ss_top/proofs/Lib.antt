@@ -1,3 +1,8 @@
+pub mod IdleLemmas
+pub mod PlaceLemmas
+pub mod WithinLemmas
+pub mod AnswerCases
+pub mod TakeLemmas
 pub mod OpeningLemmas
 pub mod RunLemmas
 pub mod StageLemmas
@@ -12,3 +17,4 @@ pub mod VerifyLemmas
 pub mod ViewLemmas
 pub mod AnswerLemmas
 pub mod RefusedLemmas
+pub mod TopLemmas

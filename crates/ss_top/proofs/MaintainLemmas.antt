@@ -1,7 +1,7 @@
 -- From an opening and the answers behind it to a run of `maintain`.
-use Rattle.std.proofs.Common.{◌≡◌, ℕ, List, [], ◌∷◌, ◌++◌, Option, Some, refl, sym, ap, ◌∙◌, subst, arith, inl, inr}
-use Rattle.std.specs.Prelude.{Result, Ok, Err, IfOk}
-use Rattle.effects.specs.Effects.{Effect, World, contents, performed}
+use Rattle.std.proofs.Common.{◌≡◌, ℕ, Bool, true, false, List, [], ◌∷◌, ◌++◌, Option, Some, refl, sym, ap, ◌∙◌, subst, append_assoc, arith, inl, inr}
+use Rattle.std.specs.Prelude.{Result, Ok, Err, IfOk, OnErr, if◌then◌else◌}
+use Rattle.effects.specs.Effects.{Effect, World, Contents, contents, performed, Partly}
 use Rattle.effects.specs.Blame.{Blames}
 use Rattle.effects.specs.declared.stop.Stop.{Stop}
 use Rattle.effects.specs.declared.stop.Stop.TheVariants as stop
@@ -9,13 +9,16 @@ use Rattle.effects.proofs.EffectLemmas.{performed_append, partly_more, partly_la
 use Rattle.tab_lines.specs.Lines.{lines_of}
 use Rattle.course.proofs.MachineLemmas.{steady_more}
 use Rattle.course.specs.declared.status.Verdict.{Verdict}
+use Rattle.course.specs.declared.status.Verdict.TheVariants as verdict
 use Rattle.course.specs.declared.status.Halt.{Halt}
 use Rattle.course.specs.declared.status.Halt.TheVariants as halt
-use Rattle.course.specs.Machine.{Reply, Goes, Halts, follow, course, Ran, CutOff, IsReadOut, BlamesRun}
+use Rattle.course.specs.Machine.{Reply, Goes, Halts, Ending, ending, follow, course, Ran, CutOff, AnsweredSome, EndedOver, IsReadOut, BlamesRun}
+use Rattle.course.specs.Machine as lines
 use Rattle.ss_top.specs.declared.opening.Opened.TheVariants as opened_as
 use Rattle.ss_top.specs.Open.{OpenValue}
-use Rattle.ss_top.specs.Steps.{Opens, IsNoDone}
-use Rattle.ss_top.specs.Course.{GaveOut, RanBy, by_lines, IsWholeInput}
+use Rattle.ss_top.specs.Steps.{Opens, IsRefusal}
+use Rattle.ss_top.specs.Commands.{can_maintain}
+use Rattle.ss_top.specs.Course.{Course, GaveOut, RanBy, RanSome, Took, by_lines, first, number, status_of, is_refused_status, IsWholeInput}
 use Rattle.ss_top.specs.Answers.{step, finish, answer}
 
 -- an opening that ended the run, and one that stopped
@@ -61,8 +64,81 @@ pub drove_whole : (o : OpenValue) (bytes : List ℕ) (before rest : Option (List
 drove_whole o bytes before rest (Ok v) h e = λ done. let all = goes_always (lines_of bytes) [] o in let read = (h bytes e).read all.0 all.1 all.2 in record { read = read.0; few = read.1 }
 drove_whole o bytes before rest (Err x) h e = tt
 
-pub ended_whole : (bytes : List ℕ) (rest : Option (List ℕ)) (v : Verdict) → IsNoDone (opened_as.Ended v) → IsWholeInput bytes rest (Ok v)
-ended_whole bytes rest v h done = absurd (cc)
+pub ended_whole : (bytes : List ℕ) (rest : Option (List ℕ)) (v : Verdict) → IsRefusal (opened_as.Ended v) → IsWholeInput bytes rest (Ok v)
+ended_whole bytes rest verdict.Done h done = absurd (cc)
+ended_whole bytes rest verdict.SomeRefused h done = absurd (cc)
+ended_whole bytes rest verdict.Usage h done = absurd (cc)
+ended_whole bytes rest verdict.BadDefinition h done = absurd (cc)
+ended_whole bytes rest verdict.BadCatalogue h done = absurd (cc)
+ended_whole bytes rest verdict.NoView h done = absurd (cc)
+
+-- what was done, whatever the input tells
+pub some_ended : (r : Reply OpenValue) (old new : World) (v : Verdict) → Opens r old new (Ok (opened_as.Ended v)) → RanSome (by_lines step finish r) old new (Ok v)
+some_ended (Halts es w) old new v h = record { lines = []; ran = h }
+some_ended (Goes es o) old new v h = absurd h
+
+pub some_stopped : (r : Reply OpenValue) (old new : World) (e : Stop) → Opens r old new (Err e) → RanSome (by_lines step finish r) old new (Err (halt.Stopped e))
+some_stopped (Halts es w) old new e h = record { lines = []; ran = h }
+some_stopped (Goes es o) old new e h = record { lines = []; ran = partly_more es (course step finish o []).effects (contents old) (contents new) h }
+
+ended_later : (es : List Effect) (e : Ending) (old mid new : World) (r : Result Verdict Halt) → contents mid ≡ performed es (contents old) → EndedOver e mid new r → EndedOver (first es e) old new r
+ended_later es e old mid new (Ok v) h ran = (ran.0 ∙ ap (performed e.effects) h ∙ sym (performed_append es e.effects (contents old)), ran.1)
+ended_later es e old mid new (Err x) h ran = partly_later es e.effects (contents old) (contents mid) (contents new) h ran
+
+pub some_drove : (r : Reply OpenValue) (o : OpenValue) (old mid new : World) (s : Result Verdict Halt) → Opens r old mid (Ok (opened_as.Open o)) → AnsweredSome step finish o mid new s → RanSome (by_lines step finish r) old new s
+some_drove (Halts es w) o old mid new s h ran = absurd h
+some_drove (Goes es p) o old mid new s h ran = record { lines = ran.lines; ran = ended_later es (course step finish p ran.lines) old mid new s h.0 (subst (λ (x : OpenValue). EndedOver (course step finish x ran.lines) mid new s) h.1 ran.ran) }
+
+-- what was taken of the input
+pub took_nothing : (c : Course) (bytes : List ℕ) (rest : Option (List ℕ)) (old new : World) → rest ≡ Some bytes → Took c bytes rest old new
+took_nothing c bytes rest old new told = inl told
+
+took_behind : (es : List Effect) (o : OpenValue) (bytes : List ℕ) (rest : Option (List ℕ)) (old mid new : World) → contents mid ≡ performed es (contents old) → lines.TookLittle step finish o bytes rest mid new → Took (by_lines step finish (Goes es o)) bytes rest old new
+took_behind es o bytes rest old mid new h took = inr (record {
+  answered = took.answered;
+  line = took.line;
+  piece = took.piece;
+  left = took.left;
+  split = took.split;
+  remains = took.remains;
+  one_line = took.one_line;
+  one_read = took.one_read;
+  effects = es ++ took.effects;
+  later = took.later;
+  meant = rw took.goes refl;
+  all = ap (λ (t : List Effect). es ++ t) took.all ∙ sym (append_assoc es took.effects took.later);
+  did = subst (λ (c : Contents). Partly took.later c (contents new)) (ap (performed took.effects) h ∙ sym (performed_append es took.effects (contents old))) took.did;
+})
+
+took_drove : (r : Reply OpenValue) (o : OpenValue) (bytes : List ℕ) (rest : Option (List ℕ)) (old mid new : World) → Opens r old mid (Ok (opened_as.Open o)) → lines.TookLittle step finish o bytes rest mid new → Took (by_lines step finish r) bytes rest old new
+took_drove (Halts es w) o bytes rest old mid new h took = absurd h
+took_drove (Goes es p) o bytes rest old mid new h took = took_behind es p bytes rest old mid new h.0 (subst (λ (x : OpenValue). lines.TookLittle step finish x bytes rest mid new) h.1 took)
+
+-- the statuses of `maintain`
+pub refused_can : (v : Verdict) → is_refused_status (number v) ≡ true → can_maintain (number v) ≡ true
+refused_can verdict.Done h = refl
+refused_can verdict.SomeRefused h = refl
+refused_can verdict.Usage h = absurd (cc)
+refused_can verdict.BadDefinition h = refl
+refused_can verdict.BadCatalogue h = refl
+refused_can verdict.NoView h = refl
+
+pub stopped_can : (e : Stop) → (let r : Result Verdict Halt = Err (halt.Stopped e) in can_maintain (status_of r) ≡ true)
+stopped_can stop.ReadFault = refl
+stopped_can stop.WriteFault = refl
+stopped_can stop.NoMemory = refl
+
+done_can : (b : Bool) → can_maintain (number (if b then verdict.SomeRefused else verdict.Done)) ≡ true
+done_can true = refl
+done_can false = refl
+
+pub drove_can : (o : OpenValue) (w v : World) (r : Result Verdict Halt) → AnsweredSome step finish o w v r → can_maintain (status_of r) ≡ true
+drove_can o w v (Ok s) h =
+    let all = goes_always h.lines [] o in
+    ap (λ (x : Verdict). can_maintain (number x)) (h.ran.1 ∙ ap (λ (r : Reply OpenValue). (ending finish r).status) all.2) ∙ done_can all.1.refused
+drove_can o w v (Err halt.InputFault) h = refl
+drove_can o w v (Err halt.TooLong) h = refl
+drove_can o w v (Err (halt.Stopped e)) h = stopped_can e
 
 -- a count that rose, behind an opening
 pub blamed_later : {A : Type 0} (i j : ℕ) (old mid new : World) (a : A) (r : Result Verdict Halt) → Blames old mid (Ok a) → BlamesRun i j mid new r → BlamesRun i j old new r
@@ -76,3 +152,7 @@ blamed_later i j old mid new a (Err (halt.Stopped stop.WriteFault)) b c = record
   because = elim c.because [ inl w ↦ inl (omega (arith, b.steady.writes, w)) | inr p ↦ inr (omega (arith, b.steady.prints, p)) ];
 }
 blamed_later i j old mid new a (Err (halt.Stopped stop.NoMemory)) b c = record { steady = steady_more old mid new b.steady c.steady; input = c.input; because = tt }
+
+pub took_answering : (r : Reply OpenValue) (o : OpenValue) (bytes : List ℕ) (rest : Option (List ℕ)) (old mid new : World) (s : Result Verdict Halt) → Opens r old mid (Ok (opened_as.Open o)) → OnErr s (lines.TookLittle step finish o bytes rest mid new) → OnErr s (Took (by_lines step finish r) bytes rest old new)
+took_answering r o bytes rest old mid new (Ok v) h took = took
+took_answering r o bytes rest old mid new (Err x) h took = took_drove r o bytes rest old mid new h took

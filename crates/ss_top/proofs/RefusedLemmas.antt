@@ -1,5 +1,5 @@
 -- A run that ended with a refusal changed nothing, and a folder that was said to differ does.
-use Rattle.std.proofs.Common.{◌≡◌, ℕ, Bool, true, false, List, [], ◌∷◌, ◌++◌, Option, None, Some, refl, sym, ap, ◌∙◌, subst}
+use Rattle.std.proofs.Common.{◌≡◌, ℕ, Bool, true, false, List, [], ◌∷◌, ◌++◌, Option, None, Some, refl, sym, ap, ◌∙◌}
 use Rattle.std.specs.Prelude.{Result, Ok, Err, if◌then◌else◌}
 use Rattle.std.proofs.lemmas.Bool.{false≢true}
 use Rattle.ss_text.specs.Texts.{Text, Row}
@@ -8,24 +8,25 @@ use Rattle.effects.specs.Effects.{Effect, World, Contents, contents, stored_of, 
 use Rattle.schema_model.specs.Catalogue.{CatalogueValue}
 use Rattle.view_def.specs.Query.{Query}
 use Rattle.tab_lines.specs.Lines.{lines_of}
-use Rattle.view_folder.specs.Comparison.{comparison}
-use Rattle.view_folder.specs.Sync.{Holds}
 use Rattle.view_folder.specs.declared.comparison.Comparison.{Comparison}
 use Rattle.view_folder.specs.declared.comparison.Comparison.TheVariants as compared
 use Rattle.view_folder.proofs.ComparisonLemmas.{holds_same}
 use Rattle.course.specs.declared.status.Verdict.{Verdict}
 use Rattle.course.specs.declared.status.Verdict.TheVariants as verdict
-use Rattle.course.specs.Machine.{Reply, Goes, Halts, Ending, ending, follow}
+use Rattle.course.specs.Machine.{Reply, Goes, Halts, Ending, Ended, EndedOver, ending, follow}
+use Rattle.course.specs.declared.status.Halt.{Halt}
+use Rattle.course.specs.declared.status.Halt.TheVariants as halt
+use Rattle.effects.specs.declared.stop.Stop.TheVariants as stop
 use Rattle.ss_top.specs.declared.status.Status.{Status}
 use Rattle.ss_top.specs.declared.status.Status.TheVariants as status
 use Rattle.ss_top.specs.Open.{OpenValue}
-use Rattle.ss_top.specs.Stages.{Definition, Accepted, loaded_or_refused, refusal_of, files_of_view}
+use Rattle.ss_top.specs.Stages.{Definition, loaded_or_refused, refusal_of, files_of_view}
 use Rattle.ss_top.specs.Printed.{refuses}
 use Rattle.ss_top.specs.Opening.{opening, with_catalogue, with_view, done_at_once}
 use Rattle.ss_top.specs.Checking.{checked}
 use Rattle.ss_top.specs.Verifying.{by_comparison, verified, verified_over, verified_view}
 use Rattle.ss_top.specs.Answers.{step, finish, answer}
-use Rattle.ss_top.specs.Course.{Course, Finished, Did, by_lines, number, is_refused_status}
+use Rattle.ss_top.specs.Course.{Course, Finished, Did, RanSome, by_lines, number, status_of, is_refused_status}
 use Rattle.ss_top.specs.Commands.{Asked, Check, Show, Maintain, Verify, Other, uses_store}
 use Rattle.ss_top.specs.Runs.{course_of, Told}
 use Rattle.ss_top.specs.Promises.{Unchanged, Differs, folder_of}
@@ -33,7 +34,7 @@ use Rattle.ss_top.proofs.ShownLemmas.{told_tree}
 use Rattle.ss_top.proofs.StageLemmas.{are_view_files}
 
 -- a run that was refused came to its end
-refused_finished : (c : Course) (bytes : List ℕ) (rest : Option (List ℕ)) (old new : World) (s : Status) → is_refused_status s ≡ true → Did c bytes rest old new s → Finished (c.whole bytes) old new s
+refused_finished : (c : Course) (bytes : List ℕ) (rest : Option (List ℕ)) (old new : World) (s : Status) → is_refused_status s ≡ true → Did c bytes rest old new s → Finished (c.whole (lines_of bytes)) old new s
 refused_finished c bytes rest old new status.Done r h = h
 refused_finished c bytes rest old new status.SomeRefused r h = h
 refused_finished c bytes rest old new status.Usage r h = h
@@ -54,11 +55,11 @@ lines_unrefused : (lines : List (List ℕ)) (es : List Effect) (o : OpenValue) �
 lines_unrefused [] es o = end_unrefused o.refused
 lines_unrefused (line ∷ lines) es o = lines_unrefused lines (es ++ (answer o line).effects) (answer o line).view
 
-module _ (t : Tree) (old new : World) (told : old.0.tree ≡ Some t) (s : Status) (refused : is_refused_status s ≡ true) where
+module _ (t : Tree) (old new : World) (told : old.store.tree ≡ Some t) (s : Status) (refused : is_refused_status s ≡ true) where
   same_stored : (contents new).stored ≡ (contents old).stored → Unchanged old new
   unfolding contents
   same_stored h =
-      let stored = told_tree new.0.tree new.0.writes (record { tree = t; writes = old.0.writes }) (h ∙ ap (λ (o : Option Tree). stored_of o old.0.writes) told) in
+      let stored = told_tree new.store.tree new.store.writes (record { tree = t; writes = old.store.writes }) (h ∙ ap (λ (o : Option Tree). stored_of o old.store.writes) told) in
       record { tree = stored.0 ∙ sym told; writes = stored.1 }
 
   not_so : {A : Type 0} (v : Verdict) → s ≡ number v → is_refused_status (number v) ≡ false → A
@@ -103,19 +104,28 @@ module _ (t : Tree) (old new : World) (told : old.0.tree ≡ Some t) (s : Status
     opening_unchanged (Ok a) f = opened_over a.query (loaded_or_refused t) f
 
 -- nothing is changed where a run is refused
-pub did_refuse : (a : Asked) (t : Tree) (bytes : List ℕ) (d : Definition) (rest : Option (List ℕ)) (old new : World) (s : Status) → Told (uses_store a) old.0.tree t → is_refused_status s ≡ true → Did (course_of a t d) bytes rest old new s → Unchanged old new
-did_refuse (Check name) t bytes d rest old new s told refused h =
-    check_unchanged t old new (told refl) s refused d (refused_finished (course_of (Check name) t d) bytes rest old new s refused h)
-did_refuse (Show name) t bytes d rest old new s told refused h =
-    opening_unchanged t old new (told refl) s refused (ending done_at_once) (λ es v. refl) (λ es o. refl) d (refused_finished (course_of (Show name) t d) bytes rest old new s refused h)
-did_refuse (Maintain name) t bytes d rest old new s told refused h =
-    opening_unchanged t old new (told refl) s refused (λ r. (by_lines step finish r).whole bytes) (λ es v. refl) (λ es o. lines_unrefused (lines_of bytes) [] o) d
-    (refused_finished (course_of (Maintain name) t d) bytes rest old new s refused h)
-did_refuse (Verify name) t bytes d rest old new s told refused h =
-    verify_unchanged t old new (told refl) s refused d (refused_finished (course_of (Verify name) t d) bytes rest old new s refused h)
-did_refuse Other t bytes d rest old new s told refused h =
-    let f = refused_finished (course_of Other t d) bytes rest old new s refused h in
-    absurd (false≢true (ap is_refused_status (sym f.status) ∙ refused))
+module _ (old new : World) (r : Result Verdict Halt) (refused : is_refused_status (status_of r) ≡ true) where
+  refused_ended : (e : Ending) (v : Verdict) → r ≡ Ok v → Ended e old new (Ok v) → Finished e old new (status_of r)
+  refused_ended e v is h = record { status = ap status_of is ∙ ap number h.1; done = h.0 }
+
+  some_refused : (e : Ending) (x : Result Verdict Halt) → r ≡ x → EndedOver e old new x → Finished e old new (status_of r)
+  some_refused e (Ok v) is h = refused_ended e v is h
+  some_refused e (Err halt.InputFault) is h = absurd (false≢true (ap (λ (x : Result Verdict Halt). is_refused_status (status_of x)) (sym is) ∙ refused))
+  some_refused e (Err halt.TooLong) is h = absurd (false≢true (ap (λ (x : Result Verdict Halt). is_refused_status (status_of x)) (sym is) ∙ refused))
+  some_refused e (Err (halt.Stopped stop.ReadFault)) is h = absurd (false≢true (ap (λ (x : Result Verdict Halt). is_refused_status (status_of x)) (sym is) ∙ refused))
+  some_refused e (Err (halt.Stopped stop.WriteFault)) is h = absurd (false≢true (ap (λ (x : Result Verdict Halt). is_refused_status (status_of x)) (sym is) ∙ refused))
+  some_refused e (Err (halt.Stopped stop.NoMemory)) is h = absurd (false≢true (ap (λ (x : Result Verdict Halt). is_refused_status (status_of x)) (sym is) ∙ refused))
+
+  pub did_refuse : (a : Asked) (t : Tree) (d : Definition) → Told (uses_store a) old.store.tree t → RanSome (course_of a t d) old new r → Unchanged old new
+  did_refuse (Check name) t d told h = check_unchanged t old new (told refl) (status_of r) refused d (some_refused (checked d) r refl h.ran)
+  did_refuse (Show name) t d told h = opening_unchanged t old new (told refl) (status_of r) refused (ending done_at_once) (λ es v. refl) (λ es o. refl) d (some_refused (ending done_at_once (opening t d)) r refl h.ran)
+  did_refuse (Maintain name) t d told h =
+      opening_unchanged t old new (told refl) (status_of r) refused (λ x. (by_lines step finish x).whole h.lines) (λ es v. refl) (λ es o. lines_unrefused h.lines [] o) d
+      (some_refused ((by_lines step finish (opening t d)).whole h.lines) r refl h.ran)
+  did_refuse (Verify name) t d told h = verify_unchanged t old new (told refl) (status_of r) refused d (some_refused (verified t d) r refl h.ran)
+  did_refuse Other t d told h =
+      let f = some_refused ((course_of Other t d).whole h.lines) r refl h.ran in
+      absurd (false≢true (ap is_refused_status (sym f.status) ∙ refused))
 
 -- a folder that was said to differ from an accepted view does
 pub did_differ : (name : Text) (t : Tree) (d : Definition) (rest : Option (List ℕ)) (old new : World) (s : Status) → s ≡ status.NoView → Did (course_of (Verify name) t d) [] rest old new s → Differs d t

@@ -1,9 +1,9 @@
 -- From what an opening did to what a run did.
 use Rattle.ss_text.specs.Texts.{Text}
 use Rattle.ss_text.specs.Label.{is_table_label}
-use Rattle.ss_top.specs.Commands.{asked_of, command_named}
-use Rattle.std.proofs.Common.{◌≡◌, ◌≢◌, ℕ, ◌+◌, ◌<◌, length-append, true, length, get_or, List, [], ◌∷◌, ◌++◌, Option, refl, ap, ◌∙◌, arith, inl, inr}
-use Rattle.std.specs.Prelude.{Result, Ok, Err, IfOk}
+use Rattle.ss_top.specs.Commands.{asked_of, command_named, can_check, can_show, can_refuse}
+use Rattle.std.proofs.Common.{◌≡◌, ◌≢◌, ℕ, ◌+◌, ◌<◌, length-append, true, false, length, get_or, List, [], ◌∷◌, ◌++◌, Option, refl, sym, ap, ◌∙◌, arith, inl, inr}
+use Rattle.std.specs.Prelude.{Result, Ok, Err, OnErr}
 use Rattle.course.specs.Machine.{Ending}
 use Rattle.effects.specs.Effects.{Effect, World, contents}
 use Rattle.effects.specs.declared.stop.Stop.{Stop}
@@ -17,11 +17,14 @@ use Rattle.course.specs.Machine.{Reply, Goes, Halts, Ended, ending, BlamesRun}
 use Rattle.ss_top.specs.declared.opening.Opened.TheVariants as opened_as
 use Rattle.ss_top.specs.Open.{OpenValue}
 use Rattle.ss_top.specs.Opening.{done_at_once}
-use Rattle.ss_top.specs.Steps.{Opens}
+use Rattle.ss_top.specs.Steps.{Opens, IdleRun, IdleStop}
+use Rattle.tab_lines.specs.Lines.{lines_of}
 use Rattle.tab_lines.specs.Taking.{most_taken}
+use Rattle.std.proofs.lemmas.Bool.{false≢true}
+use Rattle.ss_top.proofs.IdleLemmas.{idle_contents}
 use Rattle.ss_top.specs.declared.status.Status.{Status}
 use Rattle.ss_top.specs.declared.status.Status.TheVariants as status
-use Rattle.ss_top.specs.Course.{Course, unread, number, status_of, Did, Cause, RanBy, NoFault, Finished, is_ended_status}
+use Rattle.ss_top.specs.Course.{Course, unread, number, status_of, Did, Cause, RanBy, RanSome, NoFault, Finished, is_fault_status}
 
 pub append_none : (xs : List Effect) → xs ++ [] ≡ xs
 append_none [] = refl
@@ -47,19 +50,46 @@ ended_ran e bytes rest old new v h = h
 pub stopped_ran : (e : Ending) (bytes : List ℕ) (rest : Option (List ℕ)) (old new : World) (s : Stop) → Ended e old new (Err s) → RanBy (unread e) bytes rest old new (Err (halt.Stopped s))
 stopped_ran e bytes rest old new s h = h
 
+pub ran_some : (e : Ending) (old new : World) (v : Verdict) → Ended e old new (Ok v) → RanSome (unread e) old new (Ok v)
+ran_some e old new v h = record { lines = []; ran = h }
+
+pub stopped_some : (e : Ending) (old new : World) (s : Stop) → Ended e old new (Err s) → RanSome (unread e) old new (Err (halt.Stopped s))
+stopped_some e old new s h = record { lines = []; ran = h }
+
+-- a command can stop by each object that it uses
+pub stop_can_check : (s : Stop) → (let r : Result Verdict Halt = Err (halt.Stopped s) in can_check (status_of r) ≡ true)
+stop_can_check stop.ReadFault = refl
+stop_can_check stop.WriteFault = refl
+stop_can_check stop.NoMemory = refl
+
+pub stop_can_show : (s : Stop) → (let r : Result Verdict Halt = Err (halt.Stopped s) in can_show (status_of r) ≡ true)
+stop_can_show stop.ReadFault = refl
+stop_can_show stop.WriteFault = refl
+stop_can_show stop.NoMemory = refl
+
+pub stop_can_refuse : (s : Stop) → s ≢ stop.ReadFault → (let r : Result Verdict Halt = Err (halt.Stopped s) in can_refuse (status_of r) ≡ true)
+stop_can_refuse stop.ReadFault none = absurd (none refl)
+stop_can_refuse stop.WriteFault none = refl
+stop_can_refuse stop.NoMemory none = refl
+
+pub idle_other : (s : Stop) (w v : World) → s ≢ stop.ReadFault → IdleStop s w v
+idle_other stop.ReadFault w v none = absurd (none refl)
+idle_other stop.WriteFault w v none = tt
+idle_other stop.NoMemory w v none = tt
+
 -- the table of statuses
-pub by_status : (c : Course) (bytes : List ℕ) (rest : Option (List ℕ)) (old new : World) (i j : ℕ) (r : Result Verdict Halt) → RanBy c bytes rest old new r → BlamesRun i j old new r → Did c bytes rest old new (status_of r)
-by_status c bytes rest old new i j (Ok verdict.Done) h b = record { status = ap number h.1; done = h.0 }
-by_status c bytes rest old new i j (Ok verdict.SomeRefused) h b = record { status = ap number h.1; done = h.0 }
-by_status c bytes rest old new i j (Ok verdict.Usage) h b = record { status = ap number h.1; done = h.0 }
-by_status c bytes rest old new i j (Ok verdict.BadDefinition) h b = record { status = ap number h.1; done = h.0 }
-by_status c bytes rest old new i j (Ok verdict.BadCatalogue) h b = record { status = ap number h.1; done = h.0 }
-by_status c bytes rest old new i j (Ok verdict.NoView) h b = record { status = ap number h.1; done = h.0 }
-by_status c bytes rest old new i j (Err halt.InputFault) h b = inr h
-by_status c bytes rest old new i j (Err halt.TooLong) h b = h
-by_status c bytes rest old new i j (Err (halt.Stopped stop.ReadFault)) h b = inl (b.because, h)
-by_status c bytes rest old new i j (Err (halt.Stopped stop.WriteFault)) h b = h
-by_status c bytes rest old new i j (Err (halt.Stopped stop.NoMemory)) h b = h
+pub by_status : (c : Course) (bytes : List ℕ) (rest : Option (List ℕ)) (old new : World) (i j : ℕ) (r : Result Verdict Halt) → RanBy c bytes rest old new r → BlamesRun i j old new r → IdleRun r old new → Did c bytes rest old new (status_of r)
+by_status c bytes rest old new i j (Ok verdict.Done) h b idle = record { status = ap number h.1; done = h.0 }
+by_status c bytes rest old new i j (Ok verdict.SomeRefused) h b idle = record { status = ap number h.1; done = h.0 }
+by_status c bytes rest old new i j (Ok verdict.Usage) h b idle = record { status = ap number h.1; done = h.0 }
+by_status c bytes rest old new i j (Ok verdict.BadDefinition) h b idle = record { status = ap number h.1; done = h.0 }
+by_status c bytes rest old new i j (Ok verdict.BadCatalogue) h b idle = record { status = ap number h.1; done = h.0 }
+by_status c bytes rest old new i j (Ok verdict.NoView) h b idle = record { status = ap number h.1; done = h.0 }
+by_status c bytes rest old new i j (Err halt.InputFault) h b idle = inr h
+by_status c bytes rest old new i j (Err halt.TooLong) h b idle = h
+by_status c bytes rest old new i j (Err (halt.Stopped stop.ReadFault)) h b idle = inl (b.because, idle_contents old new idle)
+by_status c bytes rest old new i j (Err (halt.Stopped stop.WriteFault)) h b idle = h
+by_status c bytes rest old new i j (Err (halt.Stopped stop.NoMemory)) h b idle = h
 
 pub by_cause : (i j : ℕ) (old new : World) (r : Result Verdict Halt) → BlamesRun i j old new r → Cause (status_of r) i j old new
 by_cause i j old new (Ok verdict.Done) b = tt
@@ -82,7 +112,7 @@ two_words (a ∷ b ∷ []) word name n w m legal = rw (← w, ← m, legal) refl
 two_words (a ∷ b ∷ c ∷ rest) word name n w m legal = absurd (omega arith)
 
 -- a run without a fault, over an input that is not too long, finished, or there was no memory
-by_no_fault : (c : Course) (bytes : List ℕ) (rest : Option (List ℕ)) (old new : World) (i j : ℕ) (s : Status) → Did c bytes rest old new s → Cause s i j old new → NoFault i j old new → length bytes < most_taken → s ≢ status.NoMemory → Finished (c.whole bytes) old new s
+by_no_fault : (c : Course) (bytes : List ℕ) (rest : Option (List ℕ)) (old new : World) (i j : ℕ) (s : Status) → Did c bytes rest old new s → Cause s i j old new → NoFault i j old new → length bytes < most_taken → s ≢ status.NoMemory → Finished (c.whole (lines_of bytes)) old new s
 by_no_fault c bytes rest old new i j status.Done h cause none few some = h
 by_no_fault c bytes rest old new i j status.SomeRefused h cause none few some = h
 by_no_fault c bytes rest old new i j status.Usage h cause none few some = h
@@ -97,14 +127,18 @@ by_no_fault c bytes rest old new i j status.TooLong h cause none few some =
     let most : length h.0.taken ≡ most_taken = h.1 in
     absurd (omega (arith, long, most, few))
 
-pub finishes : (c : Course) (bytes : List ℕ) (rest : Option (List ℕ)) (old new : World) (i j : ℕ) (r : Result Verdict Halt) → RanBy c bytes rest old new r → BlamesRun i j old new r → NoFault i j old new → length bytes < most_taken → status_of r ≢ status.NoMemory → Finished (c.whole bytes) old new (status_of r)
-finishes c bytes rest old new i j r h b none few some = by_no_fault c bytes rest old new i j (status_of r) (by_status c bytes rest old new i j r h b) (by_cause i j old new r b) none few some
+pub finishes : (c : Course) (bytes : List ℕ) (rest : Option (List ℕ)) (old new : World) (i j : ℕ) (r : Result Verdict Halt) → RanBy c bytes rest old new r → BlamesRun i j old new r → IdleRun r old new → NoFault i j old new → length bytes < most_taken → status_of r ≢ status.NoMemory → Finished (c.whole (lines_of bytes)) old new (status_of r)
+finishes c bytes rest old new i j r h b idle none few some = by_no_fault c bytes rest old new i j (status_of r) (by_status c bytes rest old new i j r h b idle) (by_cause i j old new r b) none few some
 
--- a run that came to its end
-pub ended_defined : (A : Type 0) (r : Result Verdict Halt) → IfOk r (λ _. A) → is_ended_status (status_of r) ≡ true → A
-ended_defined A (Ok v) h e = h
-ended_defined A (Err halt.InputFault) h e = absurd (cc)
-ended_defined A (Err halt.TooLong) h e = absurd (cc)
-ended_defined A (Err (halt.Stopped stop.ReadFault)) h e = absurd (cc)
-ended_defined A (Err (halt.Stopped stop.WriteFault)) h e = absurd (cc)
-ended_defined A (Err (halt.Stopped stop.NoMemory)) h e = absurd (cc)
+-- a run that gave up
+no_fault_number : (v : Verdict) → is_fault_status (number v) ≡ false
+no_fault_number verdict.Done = refl
+no_fault_number verdict.SomeRefused = refl
+no_fault_number verdict.Usage = refl
+no_fault_number verdict.BadDefinition = refl
+no_fault_number verdict.BadCatalogue = refl
+no_fault_number verdict.NoView = refl
+
+pub by_fault : (r : Result Verdict Halt) (P : Type 0) → OnErr r P → is_fault_status (status_of r) ≡ true → P
+by_fault (Err h) P given e = given
+by_fault (Ok v) P given e = absurd (false≢true (sym (no_fault_number v) ∙ e))

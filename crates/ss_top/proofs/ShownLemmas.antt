@@ -24,7 +24,9 @@ use Rattle.ss_top.specs.Commands.{Show}
 use Rattle.ss_top.specs.Runs.{course_of}
 use Rattle.ss_top.specs.Promises.{IsShown, synced_count}
 use Rattle.ss_top.specs.Stages.{loaded_or_refused, refusal_of, files_of_view}
+use Rattle.tab_lines.specs.Lines.{lines_of}
 use Rattle.ss_top.proofs.RunLemmas.{append_none}
+use Rattle.ss_top.proofs.PlaceLemmas.{others_stay}
 use Rattle.ss_top.proofs.StageLemmas.{are_view_files}
 
 -- a store that tells, and its count of writes
@@ -32,17 +34,17 @@ pub told_tree : (o : Option Tree) (n : ℕ) (s : Stored) → stored_of o n ≡ S
 told_tree None n s e = absurd (cc)
 told_tree (Some t) n s e = let same : record { tree = t; writes = n } ≡ s = cc in (ap (λ (x : Stored). Some x.tree) same, ap (λ (x : Stored). x.writes) same)
 
-pub contents_told : (w : World) (t : Tree) → w.0.tree ≡ Some t → contents w ≡ record { stored = Some (record { tree = t; writes = w.0.writes }); held = w.1.held }
+pub contents_told : (w : World) (t : Tree) → w.store.tree ≡ Some t → contents w ≡ record { stored = Some (record { tree = t; writes = w.store.writes }); held = w.output.held }
 unfolding contents
-contents_told w t e = ap (λ (o : Option Tree). record { stored = stored_of o w.0.writes; held = w.1.held }) e
+contents_told w t e = ap (λ (o : Option Tree). record { stored = stored_of o w.store.writes; held = w.output.held }) e
 
 -- the contents that an opening sync and its line leave
-module _ (t : Tree) (old new : World) (told : old.0.tree ≡ Some t) (a : Accepted) (c : CatalogueValue) where
+module _ (t : Tree) (old new : World) (told : old.store.tree ≡ Some t) (a : Accepted) (c : CatalogueValue) where
   abbrev q : Query
   q = a.query
 
   abbrev at_first : Stored
-  at_first = record { tree = t; writes = old.0.writes }
+  at_first = record { tree = t; writes = old.store.writes }
 
   abbrev at_last : Stored
   at_last = now (view_folder q.view_db) (files_of_view c q) at_first (are_view_files c q)
@@ -51,33 +53,31 @@ module _ (t : Tree) (old new : World) (told : old.0.tree ≡ Some t) (a : Accept
   line = spell (codes "synced" ∷ decimal (synced_count t c q) ∷ []) ++ 10 ∷ []
 
   left : contents new ≡ performed (opening_effects (view_folder q.view_db) (files_of_view c q) (files_of t (view_folder q.view_db))) (contents old)
-      → contents new ≡ record { stored = Some at_last; held = with_bytes line old.1.held }
+      → contents new ≡ record { stored = Some at_last; held = with_bytes line old.output.held }
   left h =
       h ∙ ap (performed (opening_effects (view_folder q.view_db) (files_of_view c q) (files_of t (view_folder q.view_db)))) (contents_told old t told)
-      ∙ performed_append (opening_sync (view_folder q.view_db) (files_of_view c q) (files_of t (view_folder q.view_db))) (tells_synced (synced_count t c q) ∷ []) (record { stored = Some at_first; held = old.1.held })
-      ∙ ap (performed (tells_synced (synced_count t c q) ∷ [])) (synced (view_folder q.view_db) (files_of_view c q) at_first (are_view_files c q) old.1.held)
+      ∙ performed_append (opening_sync (view_folder q.view_db) (files_of_view c q) (files_of t (view_folder q.view_db))) (tells_synced (synced_count t c q) ∷ []) (record { stored = Some at_first; held = old.output.held })
+      ∙ ap (performed (tells_synced (synced_count t c q) ∷ [])) (synced (view_folder q.view_db) (files_of_view c q) at_first (are_view_files c q) old.output.held)
 
   shown : (d : Definition) → d ≡ Ok a → loaded_or_refused t ≡ Ok c → refusal_of c q ≡ None
       → contents new ≡ performed (opening_effects (view_folder q.view_db) (files_of_view c q) (files_of t (view_folder q.view_db))) (contents old) → IsShown d t old new
   unfolding contents
   shown d defined loaded accepted h =
       let is = left h in
-      let stored = told_tree new.0.tree new.0.writes at_last (ap (λ (x : Contents). x.stored) is) in
+      let held = holds_exactly (view_folder q.view_db) (files_of_view c q) at_first (are_view_files c q) in
+      let stored = told_tree new.store.tree new.store.writes at_last (ap (λ (x : Contents). x.stored) is) in
       record {
-        accepted = a;
-        catalogue = c;
+        opened = record { accepted = a; catalogue = c; defined = defined; loaded = loaded; unrefused = accepted };
         tree = at_last.tree;
-        defined = defined;
-        loaded = loaded;
-        unrefused = accepted;
         told = stored.0;
-        files = holds_exactly (view_folder q.view_db) (files_of_view c q) at_first (are_view_files c q);
+        files = held.tables;
+        others = others_stay (view_folder q.view_db) (files_of_view c q) t at_last.tree held;
         writes = stored.1 ∙ counted (view_folder q.view_db) (files_of_view c q) at_first (are_view_files c q);
         printed = ap (λ (x : Contents). x.held) is;
       }
 
 -- the status 0 comes where the view was opened
-module _ (t : Tree) (old new : World) (s : Status) (told : old.0.tree ≡ Some t) (done : s ≡ status.Done) where
+module _ (t : Tree) (old new : World) (s : Status) (told : old.store.tree ≡ Some t) (done : s ≡ status.Done) where
   by_view : (a : Accepted) (c : CatalogueValue) (o : Option Row) (d : Definition) → d ≡ Ok a → loaded_or_refused t ≡ Ok c → refusal_of c a.query ≡ o → Finished (ending done_at_once (with_view t a.query c o)) old new s → IsShown d t old new
   by_view a c (Some fields) d defined loaded judged f = absurd (cc (f.status))
   by_view a c None d defined loaded judged f = shown t old new told a c d defined loaded judged (f.done ∙ ap (λ es. performed es (contents old)) (append_none (opening_effects (view_folder a.query.view_db) (files_of_view c a.query) (files_of t (view_folder a.query.view_db)))))
@@ -91,7 +91,7 @@ module _ (t : Tree) (old new : World) (s : Status) (told : old.0.tree ≡ Some t
   finished_shown (Ok a) f = by_catalogue a (loaded_or_refused t) (Ok a) refl refl f
 
 -- a run that was done finished
-pub done_finished : (c : Course) (bytes : List ℕ) (rest : Option (List ℕ)) (old new : World) (s : Status) → is_done_status s ≡ true → Did c bytes rest old new s → Finished (c.whole bytes) old new s
+pub done_finished : (c : Course) (bytes : List ℕ) (rest : Option (List ℕ)) (old new : World) (s : Status) → is_done_status s ≡ true → Did c bytes rest old new s → Finished (c.whole (lines_of bytes)) old new s
 done_finished c bytes rest old new status.Done e h = h
 done_finished c bytes rest old new status.SomeRefused e h = h
 done_finished c bytes rest old new status.Usage e h = h
@@ -104,5 +104,5 @@ done_finished c bytes rest old new status.NoMemory e h = absurd (cc)
 done_finished c bytes rest old new status.TooLong e h = absurd (cc)
 
 -- the run of `show` by its course
-pub did_show : (name : Text) (t : Tree) (d : Definition) (rest : Option (List ℕ)) (old new : World) (s : Status) → old.0.tree ≡ Some t → s ≡ status.Done → Did (course_of (Show name) t d) [] rest old new s → IsShown d t old new
+pub did_show : (name : Text) (t : Tree) (d : Definition) (rest : Option (List ℕ)) (old new : World) (s : Status) → old.store.tree ≡ Some t → s ≡ status.Done → Did (course_of (Show name) t d) [] rest old new s → IsShown d t old new
 did_show name t d rest old new s told done h = finished_shown t old new s told done d (done_finished (course_of (Show name) t d) [] rest old new s (ap is_done_status done) h)

@@ -1,29 +1,25 @@
 -- What a view gives over a catalogue, as its files.
-use Rattle.std.proofs.Common.{◌≡◌, ◌≢◌, Bool, true, false, List, [], ◌∷◌, ◌++◌, map, filter, Option, None, Some, refl, sym, ap, subst, cond, length}
-use Rattle.std.specs.Prelude.{option_map, option_to_list}
-use Rattle.std.specs.Option.{option_or}
+use Rattle.std.proofs.Common.{◌≡◌, ◌≢◌, Bool, true, false, List, [], ◌∷◌, ◌++◌, map, filter, Option, None, Some, refl, cond}
+use Rattle.std.specs.Prelude.{option_to_list}
 use Rattle.std.specs.List.{AllByRecursion, filter_map}
-use Rattle.std.specs.List.Sorted.{IsStrictlySortedBy}
-use Rattle.std.specs.Map.{keys_of}
-use Rattle.std.specs.Cmp.Lexicographic.{nat_list_cmp_total, lists_total}
-use Rattle.std.proofs.lemmas.List.{length-map}
 use Rattle.std.specs.declared.cmp.Ordering.{Ordering}
 use Rattle.std.specs.declared.cmp.Ordering.TheVariants.{Less, Equal, Greater}
 use Rattle.ss_text.specs.Texts.{Text, Row, text_cmp, text_eq, row_cmp}
 use Rattle.ss_text.specs.Ascending.{ascending, with_element, by_order}
-use Rattle.ss_text.proofs.AscendingLemmas.{ascending_ascends}
 use Rattle.schema_model.specs.Catalogue.{CatalogueValue}
 use Rattle.view_def.specs.Query.{Query}
-use Rattle.flow_law.specs.Facts.{Fact, illegal, conflict, facts_of, column_of}
+use Rattle.flow_law.specs.Facts.{Fact, illegal, conflict, facts_of, column_of, first_refusal, refusal_by}
 use Rattle.flow_law.specs.Tables.{TableValue}
 use Rattle.flow_law.specs.FactTables.{tables, fact_table, value_for}
-use Rattle.flow_law.specs.InOrder.{IsTable, AreTables}
-use Rattle.flow_law.specs.declared.shape.Shape.{Shape}
+use Rattle.flow_law.specs.InOrder.{AreTables}
+use Rattle.flow_law.proofs.FactTableLemmas.{tables_in_order}
 use Rattle.view_def.specs.declared.typed.Term.{Term}
 use Rattle.valuation_meaning.specs.Elements.{Valuation}
+use Rattle.valuation_meaning.specs.Terms.{Reading, value_of}
 use Rattle.valuation_meaning.specs.Valuations.{valuations}
 use Rattle.valuation_meaning.specs.Meaning.{facts, fact_of, values_of, shape_of, meaning}
-use Rattle.valuation_meaning.specs.Refusal.{refusal, first_fault}
+use Rattle.valuation_meaning.specs.Refusal.{refusal}
+use Rattle.valuation_meaning.specs.declared.evaluation.EvalFault.{EvalFault}
 use Rattle.valuation_meaning.specs.declared.evaluation.EvalFault.TheVariants as fault
 use Rattle.view_folder.specs.Files.{AreViewFiles}
 use Rattle.view_folder.proofs.OpeningLemmas.{are_view_files as tables_files}
@@ -58,30 +54,6 @@ module _ {A B : Type 0} (P : B → Type 0) (f : A → B) where
   all_mapped [] h = tt
   all_mapped (x ∷ xs) h = (h x, all_mapped xs h)
 
--- the tables of facts are in order
-keys_mapped : {K X : Type 0} (g : K → X) (ks : List K) → keys_of (map (λ (k : K). let entry : K × X = (k, g k) in entry) ks) ≡ ks
-keys_mapped g [] = refl
-keys_mapped g (k ∷ ks) = ap (λ t. k ∷ t) (keys_mapped g ks)
-
-fact_table_in_order : (fs : List Fact) → IsTable (fact_table fs)
-fact_table_in_order fs =
-    let columns : Row = ascending text_cmp (filter_map column_of fs) in
-    let keys : List Row = ascending row_cmp (map (λ (f : Fact). f.key) fs) in
-    record {
-      columns = ascending_ascends text_cmp nat_list_cmp_total (filter_map column_of fs);
-      keys = subst (IsStrictlySortedBy row_cmp) (sym (keys_mapped (λ (key : Row). map (value_for fs key) columns) keys)) (ascending_ascends row_cmp (lists_total nat_list_cmp_total) (map (λ (f : Fact). f.key) fs));
-      cells = all_mapped (λ (r : Row × Row). length r.1 ≡ length columns) (λ (key : Row). (key, map (value_for fs key) columns)) keys (λ key. length-map columns (value_for fs key));
-    }
-
-tables_in_order : (shape : Shape) (fs : List Fact) → AreTables (tables shape fs)
-unfolding tables
-tables_in_order shape fs =
-    let labels : List Text = option_to_list shape.label ++ map (λ (f : Fact). f.label) fs in
-    record {
-      labels = subst (IsStrictlySortedBy text_cmp) (sym (keys_mapped (λ (label : Text). fact_table (facts_of label fs)) (ascending text_cmp labels))) (ascending_ascends text_cmp nat_list_cmp_total labels);
-      tables = all_mapped (λ (p : Text × TableValue). IsTable p.1) (λ (label : Text). (label, fact_table (facts_of label fs))) (ascending text_cmp labels) (λ label. fact_table_in_order (facts_of label fs));
-    }
-
 pub meaning_in_order : (c : CatalogueValue) (q : Query) → AreTables (meaning c q)
 unfolding meaning
 meaning_in_order c q = tables_in_order (shape_of q) (facts c q)
@@ -92,16 +64,16 @@ unfolding files_of_view
 are_view_files c q = tables_files (shape_of q) (meaning c q) (meaning_in_order c q)
 
 -- each key of the facts has a text
-key_of_fact : (q : Query) (v : Valuation) → q.keys ≢ [] → (fact_of q v).key ≢ []
-key_of_fact q v ne e = ne (empty q.keys e)
+key_of_fact : (q : Query) (r : Reading) → q.keys ≢ [] → (fact_of q r).key ≢ []
+key_of_fact q r ne e = ne (empty q.keys e)
   where
-    empty : (ts : List Term) → values_of v ts ≡ [] → ts ≡ []
+    empty : (ts : List Term) → values_of r ts ≡ [] → ts ≡ []
     empty [] h = refl
     empty (t ∷ ts) h = absurd (cc)
 
 facts_keyed : (c : CatalogueValue) (q : Query) → q.keys ≢ [] → AllByRecursion (λ (f : Fact). f.key ≢ []) (facts c q)
 unfolding facts
-facts_keyed c q ne = all_mapped (λ (f : Fact). f.key ≢ []) (fact_of q) (valuations c q) (λ v. key_of_fact q v ne)
+facts_keyed c q ne = all_mapped (λ (f : Fact). f.key ≢ []) (λ (v : Valuation). fact_of q (value_of v)) (valuations c q) (λ v. key_of_fact q (value_of v) ne)
 
 table_keyed : (fs : List Fact) → AllByRecursion (λ (f : Fact). f.key ≢ []) fs → AllByRecursion (λ (r : Row × Row). r.0 ≢ []) (fact_table fs).rows
 table_keyed fs h =
@@ -114,9 +86,13 @@ meaning_fits c q h =
     all_mapped (λ (p : Text × TableValue). FitsShape (shape_of q) p.1) (λ label. (label, fact_table (facts_of label (facts c q)))) (ascending text_cmp (option_to_list (shape_of q).label ++ map (λ (f : Fact). f.label) (facts c q)))
     (λ label. record { some = h.columns; keys = table_keyed (facts_of label (facts c q)) (each_filtered (λ (f : Fact). f.key ≢ []) (λ (f : Fact). text_eq label f.label) (facts c q) (facts_keyed c q h.terms)) })
 
--- the fields of a refusal, where the first fault is known
-abbrev fields : Option IllegalLabel → Option Clash → Option Row
-fields label clash = option_or (option_map illegal_fields label) (option_map clash_fields clash)
+-- the fields of a refusal, where the fault is known
+module _ (i : Option IllegalLabel) (k : Option Clash) where
+  abbrev first_fault : Option EvalFault
+  first_fault = first_refusal fault.Illegal fault.Conflict i k
+
+  abbrev fields : Option Row
+  fields = first_refusal illegal_fields clash_fields i k
 
 no_fault : (i : Option IllegalLabel) (k : Option Clash) → first_fault i k ≡ None → fields i k ≡ None
 no_fault None None h = refl
@@ -134,13 +110,13 @@ clash_fault None (Some clash) e h = cc
 clash_fault (Some label) k e h = absurd (cc)
 
 pub not_refused : (c : CatalogueValue) (q : Query) → refusal c q ≡ None → refusal_of c q ≡ None
-unfolding refusal_of refusal
+unfolding refusal_of refusal refusal_by
 not_refused c q = no_fault (illegal (shape_of q) (facts c q)) (conflict (facts c q))
 
 pub refused_label : (c : CatalogueValue) (q : Query) (e : IllegalLabel) → refusal c q ≡ Some (fault.Illegal e) → refusal_of c q ≡ Some (illegal_fields e)
-unfolding refusal_of refusal
+unfolding refusal_of refusal refusal_by
 refused_label c q = label_fault (illegal (shape_of q) (facts c q)) (conflict (facts c q))
 
 pub refused_clash : (c : CatalogueValue) (q : Query) (e : Clash) → refusal c q ≡ Some (fault.Conflict e) → refusal_of c q ≡ Some (clash_fields e)
-unfolding refusal_of refusal
+unfolding refusal_of refusal refusal_by
 refused_clash c q = clash_fault (illegal (shape_of q) (facts c q)) (conflict (facts c q))

@@ -2,6 +2,8 @@
 use Rattle.std.specs.Prelude.{Bool, true, false, List, [], ◌∷◌, if◌then◌else◌, codes}
 use Rattle.ss_text.specs.Texts.{Text, text_eq}
 use Rattle.ss_text.specs.Label.{is_table_label}
+use Rattle.ss_top.specs.declared.status.Status.{Status}
+use Rattle.ss_top.specs.declared.status.Status.TheVariants as status
 
 -- a command with the name of a view, or words that are none of the forms
 pub data Asked : Type 0 where
@@ -42,3 +44,37 @@ only_reads Other = true
 abbrev pub reads_input : Asked → Bool
 reads_input (Maintain name) = true
 reads_input asked = false
+
+-- the statuses that any command can give
+abbrev pub can_always : Status → Bool
+can_always status.WriteFault = true
+can_always status.NoMemory = true
+can_always s = false
+
+abbrev pub can_check : Status → Bool
+can_check status.Done = true
+can_check status.BadDefinition = true
+can_check status.ReadFault = true
+can_check s = can_always s
+
+abbrev pub can_show : Status → Bool
+can_show status.BadCatalogue = true
+can_show status.NoView = true
+can_show s = can_check s
+
+abbrev pub can_maintain : Status → Bool
+can_maintain status.SomeRefused = true
+can_maintain status.TooLong = true
+can_maintain s = can_show s
+
+abbrev pub can_refuse : Status → Bool
+can_refuse status.Usage = true
+can_refuse s = can_always s
+
+-- the statuses that what is asked can give, whatever the store, the input and the output do
+abbrev pub can_end : Asked → Status → Bool
+can_end (Check name) s = can_check s
+can_end (Show name) s = can_show s
+can_end (Maintain name) s = can_maintain s
+can_end (Verify name) s = can_show s
+can_end Other s = can_refuse s

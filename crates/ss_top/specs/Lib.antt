@@ -11,4 +11,6 @@ pub mod Steps
 pub mod Course
 pub mod Runs
 pub mod Exit
+pub mod Places
 pub mod Promises
+pub mod Clauses

@@ -24,11 +24,6 @@ abbrev pub IsDefinition : Text → Option (List ℕ) → Definition → Type 0
 IsDefinition name None d = d ≡ Err (codes "no-definition" ∷ name ∷ [])
 IsDefinition name (Some bytes) d = IsRead bytes d
 
--- a definition is there to be judged
-pub record HasDefinition (name : Text) (t : Tree) : Type 0 where
-  pub definition : Definition
-  pub is : IsDefinition name (definition_bytes t name) definition
-
 abbrev pub halts : Row → Verdict → Reply OpenValue
 halts fields v = Halts (refuses fields ∷ []) v
 

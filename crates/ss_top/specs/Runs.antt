@@ -6,7 +6,7 @@ use Rattle.course.specs.Machine.{ending}
 use Rattle.ss_top.specs.Commands.{Asked, Check, Show, Maintain, Verify, Other}
 use Rattle.ss_top.specs.Printed.{tells_usage}
 use Rattle.ss_top.specs.Stages.{Definition}
-use Rattle.ss_top.specs.Opening.{IsDefinition, definition_bytes, HasDefinition, opening, done_at_once}
+use Rattle.ss_top.specs.Opening.{IsDefinition, definition_bytes, opening, done_at_once}
 use Rattle.ss_top.specs.Checking.{checked}
 use Rattle.ss_top.specs.Verifying.{verified}
 use Rattle.ss_top.specs.Answers.{step, finish}
@@ -21,20 +21,23 @@ IsAsked (Verify name) t d = IsDefinition name (definition_bytes t name) d
 IsAsked Other t d = Unit {0}
 
 -- the definition that is asked for is there to be judged
-abbrev pub IsDefined : Asked → Tree → Type 0
-IsDefined (Check name) t = HasDefinition name t
-IsDefined (Show name) t = HasDefinition name t
-IsDefined (Maintain name) t = HasDefinition name t
-IsDefined (Verify name) t = HasDefinition name t
-IsDefined Other t = Unit {0}
+pub record IsDefined (a : Asked) (t : Tree) : Type 0 where
+  pub definition : Definition
+  pub is : IsAsked a t definition
 
--- the course of a run
+-- and the course of a run with it
 abbrev pub course_of : Asked → Tree → Definition → Course
 course_of (Check name) t d = unread (checked d)
 course_of (Show name) t d = unread (ending done_at_once (opening t d))
 course_of (Maintain name) t d = by_lines step finish (opening t d)
 course_of (Verify name) t d = unread (verified t d)
 course_of Other t d = unread (record { effects = tells_usage ∷ []; status = verdict.Usage })
+
+-- this is the course of what is asked, over this tree
+pub record IsCourse (a : Asked) (t : Tree) (c : Course) : Type 0 where
+  pub definition : Definition
+  pub asked : IsAsked a t definition
+  pub course : c ≡ course_of a t definition
 
 -- the content is told, where it is wanted
 abbrev pub Told : {A : Type 0} → Bool → Option A → A → Type 0

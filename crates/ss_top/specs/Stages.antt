@@ -1,6 +1,5 @@
 -- What a definition, the source folders and a view over them are, or the fields of their refusals.
-use Rattle.std.specs.Prelude.{◌≡◌, ◌≢◌, ◌⊎◌, ℕ, List, Option, option_map, Result, Ok, Err}
-use Rattle.std.specs.Option.{option_or}
+use Rattle.std.specs.Prelude.{◌≡◌, ◌≢◌, ◌⊎◌, ℕ, List, Option, Result, Ok, Err}
 use Rattle.ss_text.specs.Texts.{Row}
 use Rattle.outside.specs.Tree.{Tree}
 use Rattle.schema_model.specs.Catalogue.{CatalogueValue}
@@ -13,7 +12,7 @@ use Rattle.ss_parser.specs.declared.fault.ParseFault.{ParseFault}
 use Rattle.ss_parser.specs.declared.fault.ParseFault.TheVariants as parse
 use Rattle.var_typing.specs.Typed.{typed}
 use Rattle.var_typing.specs.declared.fault.TypeFault.{TypeFault}
-use Rattle.flow_law.specs.Facts.{illegal, conflict}
+use Rattle.flow_law.specs.Facts.{refusal_by}
 use Rattle.valuation_meaning.specs.Meaning.{facts, shape_of, meaning}
 use Rattle.view_folder.specs.declared.file.File.{File}
 use Rattle.view_folder.specs.TableFiles.{table_files}
@@ -50,9 +49,9 @@ by_loading (Err f) = Err (load_fields f)
 unfoldable pub loaded_or_refused : Tree → Result CatalogueValue Row
 loaded_or_refused t = by_loading (loaded t)
 
--- the fields of the refusal of a view over a catalogue: an illegal label before any conflict
+-- the fields of the refusal of a view over a catalogue: of an illegal label, or else of a conflict
 unfoldable pub refusal_of : CatalogueValue → Query → Option Row
-refusal_of c q = option_or (option_map illegal_fields (illegal (shape_of q) (facts c q))) (option_map clash_fields (conflict (facts c q)))
+refusal_of c q = refusal_by illegal_fields clash_fields (shape_of q) (facts c q)
 
 -- the files of a view's tables over a catalogue
 unfoldable pub files_of_view : CatalogueValue → Query → List File

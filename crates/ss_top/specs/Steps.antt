@@ -1,5 +1,5 @@
 -- What the steps of a run answer, against the definitions.
-use Rattle.std.specs.Prelude.{◌≡◌, false, List, Option, None, Some, Result, Ok, Err}
+use Rattle.std.specs.Prelude.{◌≡◌, true, List, Option, None, Some, Result, Ok, Err}
 use Rattle.ss_text.specs.Texts.{Row}
 use Rattle.schema_model.specs.Catalogue.{CatalogueValue}
 use Rattle.view_def.specs.Query.{Query, query_of}
@@ -7,6 +7,11 @@ use Rattle.view_def.specs.Tree.{tree_of}
 use Rattle.view_folder.specs.declared.file.File.{File}
 use Rattle.effects.specs.Effects.{World, contents, performed, Partly}
 use Rattle.effects.specs.declared.stop.Stop.{Stop}
+use Rattle.effects.specs.declared.stop.Stop.TheVariants as stop
+use Rattle.outside.specs.Reading.{OnlyRead}
+use Rattle.course.specs.declared.status.Verdict.{Verdict}
+use Rattle.course.specs.declared.status.Halt.{Halt}
+use Rattle.course.specs.declared.status.Halt.TheVariants as halt
 use Rattle.course.specs.Machine.{Reply, Goes, Halts, effects_of}
 use Rattle.schema_model.specs.declared.change.Change.{Change}
 use Rattle.view_session.specs.declared.fault.OpenFault.{OpenFault}
@@ -14,7 +19,7 @@ use Rattle.view_session.specs.declared.fault.OpenFault.TheVariants as open_fault
 use Rattle.view_session.specs.declared.fault.Refused.{Refused}
 use Rattle.view_session.specs.declared.fault.Refused.TheVariants as refused
 use Rattle.ss_print.specs.Fields.{refusal_fields, illegal_fields, clash_fields}
-use Rattle.ss_top.specs.Course.{is_done}
+use Rattle.ss_top.specs.Course.{number, is_refused_status}
 use Rattle.ss_top.specs.Open.{OpenValue, just_opened}
 use Rattle.ss_top.specs.Stages.{Definition}
 use Rattle.ss_top.specs.declared.definition.Understood.{Understood}
@@ -35,7 +40,7 @@ definition_of (understood.Refused fields) = Err fields
 
 -- a catalogue, or the fields of its refusal
 abbrev pub loading_of : Loading → Result CatalogueValue Row
-loading_of (loading.Catalogue c) = Ok c
+loading_of (loading.Catalogue c) = Ok c.databases
 loading_of (loading.Refused fields) = Err fields
 
 -- the files of a view, or the fields of its refusal
@@ -65,10 +70,29 @@ IsFieldsOf g (refused.Illegal e) row = row ≡ illegal_fields e
 IsFieldsOf g (refused.Conflict e) row = row ≡ clash_fields e
 IsFieldsOf g refused.NoMemory row = ⊥
 
--- a run that an opening ended was not done
-abbrev pub IsNoDone : Opened → Type 0
-IsNoDone (opened_as.Open v) = Unit {0}
-IsNoDone (opened_as.Ended v) = is_done v ≡ false
+-- a run that an opening ended was refused
+abbrev pub IsRefusal : Opened → Type 0
+IsRefusal (opened_as.Open v) = Unit {0}
+IsRefusal (opened_as.Ended v) = is_refused_status (number v) ≡ true
+
+-- nothing was done: the store was only read, and nothing was printed
+pub record Idle (old new : World) : Type 0 where
+  pub store : OnlyRead old.store new.store
+  pub output : new.output ≡ old.output
+
+-- a step that stopped as the store could not be read did nothing
+abbrev pub IdleStop : Stop → World → World → Type 0
+IdleStop stop.ReadFault old new = Idle old new
+IdleStop e old new = Unit {0}
+
+abbrev pub IdleUnread : {A : Type 0} → Result A Stop → World → World → Type 0
+IdleUnread (Ok a) old new = Unit {0}
+IdleUnread (Err e) old new = IdleStop e old new
+
+-- and so did a whole run
+abbrev pub IdleRun : Result Verdict Halt → World → World → Type 0
+IdleRun (Err (halt.Stopped e)) old new = IdleStop e old new
+IdleRun r old new = Unit {0}
 
 -- what an opening did
 abbrev pub Opens : Reply OpenValue → World → World → Result Opened Stop → Type 0

@@ -1,12 +1,16 @@
 //! The command `check`.
-ghost use Rattle.std.specs.Prelude.{◌≡◌, Some, IfOk};
+ghost use Rattle.std.specs.Prelude.{◌≡◌, true, Some, IfOk};
+ghost use Rattle.effects.specs.Effects.{world_of};
 ghost use Rattle.outside.specs.Reading.{OnlyRead};
 ghost use Rattle.outside.specs.Tree.{Tree};
 ghost use Rattle.effects.specs.Blame.{Blames};
 ghost use Rattle.course.specs.Machine.{Ended};
 ghost use Rattle.ss_top.specs.Stages.{Definition};
-ghost use Rattle.ss_top.specs.Opening.{IsDefinition, definition_bytes, HasDefinition};
+ghost use Rattle.ss_top.specs.Opening.{IsDefinition, definition_bytes};
 ghost use Rattle.ss_top.specs.Checking.{checked};
+ghost use Rattle.ss_top.specs.Commands.{can_check};
+ghost use Rattle.ss_top.specs.Course.{number};
+ghost use Rattle.ss_top.specs.Steps.{IdleUnread};
 
 use crate::definition::{Understood, read_definition};
 use crate::printed::refuse;
@@ -18,17 +22,18 @@ use std::alloc::Global;
 use view_def::view_text;
 
 // Prints the canonical text of a definition.
-#[tactic(auto, using(effects::proofs::Following::following, outside::proofs::ReadingLemmas::only_read_then, outside::proofs::ReadingLemmas::only_read_nothing))]
+#[tactic(auto, using(effects::proofs::Following::following, outside::proofs::ReadingLemmas::only_read_then, outside::proofs::ReadingLemmas::only_read_nothing, crate::proofs::IdleLemmas::idle_read, crate::proofs::IdleLemmas::idle_print))]
 pub(crate) fn check<F: Folders, K: Sink>(
     alloc: Global,
     store: &mut F,
     output: &mut K,
     name: &Text,
 ) -> Result<Verdict, Stop>
-    ensures ended { (t : Tree) (d : Definition) → (F.state store.old).tree ≡ Some t → IsDefinition name.now (definition_bytes t name.now) d → Ended (checked d) (F.state store.old, K.state output.old) (F.state store.new, K.state output.new) result }
-    ensures defined { IfOk result (λ _. (t : Tree) → (F.state store.old).tree ≡ Some t → HasDefinition name.now t) }
+    ensures ended { (t : Tree) (d : Definition) → (F.state store.old).tree ≡ Some t → IsDefinition name.now (definition_bytes t name.now) d → Ended (checked d) (world_of (F.state store.old) (K.state output.old)) (world_of (F.state store.new) (K.state output.new)) result }
+    ensures can { IfOk result (λ v. can_check (number v) ≡ true) }
+    ensures idle { IdleUnread result (world_of (F.state store.old) (K.state output.old)) (world_of (F.state store.new) (K.state output.new)) }
     ensures only_read { OnlyRead (F.state store.old) (F.state store.new) }
-    ensures blames { Blames (F.state store.old, K.state output.old) (F.state store.new, K.state output.new) result }
+    ensures blames { Blames (world_of (F.state store.old) (K.state output.old)) (world_of (F.state store.new) (K.state output.new)) result }
 {
     match read_definition(alloc, store, name)? {
         Understood::Refused(fields) => {

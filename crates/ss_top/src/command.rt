@@ -1,15 +1,17 @@
 //! The command that the words ask for.
-ghost use Rattle.std.specs.Prelude.{◌≡◌, List, ℕ, [], ◌∷◌, Some, true, false, IfOk};
+ghost use Rattle.std.specs.Prelude.{◌≡◌, ◌≢◌, List, ℕ, [], ◌∷◌, Some, true, false, IfOk, IfErr, OnErr};
+ghost use Rattle.effects.specs.Effects.{world_of};
 ghost use Rattle.outside.specs.Reading.{OnlyRead};
 ghost use Rattle.outside.specs.Tree.{Tree};
 ghost use Rattle.course.specs.Machine.{Ended, BlamesRun};
 ghost use Rattle.course.specs.declared.status.Verdict.TheVariants.{Usage};
 ghost use Rattle.effects.specs.Blame.{Blames};
 ghost use Rattle.ss_top.specs.Printed.{tells_usage};
-ghost use Rattle.ss_top.specs.Commands.{Asked, asked_of, command_named, uses_store, only_reads, reads_input};
+ghost use Rattle.ss_top.specs.Commands.{Asked, asked_of, command_named, uses_store, only_reads, reads_input, can_end};
 ghost use Rattle.ss_top.specs.Stages.{Definition};
-ghost use Rattle.ss_top.specs.Course.{RanBy, IsWholeInput};
-ghost use Rattle.ss_top.specs.Runs.{IsAsked, IsDefined, course_of, Told};
+ghost use Rattle.ss_top.specs.Course.{RanBy, RanSome, Took, status_of, IsWholeInput};
+ghost use Rattle.ss_top.specs.Runs.{IsAsked, course_of, Told};
+ghost use Rattle.ss_top.specs.Steps.{IdleRun};
 
 use crate::check::check;
 use crate::maintain::maintain;
@@ -19,17 +21,21 @@ use crate::verify::verify;
 use course::{Halt, Verdict};
 use effects::Stop;
 use outside::{Folders, Sink, Source};
-use ss_text::{Text, table_label_legal};
+use ss_text::{Steps, Text, table_label_legal};
 use std::alloc::Global;
+use std::sync::ledger::Ledger;
 
 // Prints which words are asked for.
+#[tactic(auto, using(crate::proofs::IdleLemmas::sink_no_read))]
 fn usage<F: Folders, K: Sink>(
     alloc: Global,
     _store: &mut F,
     output: &mut K,
 ) -> Result<Verdict, Stop>
-    ensures ended { Ended (record { effects = tells_usage ∷ []; status = Usage }) (F.state _store.old, K.state output.old) (F.state _store.new, K.state output.new) result }
-    ensures blames { Blames (F.state _store.old, K.state output.old) (F.state _store.new, K.state output.new) result }
+    ensures ended { Ended (record { effects = tells_usage ∷ []; status = Usage }) (world_of (F.state _store.old) (K.state output.old)) (world_of (F.state _store.new) (K.state output.new)) result }
+    ensures blames { Blames (world_of (F.state _store.old) (K.state output.old)) (world_of (F.state _store.new) (K.state output.new)) result }
+    ensures no_read { IfErr result (λ e. e ≢ Stop.ReadFault) }
+    ensures verdict { IfOk result (λ v. v ≡ Usage) }
     ensures store { F.state _store.new ≡ F.state _store.old }
 {
     tell_usage(alloc, output)?;
@@ -37,17 +43,23 @@ fn usage<F: Folders, K: Sink>(
 }
 
 // Does what a word asks for with a legal name.
-fn run_named<F: Folders, S: Source, K: Sink>(
+#[tactic(auto, using(crate::proofs::RunLemmas::ran_some, crate::proofs::RunLemmas::stopped_some, crate::proofs::RunLemmas::stop_can_check, crate::proofs::RunLemmas::stop_can_show, crate::proofs::RunLemmas::stop_can_refuse, crate::proofs::RunLemmas::idle_other))]
+fn run_named<F: Folders, S: Source, K: Sink, L: Ledger>(
     alloc: Global,
     word: &Text,
     name: &Text,
     store: &mut F,
     input: &mut S,
     output: &mut K,
+    steps: &mut Steps<L>,
 ) -> Result<Verdict, Halt>
-    ensures ran { (t : Tree) (bytes : List ℕ) (d : Definition) → Told (uses_store (command_named word.now name.now)) (F.state store.old).tree t → Told (reads_input (command_named word.now name.now)) (S.rest input.old) bytes → IsAsked (command_named word.now name.now) t d → RanBy (course_of (command_named word.now name.now) t d) bytes (S.rest input.new) (F.state store.old, K.state output.old) (F.state store.new, K.state output.new) result }
-    ensures blames { BlamesRun (S.faults input.old) (S.faults input.new) (F.state store.old, K.state output.old) (F.state store.new, K.state output.new) result }
-    ensures defined { IfOk result (λ _. (t : Tree) → Told (uses_store (command_named word.now name.now)) (F.state store.old).tree t → IsDefined (command_named word.now name.now) t) }
+    ensures ran { (t : Tree) (bytes : List ℕ) (d : Definition) → Told (uses_store (command_named word.now name.now)) (F.state store.old).tree t → Told (reads_input (command_named word.now name.now)) (S.rest input.old) bytes → IsAsked (command_named word.now name.now) t d → RanBy (course_of (command_named word.now name.now) t d) bytes (S.rest input.new) (world_of (F.state store.old) (K.state output.old)) (world_of (F.state store.new) (K.state output.new)) result }
+    ensures blames { BlamesRun (S.faults input.old) (S.faults input.new) (world_of (F.state store.old) (K.state output.old)) (world_of (F.state store.new) (K.state output.new)) result }
+    ensures steps { steps.new ≡ steps.old }
+    ensures can { can_end (command_named word.now name.now) (status_of result) ≡ true }
+    ensures some { (t : Tree) (d : Definition) → Told (uses_store (command_named word.now name.now)) (F.state store.old).tree t → IsAsked (command_named word.now name.now) t d → RanSome (course_of (command_named word.now name.now) t d) (world_of (F.state store.old) (K.state output.old)) (world_of (F.state store.new) (K.state output.new)) result }
+    ensures took { (t : Tree) (bytes : List ℕ) (d : Definition) → Told (uses_store (command_named word.now name.now)) (F.state store.old).tree t → reads_input (command_named word.now name.now) ≡ true → S.rest input.old ≡ Some bytes → IsAsked (command_named word.now name.now) t d → OnErr result (Took (course_of (command_named word.now name.now) t d) bytes (S.rest input.new) (world_of (F.state store.old) (K.state output.old)) (world_of (F.state store.new) (K.state output.new))) }
+    ensures idle { IdleRun result (world_of (F.state store.old) (K.state output.old)) (world_of (F.state store.new) (K.state output.new)) }
     ensures whole { (bytes : List ℕ) → reads_input (command_named word.now name.now) ≡ true → S.rest input.old ≡ Some bytes → IsWholeInput bytes (S.rest input.new) result }
     ensures only_read { only_reads (command_named word.now name.now) ≡ true → OnlyRead (F.state store.old) (F.state store.new) }
     ensures store { uses_store (command_named word.now name.now) ≡ false → F.state store.new ≡ F.state store.old }
@@ -63,7 +75,7 @@ fn run_named<F: Folders, S: Source, K: Sink>(
         return Ok(verdict);
     }
     if word.as_slice() == b"maintain".as_slice() {
-        return maintain(alloc, store, input, output, name);
+        return maintain(alloc, store, input, output, name, steps);
     }
     if word.as_slice() == b"verify".as_slice() {
         let verdict = verify(alloc, store, output, name)?;
@@ -74,16 +86,21 @@ fn run_named<F: Folders, S: Source, K: Sink>(
 }
 
 // Does what the words ask for.
-pub(crate) fn run_words<F: Folders, S: Source, K: Sink>(
+pub(crate) fn run_words<F: Folders, S: Source, K: Sink, L: Ledger>(
     alloc: Global,
     words: &[Text],
     store: &mut F,
     input: &mut S,
     output: &mut K,
+    steps: &mut Steps<L>,
 ) -> Result<Verdict, Halt>
-    ensures ran { (t : Tree) (bytes : List ℕ) (d : Definition) → Told (uses_store (asked_of words.now)) (F.state store.old).tree t → Told (reads_input (asked_of words.now)) (S.rest input.old) bytes → IsAsked (asked_of words.now) t d → RanBy (course_of (asked_of words.now) t d) bytes (S.rest input.new) (F.state store.old, K.state output.old) (F.state store.new, K.state output.new) result }
-    ensures blames { BlamesRun (S.faults input.old) (S.faults input.new) (F.state store.old, K.state output.old) (F.state store.new, K.state output.new) result }
-    ensures defined { IfOk result (λ _. (t : Tree) → Told (uses_store (asked_of words.now)) (F.state store.old).tree t → IsDefined (asked_of words.now) t) }
+    ensures ran { (t : Tree) (bytes : List ℕ) (d : Definition) → Told (uses_store (asked_of words.now)) (F.state store.old).tree t → Told (reads_input (asked_of words.now)) (S.rest input.old) bytes → IsAsked (asked_of words.now) t d → RanBy (course_of (asked_of words.now) t d) bytes (S.rest input.new) (world_of (F.state store.old) (K.state output.old)) (world_of (F.state store.new) (K.state output.new)) result }
+    ensures blames { BlamesRun (S.faults input.old) (S.faults input.new) (world_of (F.state store.old) (K.state output.old)) (world_of (F.state store.new) (K.state output.new)) result }
+    ensures steps { steps.new ≡ steps.old }
+    ensures can { can_end (asked_of words.now) (status_of result) ≡ true }
+    ensures some { (t : Tree) (d : Definition) → Told (uses_store (asked_of words.now)) (F.state store.old).tree t → IsAsked (asked_of words.now) t d → RanSome (course_of (asked_of words.now) t d) (world_of (F.state store.old) (K.state output.old)) (world_of (F.state store.new) (K.state output.new)) result }
+    ensures took { (t : Tree) (bytes : List ℕ) (d : Definition) → Told (uses_store (asked_of words.now)) (F.state store.old).tree t → reads_input (asked_of words.now) ≡ true → S.rest input.old ≡ Some bytes → IsAsked (asked_of words.now) t d → OnErr result (Took (course_of (asked_of words.now) t d) bytes (S.rest input.new) (world_of (F.state store.old) (K.state output.old)) (world_of (F.state store.new) (K.state output.new))) }
+    ensures idle { IdleRun result (world_of (F.state store.old) (K.state output.old)) (world_of (F.state store.new) (K.state output.new)) }
     ensures whole { (bytes : List ℕ) → reads_input (asked_of words.now) ≡ true → S.rest input.old ≡ Some bytes → IsWholeInput bytes (S.rest input.new) result }
     ensures only_read { only_reads (asked_of words.now) ≡ true → OnlyRead (F.state store.old) (F.state store.new) }
     ensures store { uses_store (asked_of words.now) ≡ false → F.state store.new ≡ F.state store.old }
@@ -92,7 +109,7 @@ pub(crate) fn run_words<F: Folders, S: Source, K: Sink>(
 {
     match words {
         [word, name] if table_label_legal(name) => {
-            run_named(alloc, word, name, store, input, output)
+            run_named(alloc, word, name, store, input, output, steps)
         }
         _ => {
             let verdict = usage(alloc, store, output)?;

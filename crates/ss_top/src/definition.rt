@@ -3,7 +3,7 @@ ghost use Rattle.std.specs.Prelude.{◌≡◌, ◌≢◌, ◌∷◌, ◌++◌, [
 ghost use Rattle.ss_text.specs.Texts.{Row};
 ghost use Rattle.outside.specs.Reading.{OnlyRead};
 ghost use Rattle.outside.specs.Tree.{Tree};
-ghost use Rattle.effects.specs.Effects.{Does};
+ghost use Rattle.effects.specs.Effects.{Does, world_of};
 ghost use Rattle.effects.specs.Blame.{StoreBlames};
 ghost use Rattle.view_def.specs.Tree.{tree_of};
 ghost use Rattle.ss_top.specs.Stages;
@@ -39,8 +39,7 @@ pub(crate) fn read_definition<F: Folders>(
     name: &Text,
 ) -> Result<Understood, Stop>
     ensures told { IfOk result (λ r. (t : Tree) (d : Stages.Definition) → (F.state store.old).tree ≡ Some t → IsDefinition name.now (definition_bytes t name.now) d → definition_of r ≡ d) }
-    ensures defined { IfOk result (λ r. (t : Tree) → (F.state store.old).tree ≡ Some t → IsDefinition name.now (definition_bytes t name.now) (definition_of r)) }
-    ensures does { (o : _) → Does [] (F.state store.old, o) (F.state store.new, o) result }
+    ensures does { (o : _) → Does [] (world_of (F.state store.old) o) (world_of (F.state store.new) o) result }
     ensures only_read { OnlyRead (F.state store.old) (F.state store.new) }
     ensures blames { StoreBlames (F.state store.old) (F.state store.new) result }
 {
@@ -59,10 +58,9 @@ pub(crate) fn read_definition<F: Folders>(
 }
 
 // What the bytes of a definition are read as.
-#[tactic(auto, using(crate::proofs::DefinitionLemmas::read_as, crate::proofs::DefinitionLemmas::refused_as, crate::proofs::DefinitionLemmas::is_read, crate::proofs::DefinitionLemmas::is_refused))]
+#[tactic(auto, using(crate::proofs::DefinitionLemmas::read_as, crate::proofs::DefinitionLemmas::refused_as))]
 fn understand(alloc: Global, bytes: &[u8]) -> Result<Understood, NoMemory>
-    ensures only { IfOk result (λ r. (d : Stages.Definition) → IsRead bytes.now d → definition_of r ≡ d) }
-    ensures read { IfOk result (λ r. IsRead bytes.now (definition_of r)) }
+    ensures { IfOk result (λ r. (d : Stages.Definition) → IsRead bytes.now d → definition_of r ≡ d) }
 {
     match parse(alloc, bytes) {
         Ok(text) => {

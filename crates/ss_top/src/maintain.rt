@@ -1,34 +1,43 @@
 //! The command `maintain`.
-ghost use Rattle.std.specs.Prelude.{◌≡◌, List, ℕ, Some, IfOk};
+ghost use Rattle.std.specs.Prelude.{◌≡◌, true, List, ℕ, Some, OnErr};
+ghost use Rattle.effects.specs.Effects.{world_of};
 ghost use Rattle.outside.specs.Tree.{Tree};
 ghost use Rattle.course.specs.Machine.{BlamesRun};
 ghost use Rattle.ss_top.specs.Stages.{Definition};
-ghost use Rattle.ss_top.specs.Opening.{IsDefinition, definition_bytes, HasDefinition, opening};
+ghost use Rattle.ss_top.specs.Opening.{IsDefinition, definition_bytes, opening};
 ghost use Rattle.ss_top.specs.Answers.{step, finish};
-ghost use Rattle.ss_top.specs.Course.{RanBy, by_lines, IsWholeInput};
+ghost use Rattle.ss_top.specs.Commands.{can_maintain};
+ghost use Rattle.ss_top.specs.Steps.{IdleRun};
+ghost use Rattle.ss_top.specs.Course.{RanBy, RanSome, Took, by_lines, status_of, IsWholeInput};
 
 use crate::opening::{Opened, open};
 use course::{Halt, Verdict, drive};
 use outside::{Folders, Sink, Source};
-use ss_text::Text;
+use ss_text::{Steps, Text};
 use std::alloc::Global;
+use std::sync::ledger::Ledger;
 
 // Opens the view, and answers the lines of the input.
-#[tactic(auto, using(crate::proofs::MaintainLemmas::opening_ended, crate::proofs::MaintainLemmas::opening_stopped, crate::proofs::MaintainLemmas::opening_drove, crate::proofs::MaintainLemmas::drove_whole, crate::proofs::MaintainLemmas::ended_whole, crate::proofs::MaintainLemmas::blamed_later))]
-pub(crate) fn maintain<F: Folders, S: Source, K: Sink>(
+#[tactic(auto, using(crate::proofs::MaintainLemmas::opening_ended, crate::proofs::MaintainLemmas::opening_stopped, crate::proofs::MaintainLemmas::opening_drove, crate::proofs::MaintainLemmas::drove_whole, crate::proofs::MaintainLemmas::ended_whole, crate::proofs::MaintainLemmas::blamed_later, crate::proofs::MaintainLemmas::some_ended, crate::proofs::MaintainLemmas::some_stopped, crate::proofs::MaintainLemmas::some_drove, crate::proofs::MaintainLemmas::took_nothing, crate::proofs::MaintainLemmas::refused_can, crate::proofs::MaintainLemmas::stopped_can, crate::proofs::IdleLemmas::idle_drove))]
+pub(crate) fn maintain<F: Folders, S: Source, K: Sink, L: Ledger>(
     alloc: Global,
     store: &mut F,
     input: &mut S,
     output: &mut K,
     name: &Text,
+    steps: &mut Steps<L>,
 ) -> Result<Verdict, Halt>
-    ensures ran { (t : Tree) (bytes : List ℕ) (d : Definition) → (F.state store.old).tree ≡ Some t → S.rest input.old ≡ Some bytes → IsDefinition name.now (definition_bytes t name.now) d → RanBy (by_lines step finish (opening t d)) bytes (S.rest input.new) (F.state store.old, K.state output.old) (F.state store.new, K.state output.new) result }
-    ensures defined { IfOk result (λ _. (t : Tree) → (F.state store.old).tree ≡ Some t → HasDefinition name.now t) }
+    ensures ran { (t : Tree) (bytes : List ℕ) (d : Definition) → (F.state store.old).tree ≡ Some t → S.rest input.old ≡ Some bytes → IsDefinition name.now (definition_bytes t name.now) d → RanBy (by_lines step finish (opening t d)) bytes (S.rest input.new) (world_of (F.state store.old) (K.state output.old)) (world_of (F.state store.new) (K.state output.new)) result }
+    ensures can { can_maintain (status_of result) ≡ true }
+    ensures some { (t : Tree) (d : Definition) → (F.state store.old).tree ≡ Some t → IsDefinition name.now (definition_bytes t name.now) d → RanSome (by_lines step finish (opening t d)) (world_of (F.state store.old) (K.state output.old)) (world_of (F.state store.new) (K.state output.new)) result }
+    ensures took { (t : Tree) (bytes : List ℕ) (d : Definition) → (F.state store.old).tree ≡ Some t → S.rest input.old ≡ Some bytes → IsDefinition name.now (definition_bytes t name.now) d → OnErr result (Took (by_lines step finish (opening t d)) bytes (S.rest input.new) (world_of (F.state store.old) (K.state output.old)) (world_of (F.state store.new) (K.state output.new))) }
+    ensures idle { IdleRun result (world_of (F.state store.old) (K.state output.old)) (world_of (F.state store.new) (K.state output.new)) }
     ensures whole { (bytes : List ℕ) → S.rest input.old ≡ Some bytes → IsWholeInput bytes (S.rest input.new) result }
-    ensures blames { BlamesRun (S.faults input.old) (S.faults input.new) (F.state store.old, K.state output.old) (F.state store.new, K.state output.new) result }
+    ensures blames { BlamesRun (S.faults input.old) (S.faults input.new) (world_of (F.state store.old) (K.state output.old)) (world_of (F.state store.new) (K.state output.new)) result }
+    ensures steps { steps.new ≡ steps.old }
 {
     match open(alloc, store, output, name)? {
-        Opened::Open(mut view) => drive(alloc, &mut view, store, input, output),
+        Opened::Open(mut view) => drive(alloc, &mut view, store, input, output, steps),
         Opened::Ended(verdict) => Ok(verdict),
     }
 }

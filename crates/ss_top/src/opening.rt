@@ -1,12 +1,13 @@
 //! Opens a view.
 ghost use Rattle.std.specs.Prelude.{◌≡◌, ◌∷◌, [], List, Some, IfOk};
+ghost use Rattle.effects.specs.Effects.{world_of};
 ghost use Rattle.outside.specs.Tree.{Tree};
 ghost use Rattle.effects.specs.Blame.{Blames};
 ghost use Rattle.view_def.specs.Query.{query_of};
 ghost use Rattle.ss_top.specs.Stages.{refusal_of, loaded_or_refused};
 ghost use Rattle.ss_top.specs.Stages.{Definition};
-ghost use Rattle.ss_top.specs.Opening.{IsDefinition, definition_bytes, HasDefinition, opening, with_catalogue, with_view};
-ghost use Rattle.ss_top.specs.Steps.{Opens, Views, IsOpenFieldsOf, IsNoDone};
+ghost use Rattle.ss_top.specs.Opening.{IsDefinition, definition_bytes, opening, with_catalogue, with_view};
+ghost use Rattle.ss_top.specs.Steps.{Opens, Views, IsOpenFieldsOf, IsRefusal, IdleUnread};
 
 use crate::accepted;
 use crate::definition::{Understood, read_definition};
@@ -37,17 +38,17 @@ pub(crate) enum Viewing {
 }
 
 // Opens the view of this name: reads what it stands on, writes its folder and prints that it did.
-#[tactic(auto, using(effects::proofs::Following::following, crate::proofs::OpeningLemmas::nothing_opened))]
+#[tactic(auto, using(effects::proofs::Following::following, crate::proofs::OpeningLemmas::nothing_opened, outside::proofs::ReadingLemmas::only_read_then, outside::proofs::ReadingLemmas::only_read_nothing, crate::proofs::IdleLemmas::idle_read, crate::proofs::IdleLemmas::idle_print, crate::proofs::IdleLemmas::idle_later))]
 pub(crate) fn open<F: Folders, K: Sink>(
     alloc: Global,
     store: &mut F,
     output: &mut K,
     name: &Text,
 ) -> Result<Opened, Stop>
-    ensures opens { (t : Tree) (d : Definition) → (F.state store.old).tree ≡ Some t → IsDefinition name.now (definition_bytes t name.now) d → Opens (opening t d) (F.state store.old, K.state output.old) (F.state store.new, K.state output.new) result }
-    ensures defined { IfOk result (λ _. (t : Tree) → (F.state store.old).tree ≡ Some t → HasDefinition name.now t) }
-    ensures refused { IfOk result IsNoDone }
-    ensures blames { Blames (F.state store.old, K.state output.old) (F.state store.new, K.state output.new) result }
+    ensures opens { (t : Tree) (d : Definition) → (F.state store.old).tree ≡ Some t → IsDefinition name.now (definition_bytes t name.now) d → Opens (opening t d) (world_of (F.state store.old) (K.state output.old)) (world_of (F.state store.new) (K.state output.new)) result }
+    ensures refused { IfOk result IsRefusal }
+    ensures idle { IdleUnread result (world_of (F.state store.old) (K.state output.old)) (world_of (F.state store.new) (K.state output.new)) }
+    ensures blames { Blames (world_of (F.state store.old) (K.state output.old)) (world_of (F.state store.new) (K.state output.new)) result }
 {
     match read_definition(alloc, store, name)? {
         Understood::Refused(fields) => {
@@ -62,16 +63,17 @@ pub(crate) fn open<F: Folders, K: Sink>(
 }
 
 // Opens a view over the source relations.
-#[tactic(auto, using(effects::proofs::Following::following, crate::proofs::OpeningLemmas::nothing_opened))]
+#[tactic(auto, using(effects::proofs::Following::following, crate::proofs::OpeningLemmas::nothing_opened, outside::proofs::ReadingLemmas::only_read_then, outside::proofs::ReadingLemmas::only_read_nothing, crate::proofs::IdleLemmas::idle_read, crate::proofs::IdleLemmas::idle_print, crate::proofs::IdleLemmas::idle_later))]
 fn open_view<F: Folders, K: Sink>(
     alloc: Global,
     store: &mut F,
     output: &mut K,
     definition: accepted::Definition,
 ) -> Result<Opened, Stop>
-    ensures opens { (t : Tree) → (F.state store.old).tree ≡ Some t → Opens (with_catalogue t (query_of definition.view.value) (loaded_or_refused t)) (F.state store.old, K.state output.old) (F.state store.new, K.state output.new) result }
-    ensures refused { IfOk result IsNoDone }
-    ensures blames { Blames (F.state store.old, K.state output.old) (F.state store.new, K.state output.new) result }
+    ensures opens { (t : Tree) → (F.state store.old).tree ≡ Some t → Opens (with_catalogue t (query_of definition.view.value) (loaded_or_refused t)) (world_of (F.state store.old) (K.state output.old)) (world_of (F.state store.new) (K.state output.new)) result }
+    ensures refused { IfOk result IsRefusal }
+    ensures idle { IdleUnread result (world_of (F.state store.old) (K.state output.old)) (world_of (F.state store.new) (K.state output.new)) }
+    ensures blames { Blames (world_of (F.state store.old) (K.state output.old)) (world_of (F.state store.new) (K.state output.new)) result }
 {
     match load_sources(alloc, store)? {
         Loading::Refused(fields) => {
@@ -86,7 +88,7 @@ fn open_view<F: Folders, K: Sink>(
 }
 
 // Opens a view over a catalogue.
-#[tactic(auto, using(effects::proofs::Following::following, crate::proofs::OpeningLemmas::nothing_opened))]
+#[tactic(auto, using(effects::proofs::Following::following, crate::proofs::OpeningLemmas::nothing_opened, outside::proofs::ReadingLemmas::only_read_then, outside::proofs::ReadingLemmas::only_read_nothing, crate::proofs::IdleLemmas::idle_read, crate::proofs::IdleLemmas::idle_print, crate::proofs::IdleLemmas::idle_later))]
 fn open_session<F: Folders, K: Sink>(
     alloc: Global,
     store: &mut F,
@@ -94,9 +96,10 @@ fn open_session<F: Folders, K: Sink>(
     definition: accepted::Definition,
     catalogue: Catalogue,
 ) -> Result<Opened, Stop>
-    ensures opens { (t : Tree) → (F.state store.old).tree ≡ Some t → Opens (with_view t (query_of definition.view.value) catalogue (refusal_of catalogue (query_of definition.view.value))) (F.state store.old, K.state output.old) (F.state store.new, K.state output.new) result }
-    ensures refused { IfOk result IsNoDone }
-    ensures blames { Blames (F.state store.old, K.state output.old) (F.state store.new, K.state output.new) result }
+    ensures opens { (t : Tree) → (F.state store.old).tree ≡ Some t → Opens (with_view t (query_of definition.view.value) catalogue.databases (refusal_of catalogue.databases (query_of definition.view.value))) (world_of (F.state store.old) (K.state output.old)) (world_of (F.state store.new) (K.state output.new)) result }
+    ensures refused { IfOk result IsRefusal }
+    ensures idle { IdleUnread result (world_of (F.state store.old) (K.state output.old)) (world_of (F.state store.new) (K.state output.new)) }
+    ensures blames { Blames (world_of (F.state store.old) (K.state output.old)) (world_of (F.state store.new) (K.state output.new)) result }
 {
     match view_over(alloc, definition, catalogue)? {
         Viewing::Refused(fields) => {
@@ -117,7 +120,7 @@ fn view_over(
     definition: accepted::Definition,
     catalogue: Catalogue,
 ) -> Result<Viewing, NoMemory>
-    ensures { IfOk result (λ r. Views r (query_of definition.view.value) catalogue (refusal_of catalogue (query_of definition.view.value))) }
+    ensures { IfOk result (λ r. Views r (query_of definition.view.value) catalogue.databases (refusal_of catalogue.databases (query_of definition.view.value))) }
 {
     let view_db = definition.view.view_db.copy()?;
     match Session::open(alloc, catalogue, definition.view) {

@@ -1,7 +1,7 @@
 //! What a run prints.
 ghost use Rattle.std.specs.Prelude.{◌≡◌, ◌≢◌, ◌++◌, [], ◌∷◌, IfOk, codes, decimal, flat_map};
 ghost use Rattle.tab_lines.specs.Spelling.{spell};
-ghost use Rattle.effects.specs.Effects.{Print, Does};
+ghost use Rattle.effects.specs.Effects.{Print, Does, world_of};
 ghost use Rattle.effects.specs.Blame.{SinkBlames};
 ghost use Rattle.std.specs.List.{All};
 ghost use Rattle.ss_top.specs.Printed.{says, refuses, tells_synced, tells_usage, tells_script, script_rows, lines_text, tells_same, tells_difference, length_text};
@@ -37,7 +37,7 @@ fn line_of(alloc: Global, row: &Row) -> Result<Vec<u8>, NoMemory>
 #[tactic(auto, using(effects::proofs::Following::following))]
 pub(crate) fn say<K: Sink>(alloc: Global, output: &mut K, row: &Row) -> Result<(), Stop>
     requires { row.now ≢ [] }
-    ensures does { (s : _) → Does (says row.now ∷ []) (s, K.state output.old) (s, K.state output.new) result }
+    ensures does { (s : _) → Does (says row.now ∷ []) (world_of s (K.state output.old)) (world_of s (K.state output.new)) result }
     ensures blames { SinkBlames (K.state output.old) (K.state output.new) result }
 {
     let line = line_of(alloc, row)?;
@@ -48,7 +48,7 @@ pub(crate) fn say<K: Sink>(alloc: Global, output: &mut K, row: &Row) -> Result<(
 // Prints a refusal, its name and fields.
 #[tactic(auto, using(effects::proofs::Following::following))]
 pub(crate) fn refuse<K: Sink>(alloc: Global, output: &mut K, fields: &Row) -> Result<(), Stop>
-    ensures does { (s : _) → Does (refuses fields.now ∷ []) (s, K.state output.old) (s, K.state output.new) result }
+    ensures does { (s : _) → Does (refuses fields.now ∷ []) (world_of s (K.state output.old)) (world_of s (K.state output.new)) result }
     ensures blames { SinkBlames (K.state output.old) (K.state output.new) result }
 {
     let row = refused_row(alloc, fields)?;
@@ -71,7 +71,7 @@ fn refused_row(alloc: Global, fields: &Row) -> Result<Row, NoMemory>
 // Prints that a sync wrote and removed so many files.
 #[tactic(auto, using(effects::proofs::Following::following))]
 pub(crate) fn tell_synced<K: Sink>(alloc: Global, output: &mut K, count: usize) -> Result<(), Stop>
-    ensures does { (s : _) → Does (tells_synced count ∷ []) (s, K.state output.old) (s, K.state output.new) result }
+    ensures does { (s : _) → Does (tells_synced count ∷ []) (world_of s (K.state output.old)) (world_of s (K.state output.new)) result }
     ensures blames { SinkBlames (K.state output.old) (K.state output.new) result }
 {
     let row = counted_row(alloc, b"synced", count)?;
@@ -86,7 +86,7 @@ pub(crate) fn tell_script<K: Sink>(
     output: &mut K,
     script: &Script,
 ) -> Result<(), Stop>
-    ensures does { (s : _) → Does (tells_script script.now ∷ []) (s, K.state output.old) (s, K.state output.new) result }
+    ensures does { (s : _) → Does (tells_script script.now ∷ []) (world_of s (K.state output.old)) (world_of s (K.state output.new)) result }
     ensures blames { SinkBlames (K.state output.old) (K.state output.new) result }
 {
     let text = script_text(alloc, script)?;
@@ -129,7 +129,7 @@ fn counted_row(alloc: Global, word: &[u8], count: usize) -> Result<Row, NoMemory
 // Prints that a folder holds what is meant.
 #[tactic(auto, using(effects::proofs::Following::following))]
 pub(crate) fn tell_same<K: Sink>(alloc: Global, output: &mut K, count: usize) -> Result<(), Stop>
-    ensures does { (s : _) → Does (tells_same count ∷ []) (s, K.state output.old) (s, K.state output.new) result }
+    ensures does { (s : _) → Does (tells_same count ∷ []) (world_of s (K.state output.old)) (world_of s (K.state output.new)) result }
     ensures blames { SinkBlames (K.state output.old) (K.state output.new) result }
 {
     let row = counted_row(alloc, b"same", count)?;
@@ -146,7 +146,7 @@ pub(crate) fn tell_difference<K: Sink>(
     held: Option<usize>,
     meant: Option<usize>,
 ) -> Result<(), Stop>
-    ensures does { (s : _) → Does (tells_difference file.now held meant ∷ []) (s, K.state output.old) (s, K.state output.new) result }
+    ensures does { (s : _) → Does (tells_difference file.now held meant ∷ []) (world_of s (K.state output.old)) (world_of s (K.state output.new)) result }
     ensures blames { SinkBlames (K.state output.old) (K.state output.new) result }
 {
     let row = difference_row(alloc, file, held, meant)?;
@@ -183,7 +183,7 @@ fn length_text(alloc: Global, length: Option<usize>) -> Result<Text, NoMemory>
 
 // Prints which words are asked for.
 pub(crate) fn tell_usage<K: Sink>(alloc: Global, output: &mut K) -> Result<(), Stop>
-    ensures does { (s : _) → Does (tells_usage ∷ []) (s, K.state output.old) (s, K.state output.new) result }
+    ensures does { (s : _) → Does (tells_usage ∷ []) (world_of s (K.state output.old)) (world_of s (K.state output.new)) result }
     ensures blames { SinkBlames (K.state output.old) (K.state output.new) result }
 {
     print(

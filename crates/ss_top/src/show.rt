@@ -1,10 +1,14 @@
 //! The command `show`.
-ghost use Rattle.std.specs.Prelude.{◌≡◌, Some, IfOk};
+ghost use Rattle.std.specs.Prelude.{◌≡◌, true, Some, IfOk};
+ghost use Rattle.effects.specs.Effects.{world_of};
 ghost use Rattle.outside.specs.Tree.{Tree};
 ghost use Rattle.effects.specs.Blame.{Blames};
 ghost use Rattle.course.specs.Machine.{Ended, ending};
 ghost use Rattle.ss_top.specs.Stages.{Definition};
-ghost use Rattle.ss_top.specs.Opening.{IsDefinition, definition_bytes, HasDefinition, opening, done_at_once};
+ghost use Rattle.ss_top.specs.Opening.{IsDefinition, definition_bytes, opening, done_at_once};
+ghost use Rattle.ss_top.specs.Commands.{can_show};
+ghost use Rattle.ss_top.specs.Course.{number};
+ghost use Rattle.ss_top.specs.Steps.{IdleUnread};
 
 use crate::opening::{Opened, open};
 use course::Verdict;
@@ -14,16 +18,17 @@ use ss_text::Text;
 use std::alloc::Global;
 
 // Opens the view, and that is all.
-#[tactic(auto, using(crate::proofs::RunLemmas::shown_ends, crate::proofs::RunLemmas::shown_done, crate::proofs::RunLemmas::shown_stops))]
+#[tactic(auto, using(crate::proofs::RunLemmas::shown_ends, crate::proofs::RunLemmas::shown_done, crate::proofs::RunLemmas::shown_stops, crate::proofs::IdleLemmas::refused_can_show))]
 pub(crate) fn show<F: Folders, K: Sink>(
     alloc: Global,
     store: &mut F,
     output: &mut K,
     name: &Text,
 ) -> Result<Verdict, Stop>
-    ensures ended { (t : Tree) (d : Definition) → (F.state store.old).tree ≡ Some t → IsDefinition name.now (definition_bytes t name.now) d → Ended (ending done_at_once (opening t d)) (F.state store.old, K.state output.old) (F.state store.new, K.state output.new) result }
-    ensures defined { IfOk result (λ _. (t : Tree) → (F.state store.old).tree ≡ Some t → HasDefinition name.now t) }
-    ensures blames { Blames (F.state store.old, K.state output.old) (F.state store.new, K.state output.new) result }
+    ensures ended { (t : Tree) (d : Definition) → (F.state store.old).tree ≡ Some t → IsDefinition name.now (definition_bytes t name.now) d → Ended (ending done_at_once (opening t d)) (world_of (F.state store.old) (K.state output.old)) (world_of (F.state store.new) (K.state output.new)) result }
+    ensures can { IfOk result (λ v. can_show (number v) ≡ true) }
+    ensures idle { IdleUnread result (world_of (F.state store.old) (K.state output.old)) (world_of (F.state store.new) (K.state output.new)) }
+    ensures blames { Blames (world_of (F.state store.old) (K.state output.old)) (world_of (F.state store.new) (K.state output.new)) result }
 {
     match open(alloc, store, output, name)? {
         Opened::Open(_) => Ok(Verdict::Done),

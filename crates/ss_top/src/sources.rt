@@ -2,7 +2,7 @@
 ghost use Rattle.std.specs.Prelude.{◌≡◌, [], Some, IfOk};
 ghost use Rattle.outside.specs.Reading.{OnlyRead};
 ghost use Rattle.outside.specs.Tree.{Tree};
-ghost use Rattle.effects.specs.Effects.{Does};
+ghost use Rattle.effects.specs.Effects.{Does, world_of};
 ghost use Rattle.effects.specs.Blame.{StoreBlames};
 ghost use Rattle.ss_top.specs.Stages.{loaded_or_refused};
 ghost use Rattle.ss_top.specs.Steps.{loading_of};
@@ -26,7 +26,7 @@ pub(crate) enum Loading {
 #[tactic(auto, using(effects::proofs::EffectLemmas::unmoved), unfolding(crate::specs::Stages::loaded_or_refused, effects::specs::Effects::contents))]
 pub(crate) fn load_sources<F: Folders>(alloc: Global, store: &mut F) -> Result<Loading, Stop>
     ensures told { IfOk result (λ r. (t : Tree) → (F.state store.old).tree ≡ Some t → loading_of r ≡ loaded_or_refused t) }
-    ensures does { (o : _) → Does [] (F.state store.old, o) (F.state store.new, o) result }
+    ensures does { (o : _) → Does [] (world_of (F.state store.old) o) (world_of (F.state store.new) o) result }
     ensures only_read { OnlyRead (F.state store.old) (F.state store.new) }
     ensures blames { StoreBlames (F.state store.old) (F.state store.new) result }
 {

@@ -28,7 +28,7 @@ pub(crate) fn show_tables(
     view: &View,
 ) -> Result<Showing, NoMemory>
     requires { HasRecords (query_of view.now) }
-    ensures { IfOk result (λ r. Shows r (refusal_of catalogue.now (query_of view.now)) (files_of_view catalogue.now (query_of view.now))) }
+    ensures { IfOk result (λ r. Shows r (refusal_of catalogue.now.databases (query_of view.now)) (files_of_view catalogue.now.databases (query_of view.now))) }
 {
     match evaluate(alloc, catalogue, view) {
         Ok(tables) => {

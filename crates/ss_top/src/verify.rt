@@ -1,5 +1,6 @@
 //! The command `verify`.
-ghost use Rattle.std.specs.Prelude.{◌≡◌, Some, IfOk};
+ghost use Rattle.std.specs.Prelude.{◌≡◌, true, Some, IfOk};
+ghost use Rattle.effects.specs.Effects.{world_of};
 ghost use Rattle.outside.specs.Reading.{OnlyRead};
 ghost use Rattle.outside.specs.Tree.{Tree};
 ghost use Rattle.effects.specs.Blame.{Blames, SinkBlames};
@@ -8,8 +9,11 @@ ghost use Rattle.view_folder.specs.Comparison.{comparison};
 ghost use Rattle.view_folder.specs.Files.{view_folder};
 ghost use Rattle.course.specs.Machine.{Ended};
 ghost use Rattle.ss_top.specs.Stages.{Definition, loaded_or_refused, refusal_of};
-ghost use Rattle.ss_top.specs.Opening.{IsDefinition, definition_bytes, HasDefinition};
+ghost use Rattle.ss_top.specs.Opening.{IsDefinition, definition_bytes};
 ghost use Rattle.ss_top.specs.Records.{HasRecords};
+ghost use Rattle.ss_top.specs.Commands.{can_show};
+ghost use Rattle.ss_top.specs.Course.{number};
+ghost use Rattle.ss_top.specs.Steps.{IdleUnread};
 ghost use Rattle.ss_top.specs.Verifying.{by_comparison, verified, verified_over, verified_view};
 
 use crate::definition::{Understood, read_definition};
@@ -26,17 +30,18 @@ use view_def::View;
 use view_folder::{Comparison, File, compare, folder_of_view};
 
 // Compares the folder of the view of this name with the files that are meant.
-#[tactic(auto, using(effects::proofs::Following::following, outside::proofs::ReadingLemmas::only_read_then, outside::proofs::ReadingLemmas::only_read_nothing))]
+#[tactic(auto, using(effects::proofs::Following::following, outside::proofs::ReadingLemmas::only_read_then, outside::proofs::ReadingLemmas::only_read_nothing, crate::proofs::IdleLemmas::idle_read, crate::proofs::IdleLemmas::idle_print, crate::proofs::IdleLemmas::idle_later))]
 pub(crate) fn verify<F: Folders, K: Sink>(
     alloc: Global,
     store: &mut F,
     output: &mut K,
     name: &Text,
 ) -> Result<Verdict, Stop>
-    ensures ended { (t : Tree) (d : Definition) → (F.state store.old).tree ≡ Some t → IsDefinition name.now (definition_bytes t name.now) d → Ended (verified t d) (F.state store.old, K.state output.old) (F.state store.new, K.state output.new) result }
-    ensures defined { IfOk result (λ _. (t : Tree) → (F.state store.old).tree ≡ Some t → HasDefinition name.now t) }
+    ensures ended { (t : Tree) (d : Definition) → (F.state store.old).tree ≡ Some t → IsDefinition name.now (definition_bytes t name.now) d → Ended (verified t d) (world_of (F.state store.old) (K.state output.old)) (world_of (F.state store.new) (K.state output.new)) result }
+    ensures can { IfOk result (λ v. can_show (number v) ≡ true) }
+    ensures idle { IdleUnread result (world_of (F.state store.old) (K.state output.old)) (world_of (F.state store.new) (K.state output.new)) }
     ensures only_read { OnlyRead (F.state store.old) (F.state store.new) }
-    ensures blames { Blames (F.state store.old, K.state output.old) (F.state store.new, K.state output.new) result }
+    ensures blames { Blames (world_of (F.state store.old) (K.state output.old)) (world_of (F.state store.new) (K.state output.new)) result }
 {
     match read_definition(alloc, store, name)? {
         Understood::Refused(fields) => {
@@ -51,7 +56,7 @@ pub(crate) fn verify<F: Folders, K: Sink>(
 }
 
 // Compares the folder of a view.
-#[tactic(auto, using(effects::proofs::Following::following, outside::proofs::ReadingLemmas::only_read_then, outside::proofs::ReadingLemmas::only_read_nothing))]
+#[tactic(auto, using(effects::proofs::Following::following, outside::proofs::ReadingLemmas::only_read_then, outside::proofs::ReadingLemmas::only_read_nothing, crate::proofs::IdleLemmas::idle_read, crate::proofs::IdleLemmas::idle_print, crate::proofs::IdleLemmas::idle_later))]
 fn verify_view<F: Folders, K: Sink>(
     alloc: Global,
     store: &mut F,
@@ -59,9 +64,11 @@ fn verify_view<F: Folders, K: Sink>(
     view: &View,
 ) -> Result<Verdict, Stop>
     requires { HasRecords (query_of view.now) }
-    ensures ended { (t : Tree) → (F.state store.old).tree ≡ Some t → Ended (verified_over t (query_of view.now) (loaded_or_refused t)) (F.state store.old, K.state output.old) (F.state store.new, K.state output.new) result }
+    ensures ended { (t : Tree) → (F.state store.old).tree ≡ Some t → Ended (verified_over t (query_of view.now) (loaded_or_refused t)) (world_of (F.state store.old) (K.state output.old)) (world_of (F.state store.new) (K.state output.new)) result }
+    ensures can { IfOk result (λ v. can_show (number v) ≡ true) }
+    ensures idle { IdleUnread result (world_of (F.state store.old) (K.state output.old)) (world_of (F.state store.new) (K.state output.new)) }
     ensures only_read { OnlyRead (F.state store.old) (F.state store.new) }
-    ensures blames { Blames (F.state store.old, K.state output.old) (F.state store.new, K.state output.new) result }
+    ensures blames { Blames (world_of (F.state store.old) (K.state output.old)) (world_of (F.state store.new) (K.state output.new)) result }
 {
     match load_sources(alloc, store)? {
         Loading::Refused(fields) => {
@@ -76,7 +83,7 @@ fn verify_view<F: Folders, K: Sink>(
 }
 
 // Compares the folder of a view with its files over a catalogue.
-#[tactic(auto, using(effects::proofs::Following::following, outside::proofs::ReadingLemmas::only_read_then, outside::proofs::ReadingLemmas::only_read_nothing))]
+#[tactic(auto, using(effects::proofs::Following::following, outside::proofs::ReadingLemmas::only_read_then, outside::proofs::ReadingLemmas::only_read_nothing, crate::proofs::IdleLemmas::idle_read, crate::proofs::IdleLemmas::idle_print, crate::proofs::IdleLemmas::idle_later))]
 fn verify_over<F: Folders, K: Sink>(
     alloc: Global,
     store: &mut F,
@@ -85,9 +92,11 @@ fn verify_over<F: Folders, K: Sink>(
     catalogue: &Catalogue,
 ) -> Result<Verdict, Stop>
     requires { HasRecords (query_of view.now) }
-    ensures ended { (t : Tree) → (F.state store.old).tree ≡ Some t → Ended (verified_view t (query_of view.now) catalogue.now (refusal_of catalogue.now (query_of view.now))) (F.state store.old, K.state output.old) (F.state store.new, K.state output.new) result }
+    ensures ended { (t : Tree) → (F.state store.old).tree ≡ Some t → Ended (verified_view t (query_of view.now) catalogue.now.databases (refusal_of catalogue.now.databases (query_of view.now))) (world_of (F.state store.old) (K.state output.old)) (world_of (F.state store.new) (K.state output.new)) result }
+    ensures can { IfOk result (λ v. can_show (number v) ≡ true) }
+    ensures idle { IdleUnread result (world_of (F.state store.old) (K.state output.old)) (world_of (F.state store.new) (K.state output.new)) }
     ensures only_read { OnlyRead (F.state store.old) (F.state store.new) }
-    ensures blames { Blames (F.state store.old, K.state output.old) (F.state store.new, K.state output.new) result }
+    ensures blames { Blames (world_of (F.state store.old) (K.state output.old)) (world_of (F.state store.new) (K.state output.new)) result }
 {
     match show_tables(alloc, catalogue, view)? {
         Showing::Refused(fields) => {
@@ -102,7 +111,7 @@ fn verify_over<F: Folders, K: Sink>(
 }
 
 // Compares the folder of a view with these files.
-#[tactic(auto, using(effects::proofs::Following::following, outside::proofs::ReadingLemmas::only_read_then, outside::proofs::ReadingLemmas::only_read_nothing, crate::proofs::VerifyLemmas::compared_ends, crate::proofs::VerifyLemmas::nothing_ended))]
+#[tactic(auto, using(effects::proofs::Following::following, outside::proofs::ReadingLemmas::only_read_then, outside::proofs::ReadingLemmas::only_read_nothing, crate::proofs::IdleLemmas::idle_read, crate::proofs::IdleLemmas::idle_print, crate::proofs::IdleLemmas::idle_later, crate::proofs::VerifyLemmas::compared_ends, crate::proofs::VerifyLemmas::nothing_ended))]
 fn compare_folder<F: Folders, K: Sink>(
     alloc: Global,
     store: &mut F,
@@ -110,9 +119,11 @@ fn compare_folder<F: Folders, K: Sink>(
     view_db: &Text,
     files: &[File],
 ) -> Result<Verdict, Stop>
-    ensures ended { (t : Tree) → (F.state store.old).tree ≡ Some t → Ended (by_comparison (comparison (view_folder view_db.now) files.now t)) (F.state store.old, K.state output.old) (F.state store.new, K.state output.new) result }
+    ensures ended { (t : Tree) → (F.state store.old).tree ≡ Some t → Ended (by_comparison (comparison (view_folder view_db.now) files.now t)) (world_of (F.state store.old) (K.state output.old)) (world_of (F.state store.new) (K.state output.new)) result }
+    ensures can { IfOk result (λ v. can_show (number v) ≡ true) }
+    ensures idle { IdleUnread result (world_of (F.state store.old) (K.state output.old)) (world_of (F.state store.new) (K.state output.new)) }
     ensures only_read { OnlyRead (F.state store.old) (F.state store.new) }
-    ensures blames { Blames (F.state store.old, K.state output.old) (F.state store.new, K.state output.new) result }
+    ensures blames { Blames (world_of (F.state store.old) (K.state output.old)) (world_of (F.state store.new) (K.state output.new)) result }
 {
     let folder = folder_of_view(alloc, view_db)?;
     let comparison = compare(alloc, store, &folder, files)?;
@@ -126,7 +137,8 @@ fn tell_comparison<K: Sink>(
     output: &mut K,
     comparison: Comparison,
 ) -> Result<Verdict, Stop>
-    ensures ended { (s : _) → Ended (by_comparison comparison) (s, K.state output.old) (s, K.state output.new) result }
+    ensures ended { (s : _) → Ended (by_comparison comparison) (world_of s (K.state output.old)) (world_of s (K.state output.new)) result }
+    ensures can { IfOk result (λ v. can_show (number v) ≡ true) }
     ensures blames { SinkBlames (K.state output.old) (K.state output.new) result }
 {
     match comparison {

@@ -1,12 +1,13 @@
 //! An opened view, and its answers.
-ghost use Rattle.std.specs.Prelude.{◌≡◌, ◌≢◌, ◌||◌, ◌∷◌, ◌++◌, [], map, filter, length, false, Some, IfOk, OnOk, IsTrue};
+ghost use Rattle.std.specs.Prelude.{◌≡◌, ◌≢◌, ◌||◌, ◌∷◌, ◌++◌, [], map, filter, length, false, Some, IfOk, IfErr, OnOk, IsTrue};
 ghost use Rattle.std.specs.List.{list_any};
-ghost use Rattle.ss_text.specs.Texts.{is_in};
+ghost use Rattle.std.specs.List.Sorted.{IsStrictlySortedBy};
+ghost use Rattle.ss_text.specs.Texts.{is_in, text_cmp};
 ghost use Rattle.tab_lines.specs.Lines.{has_feed};
-ghost use Rattle.effects.specs.Effects.{Does};
+ghost use Rattle.effects.specs.Effects.{Does, world_of};
 ghost use Rattle.effects.specs.Blame.{Blames, SinkBlames, StoreBlames};
-ghost use Rattle.schema_model.specs.Changes.{is_row_change};
-ghost use Rattle.schema_model.specs.Reading.{change_so_far};
+ghost use Rattle.schema_model.specs.Changes.{is_well_formed};
+ghost use Rattle.schema_model.specs.Reading.{change_of};
 ghost use Rattle.schema_model.specs.Refusals.{fault};
 ghost use Rattle.flow_law.specs.Tables.{labels_of};
 ghost use Rattle.valuation_meaning.specs.Meaning.{shape_of};
@@ -20,7 +21,7 @@ ghost use Rattle.ss_top.specs.Printed.{refuses, tells_synced};
 ghost use Rattle.outside.specs.Tree.{Tree, files_of};
 ghost use Rattle.ss_top.specs.Opening.{opening_effects};
 ghost use Rattle.ss_top.specs.Stages.{files_of_view};
-ghost use Rattle.ss_top.specs.Steps.{IsFieldsOf};
+ghost use Rattle.ss_top.specs.Steps.{IsFieldsOf, IdleUnread};
 ghost use Rattle.ss_top.specs.Records.{HasRecords};
 ghost use Rattle.ss_top.specs.Answers.{step, finish, answer, by_spelling, by_row, by_sync, by_change, by_fault, refusing, syncing, sync_effects, sync_count, is_sync};
 
@@ -32,9 +33,10 @@ use flow_law::Tables;
 use outside::{Folders, Sink};
 use schema_model::{Change, ChangeFault};
 use ss_print::{clash_fields, escape_fields, illegal_fields, line_fields, refusal_fields};
-use ss_text::{NoMemory, Row, Text};
+use ss_text::{NoMemory, Row, Steps, Text};
 use std::alloc::Global;
 use std::marker::Model;
+use std::sync::ledger::Ledger;
 use tab_lines::{LineFault, read_line};
 use view_folder::{sync, sync_all};
 use view_session::{Refused, Session};
@@ -52,6 +54,8 @@ pub(crate) struct OpenView {
 
 impl Model for OpenView {
     ghost use Rattle.std.specs.Prelude.{◌≡◌};
+    ghost use Rattle.std.specs.List.Sorted.{IsStrictlySortedBy};
+    ghost use Rattle.ss_text.specs.Texts.{text_cmp};
     ghost use Rattle.ss_top.specs.Open.{OpenValue};
     ghost use Rattle.std.specs.Coded.{Coded, codes};
     ghost use Rattle.view_session.specs.ConditionCode.{Mark, condition_code};
@@ -62,12 +66,16 @@ impl Model for OpenView {
 
     ghost view = { λ v. record { session = v.session; synced = v.synced.items; refused = v.some_refused } };
 
-    ghost invariant = { λ v. v.view_db ≡ v.session.query.view_db };
+    ghost invariant = { λ v. record {
+      view_db : v.view_db ≡ v.session.query.view_db;
+      synced : IsStrictlySortedBy text_cmp v.synced.items;
+    } };
 }
 
 // The labels of tables, ascending.
 fn labels_of(alloc: Global, tables: &Tables) -> Result<Vec<Text>, NoMemory>
-    ensures { IfOk result (λ labels. labels.items ≡ labels_of tables.now) }
+    ensures labels { IfOk result (λ labels. labels.items ≡ labels_of tables.now) }
+    ensures ascend { IfOk result (λ labels. IsStrictlySortedBy text_cmp labels.items) }
 {
     let mut labels = Vec::with_capacity(alloc, tables.count())?;
     for place in 0..tables.count() {
@@ -108,15 +116,16 @@ impl OpenView {
     }
 
     // Writes the folder of a view that was just opened, and prints that it did.
-    #[tactic(auto, using(effects::proofs::Following::following, effects::proofs::EffectLemmas::partly_more, effects::proofs::EffectLemmas::partly_later, effects::proofs::EffectLemmas::performed_append, crate::proofs::StageLemmas::meaning_fits), unfolding(crate::specs::Stages::files_of_view))]
+    #[tactic(auto, using(effects::proofs::Following::following, crate::proofs::IdleLemmas::sink_no_read, effects::proofs::EffectLemmas::partly_more, effects::proofs::EffectLemmas::partly_later, effects::proofs::EffectLemmas::performed_append, crate::proofs::StageLemmas::meaning_fits, crate::proofs::IdleLemmas::idle_first, crate::proofs::IdleLemmas::idle_print), unfolding(crate::specs::Stages::files_of_view))]
     pub(crate) fn fill_folder<F: Folders, K: Sink>(
         &self,
         alloc: Global,
         store: &mut F,
         output: &mut K,
     ) -> Result<(), Stop>
-        ensures does { (t : Tree) → (F.state store.old).tree ≡ Some t → Does (opening_effects (view_folder self.now.session.query.view_db) (files_of_view self.now.session.catalogue self.now.session.query) (files_of t (view_folder self.now.session.query.view_db))) (F.state store.old, K.state output.old) (F.state store.new, K.state output.new) result }
-        ensures blames { Blames (F.state store.old, K.state output.old) (F.state store.new, K.state output.new) result }
+        ensures does { (t : Tree) → (F.state store.old).tree ≡ Some t → Does (opening_effects (view_folder self.now.session.query.view_db) (files_of_view self.now.session.catalogue self.now.session.query) (files_of t (view_folder self.now.session.query.view_db))) (world_of (F.state store.old) (K.state output.old)) (world_of (F.state store.new) (K.state output.new)) result }
+        ensures idle { IdleUnread result (world_of (F.state store.old) (K.state output.old)) (world_of (F.state store.new) (K.state output.new)) }
+        ensures blames { Blames (world_of (F.state store.old) (K.state output.old)) (world_of (F.state store.new) (K.state output.new)) result }
     {
         let session = &self.session;
         let count = sync_all(
@@ -132,7 +141,7 @@ impl OpenView {
 
     // Refuses a line.
     fn refuse<K: Sink>(&mut self, alloc: Global, output: &mut K, fields: &Row) -> Result<(), Stop>
-        ensures does { (s : _) → Does (refuses fields.now ∷ []) (s, K.state output.old) (s, K.state output.new) result }
+        ensures does { (s : _) → Does (refuses fields.now ∷ []) (world_of s (K.state output.old)) (world_of s (K.state output.new)) result }
         ensures view { OnOk result (self.new ≡ (refusing self.old fields.now).view) }
         ensures blames { SinkBlames (K.state output.old) (K.state output.new) result }
     {
@@ -171,19 +180,20 @@ impl OpenView {
     fn had_table(&self, label: &Text) -> bool
         ensures { result ≡ is_in label.now self.now.synced }
     {
-        self.synced.iter().any(|name| label == name)
+        self.synced.binary_search(label).is_ok()
     }
 
     // Syncs the files of the labels that were named, and prints how many they are.
-    #[tactic(auto, using(effects::proofs::Following::following, effects::proofs::EffectLemmas::partly_more, effects::proofs::EffectLemmas::partly_later, effects::proofs::EffectLemmas::performed_append, crate::proofs::StageLemmas::meaning_fits))]
+    #[tactic(auto, using(effects::proofs::Following::following, crate::proofs::IdleLemmas::sink_no_read, effects::proofs::EffectLemmas::partly_more, effects::proofs::EffectLemmas::partly_later, effects::proofs::EffectLemmas::performed_append, crate::proofs::StageLemmas::meaning_fits))]
     fn write_named<F: Folders, K: Sink>(
         &self,
         alloc: Global,
         store: &mut F,
         output: &mut K,
     ) -> Result<(), Stop>
-        ensures does { Does (sync_effects self.now) (F.state store.old, K.state output.old) (F.state store.new, K.state output.new) result }
-        ensures blames { Blames (F.state store.old, K.state output.old) (F.state store.new, K.state output.new) result }
+        ensures does { Does (sync_effects self.now) (world_of (F.state store.old) (K.state output.old)) (world_of (F.state store.new) (K.state output.new)) result }
+        ensures no_read { IfErr result (λ e. e ≢ Stop.ReadFault) }
+        ensures blames { Blames (world_of (F.state store.old) (K.state output.old)) (world_of (F.state store.new) (K.state output.new)) result }
     {
         let session = &self.session;
         sync(
@@ -199,16 +209,17 @@ impl OpenView {
     }
 
     // A sync.
-    #[tactic(auto, using(effects::proofs::Following::following))]
+    #[tactic(auto, using(effects::proofs::Following::following, crate::proofs::IdleLemmas::sink_no_read))]
     fn sync<F: Folders, K: Sink>(
         &mut self,
         alloc: Global,
         store: &mut F,
         output: &mut K,
     ) -> Result<(), Stop>
-        ensures does { Does (syncing self.old).effects (F.state store.old, K.state output.old) (F.state store.new, K.state output.new) result }
+        ensures does { Does (syncing self.old).effects (world_of (F.state store.old) (K.state output.old)) (world_of (F.state store.new) (K.state output.new)) result }
         ensures view { OnOk result (self.new ≡ (syncing self.old).view) }
-        ensures blames { Blames (F.state store.old, K.state output.old) (F.state store.new, K.state output.new) result }
+        ensures no_read { IfErr result (λ e. e ≢ Stop.ReadFault) }
+        ensures blames { Blames (world_of (F.state store.old) (K.state output.old)) (world_of (F.state store.new) (K.state output.new)) result }
     {
         let synced = labels_of(alloc, self.session.tables())?;
         self.write_named(alloc, store, output)?;
@@ -218,15 +229,15 @@ impl OpenView {
     }
 
     // Answers a change.
-    #[tactic(auto, using(effects::proofs::Following::following, crate::proofs::AnswerLemmas::accepted_view, crate::proofs::AnswerLemmas::refused_view))]
+    #[tactic(auto, using(effects::proofs::Following::following, crate::proofs::IdleLemmas::sink_no_read, crate::proofs::AnswerLemmas::accepted_view, crate::proofs::AnswerLemmas::refused_view))]
     fn change<K: Sink>(
         &mut self,
         alloc: Global,
         output: &mut K,
         change: &Change,
     ) -> Result<(), Stop>
-        requires { IsTrue (is_row_change change.now) }
-        ensures does { (s : _) → Does (by_fault self.old change.now (fault self.old.session.catalogue change.now)).effects (s, K.state output.old) (s, K.state output.new) result }
+        requires { IsTrue (is_well_formed change.now) }
+        ensures does { (s : _) → Does (by_fault self.old change.now (fault self.old.session.catalogue change.now)).effects (world_of s (K.state output.old)) (world_of s (K.state output.new)) result }
         ensures view { OnOk result (self.new ≡ (by_fault self.old change.now (fault self.old.session.catalogue change.now)).view) }
         ensures blames { SinkBlames (K.state output.old) (K.state output.new) result }
     {
@@ -240,10 +251,10 @@ impl OpenView {
     }
 
     // Answers a line that is no sync.
-    #[tactic(auto, using(effects::proofs::Following::following, crate::proofs::AnswerLemmas::unread_view))]
+    #[tactic(auto, using(effects::proofs::Following::following, crate::proofs::IdleLemmas::sink_no_read, crate::proofs::AnswerLemmas::unread_view))]
     fn change_line<K: Sink>(&mut self, alloc: Global, output: &mut K, row: &Row) -> Result<(), Stop>
-        ensures does { (s : _) → Does (by_change self.old row.now (change_so_far row.now)).effects (s, K.state output.old) (s, K.state output.new) result }
-        ensures view { OnOk result (self.new ≡ (by_change self.old row.now (change_so_far row.now)).view) }
+        ensures does { (s : _) → Does (by_change self.old row.now (change_of row.now)).effects (world_of s (K.state output.old)) (world_of s (K.state output.new)) result }
+        ensures view { OnOk result (self.new ≡ (by_change self.old row.now (change_of row.now)).view) }
         ensures blames { SinkBlames (K.state output.old) (K.state output.new) result }
     {
         match Change::read(alloc, row) {
@@ -256,7 +267,7 @@ impl OpenView {
     }
 
     // Answers a line whose first field is `sync`.
-    #[tactic(auto, using(effects::proofs::Following::following, crate::proofs::AnswerLemmas::one_sync_does, crate::proofs::AnswerLemmas::no_sync_does, crate::proofs::AnswerLemmas::one_sync_view, crate::proofs::AnswerLemmas::no_sync_view))]
+    #[tactic(auto, using(effects::proofs::Following::following, crate::proofs::IdleLemmas::sink_no_read, crate::proofs::AnswerLemmas::one_sync_does, crate::proofs::AnswerLemmas::no_sync_does, crate::proofs::AnswerLemmas::one_sync_view, crate::proofs::AnswerLemmas::no_sync_view))]
     fn sync_line<F: Folders, K: Sink>(
         &mut self,
         alloc: Global,
@@ -264,9 +275,10 @@ impl OpenView {
         output: &mut K,
         row: &Row,
     ) -> Result<(), Stop>
-        ensures does { Does (by_sync self.old row.now).effects (F.state store.old, K.state output.old) (F.state store.new, K.state output.new) result }
+        ensures does { Does (by_sync self.old row.now).effects (world_of (F.state store.old) (K.state output.old)) (world_of (F.state store.new) (K.state output.new)) result }
         ensures view { OnOk result (self.new ≡ (by_sync self.old row.now).view) }
-        ensures blames { Blames (F.state store.old, K.state output.old) (F.state store.new, K.state output.new) result }
+        ensures no_read { IfErr result (λ e. e ≢ Stop.ReadFault) }
+        ensures blames { Blames (world_of (F.state store.old) (K.state output.old)) (world_of (F.state store.new) (K.state output.new)) result }
     {
         let got = row.cells().len();
         if got == 1 {
@@ -277,7 +289,7 @@ impl OpenView {
     }
 
     // Answers the row of a line.
-    #[tactic(auto, using(effects::proofs::Following::following, crate::proofs::AnswerLemmas::syncs_does))]
+    #[tactic(auto, using(effects::proofs::Following::following, crate::proofs::IdleLemmas::sink_no_read, crate::proofs::AnswerLemmas::syncs_does))]
     fn row<F: Folders, K: Sink>(
         &mut self,
         alloc: Global,
@@ -285,9 +297,10 @@ impl OpenView {
         output: &mut K,
         row: &Row,
     ) -> Result<(), Stop>
-        ensures does { Does (by_row self.old row.now).effects (F.state store.old, K.state output.old) (F.state store.new, K.state output.new) result }
+        ensures does { Does (by_row self.old row.now).effects (world_of (F.state store.old) (K.state output.old)) (world_of (F.state store.new) (K.state output.new)) result }
         ensures view { OnOk result (self.new ≡ (by_row self.old row.now).view) }
-        ensures blames { Blames (F.state store.old, K.state output.old) (F.state store.new, K.state output.new) result }
+        ensures no_read { IfErr result (λ e. e ≢ Stop.ReadFault) }
+        ensures blames { Blames (world_of (F.state store.old) (K.state output.old)) (world_of (F.state store.new) (K.state output.new)) result }
     {
         if is_sync(row) {
             self.sync_line(alloc, store, output, row)
@@ -297,7 +310,7 @@ impl OpenView {
     }
 
     // Answers a line.
-    #[tactic(auto, using(effects::proofs::Following::following, crate::proofs::AnswerLemmas::spelled_does, crate::proofs::AnswerLemmas::unspelled_does))]
+    #[tactic(auto, using(effects::proofs::Following::following, crate::proofs::IdleLemmas::sink_no_read, crate::proofs::AnswerLemmas::spelled_does, crate::proofs::AnswerLemmas::unspelled_does))]
     fn answer<F: Folders, K: Sink>(
         &mut self,
         alloc: Global,
@@ -306,9 +319,10 @@ impl OpenView {
         line: &[u8],
     ) -> Result<(), Stop>
         requires { has_feed line.now ≡ false }
-        ensures does { Does (answer self.old line.now).effects (F.state store.old, K.state output.old) (F.state store.new, K.state output.new) result }
+        ensures does { Does (answer self.old line.now).effects (world_of (F.state store.old) (K.state output.old)) (world_of (F.state store.new) (K.state output.new)) result }
         ensures view { OnOk result (self.new ≡ (answer self.old line.now).view) }
-        ensures blames { Blames (F.state store.old, K.state output.old) (F.state store.new, K.state output.new) result }
+        ensures no_read { IfErr result (λ e. e ≢ Stop.ReadFault) }
+        ensures blames { Blames (world_of (F.state store.old) (K.state output.old)) (world_of (F.state store.new) (K.state output.new)) result }
     {
         match read_line(alloc, line) {
             Ok(row) => self.row(alloc, store, output, &row),
@@ -351,22 +365,24 @@ impl Machine for OpenView {
 
     ghost finish = { finish };
 
-    fn line<F: Folders, K: Sink>(
+    fn line<F: Folders, K: Sink, L: Ledger>(
         &mut self,
         alloc: Global,
         store: &mut F,
         output: &mut K,
         line: &[u8],
+        _steps: &mut Steps<L>,
     ) -> Result<Option<Verdict>, Stop> {
         self.answer(alloc, store, output, line)?;
         Ok(None)
     }
 
-    fn end<F: Folders, K: Sink>(
+    fn end<F: Folders, K: Sink, L: Ledger>(
         &mut self,
         alloc: Global,
         store: &mut F,
         output: &mut K,
+        _steps: &mut Steps<L>,
     ) -> Result<Verdict, Stop> {
         self.write_named(alloc, store, output)?;
         if self.some_refused {

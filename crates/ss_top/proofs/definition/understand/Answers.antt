@@ -2,15 +2,10 @@ use Rattle.std.proofs.Common.{◌∙◌, ap}
 use Rattle.view_def.specs.Tree.{tree_of}
 use Rattle.view_def.specs.declared.written.ViewText.{ViewText}
 use Rattle.ss_top.specs.Stages.{typed_or_refused}
-use Rattle.ss_top.proofs.DefinitionLemmas.{read_as, is_read}
+use Rattle.ss_top.proofs.DefinitionLemmas.{read_as}
 use Rattle.ss_top.proofs.definition.understand.Goals as goal
 
-pub returns-in_ok-understood-in-Ok-clause-only : goal.returns-in_ok-understood-in-Ok-clause-only
-returns-in_ok-understood-in-Ok-clause-only c = λ d reading.
+pub returns-in_ok-understood-in-Ok : goal.returns-in_ok-understood-in-Ok
+returns-in_ok-understood-in-Ok c = λ d reading.
     read_as c.args.bytes.now (tree_of c.in-Ok.text) _ d c.in-Ok.ensures.read c.in-Ok.ensures.whole
     (c.in_ok-understood-in-Ok.ensures ∙ ap (λ (v : ViewText). typed_or_refused (tree_of v)) c.in_ok-text-in-Ok.ensures.ok) reading
-
-pub returns-in_ok-understood-in-Ok-clause-read : goal.returns-in_ok-understood-in-Ok-clause-read
-returns-in_ok-understood-in-Ok-clause-read c =
-    is_read c.args.bytes.now (tree_of c.in-Ok.text) _ c.in-Ok.ensures.read
-    (c.in_ok-understood-in-Ok.ensures ∙ ap (λ (v : ViewText). typed_or_refused (tree_of v)) c.in_ok-text-in-Ok.ensures.ok)

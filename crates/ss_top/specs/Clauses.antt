@@ -1,0 +1,81 @@
+-- The promises of `run`, each over the words, what was left of the input, the outside and the status.
+use Rattle.std.specs.Prelude.{◌≡◌, ◌≢◌, ℕ, ◌<◌, true, List, length, Option, Some}
+use Rattle.ss_text.specs.Texts.{Text}
+use Rattle.tab_lines.specs.Lines.{lines_of}
+use Rattle.tab_lines.specs.Taking.{most_taken}
+use Rattle.outside.specs.Tree.{Tree}
+use Rattle.effects.specs.Effects.{World}
+use Rattle.ss_top.specs.declared.status.Status.{Status}
+use Rattle.ss_top.specs.declared.status.Status.TheVariants as status
+use Rattle.ss_top.specs.Commands.{Check, Show, Maintain, Verify, asked_of, uses_store, reads_input}
+use Rattle.ss_top.specs.Stages.{Definition}
+use Rattle.ss_top.specs.Opening.{IsDefinition, definition_bytes}
+use Rattle.ss_top.specs.Course.{Course, Did, Took, NoFault, Finished, IsReadWhole, is_done_status, is_fault_status, is_refused_status, GaveOutStatus}
+use Rattle.ss_top.specs.Runs.{IsAsked, IsCourse, Told}
+use Rattle.ss_top.specs.Promises.{IsChecked, IsShown, IsMaintained, IsCutOff, IsVerified, Differs, Unchanged, Keeps, exempt_of}
+
+-- the definition of a name, over a store that tells its tree
+pub record Defines (name : Text) (w : World) (t : Tree) (d : Definition) : Type 0 where
+  pub told : w.store.tree ≡ Some t
+  pub is : IsDefinition name (definition_bytes t name) d
+
+-- the words over a tree have this course, where the store tells its tree if they use it
+pub record Has (words : List Text) (w : World) (c : Course) : Type 0 where
+  pub tree : Tree
+  pub told : Told (uses_store (asked_of words)) w.store.tree tree
+  pub is : IsCourse (asked_of words) tree c
+
+-- the run does what its course says, where the input tells its bytes if the words read it
+abbrev pub DoesCourse : List Text → Option (List ℕ) → Option (List ℕ) → World → World → Status → Type 0
+DoesCourse words input rest old new s = (c : Course) (bytes : List ℕ) → Has words old c → Told (reads_input (asked_of words)) input bytes → Did c bytes rest old new s
+
+-- where no call failed and the input is not too long, all of it is done, unless memory lacks: i and j count the failed reads of the input
+abbrev pub IsComplete : List Text → Option (List ℕ) → ℕ → ℕ → World → World → Status → Type 0
+IsComplete words input i j old new s =
+    (c : Course) (bytes : List ℕ) → Has words old c → Told (reads_input (asked_of words)) input bytes
+    → NoFault i j old new → length bytes < most_taken → s ≢ status.NoMemory → Finished (c.whole (lines_of bytes)) old new s
+
+-- `check` is done where the definition was accepted
+abbrev pub Checks : List Text → World → World → Status → Type 0
+Checks words old new s = (name : Text) (t : Tree) (d : Definition) → asked_of words ≡ Check name → Defines name old t d → s ≡ status.Done → IsChecked d old new
+
+-- `show` is done where the view is shown
+abbrev pub Shows : List Text → World → World → Status → Type 0
+Shows words old new s = (name : Text) (t : Tree) (d : Definition) → asked_of words ≡ Show name → Defines name old t d → s ≡ status.Done → IsShown d t old new
+
+-- `maintain` is done where the view is kept up to date over all lines of the input
+abbrev pub Maintains : List Text → Option (List ℕ) → World → World → Status → Type 0
+Maintains words input old new s =
+    (name : Text) (t : Tree) (bytes : List ℕ) (d : Definition) → asked_of words ≡ Maintain name → Defines name old t d → input ≡ Some bytes
+    → is_done_status s ≡ true → IsMaintained d t (lines_of bytes) old new s
+
+-- where the input gave out, the folder is that of the last sync: at 9, or at 6 where no read of the store failed
+abbrev pub StopsAtSync : List Text → Option (List ℕ) → Option (List ℕ) → World → World → Status → Type 0
+StopsAtSync words input rest old new s =
+    (name : Text) (t : Tree) (bytes : List ℕ) (d : Definition) → asked_of words ≡ Maintain name → Defines name old t d → input ≡ Some bytes
+    → GaveOutStatus old new s → IsCutOff d t bytes rest old new
+
+-- `verify` is done where the folder holds what is meant
+abbrev pub Verifies : List Text → World → World → Status → Type 0
+Verifies words old new s = (name : Text) (t : Tree) (d : Definition) → asked_of words ≡ Verify name → Defines name old t d → s ≡ status.Done → IsVerified d t old new
+
+-- and it says that a folder differs where it does
+abbrev pub TellsDifference : List Text → World → Status → Type 0
+TellsDifference words old s = (name : Text) (t : Tree) (d : Definition) → asked_of words ≡ Verify name → Defines name old t d → s ≡ status.NoView → Differs d t
+
+-- where a run is done, the whole input was read
+abbrev pub ReadsWhole : List Text → Option (List ℕ) → Option (List ℕ) → Status → Type 0
+ReadsWhole words input rest s = (bytes : List ℕ) → reads_input (asked_of words) ≡ true → is_done_status s ≡ true → input ≡ Some bytes → IsReadWhole bytes rest
+
+-- a run that is refused changes nothing, whatever its input tells
+abbrev pub KeepsAll : List Text → World → World → Status → Type 0
+KeepsAll words old new s = (t : Tree) → Told (uses_store (asked_of words)) old.store.tree t → is_refused_status s ≡ true → Unchanged old new
+
+-- whatever the status, only the `.csv` files of the view's folder are changed
+abbrev pub KeepsOthers : List Text → World → World → Type 0
+KeepsOthers words old new = (t : Tree) (d : Definition) → old.store.tree ≡ Some t → IsAsked (asked_of words) t d → Keeps (exempt_of d) t new
+
+-- a run that gave up took no more of its input than it answered, the line under way and what one read gives
+abbrev pub TakesLittle : List Text → Option (List ℕ) → Option (List ℕ) → World → World → Status → Type 0
+TakesLittle words input rest old new s =
+    (c : Course) (bytes : List ℕ) → Has words old c → reads_input (asked_of words) ≡ true → input ≡ Some bytes → is_fault_status s ≡ true → Took c bytes rest old new
