@@ -5,8 +5,12 @@
 #![tactic(auto)]
 
 mod folders;
+mod listing;
+mod paths;
+mod reading;
 mod streams;
 mod words;
+mod writing;
 
 ghost use Rattle.std.specs.Prelude.{◌≡◌, ◌<◌};
 
