@@ -1,0 +1,12 @@
+pub mod Paths
+pub mod LinkLemmas
+pub mod Marked
+pub mod Sought
+pub mod Halfway
+pub mod Made
+pub mod LiveChains
+pub mod Seen
+pub mod Started
+pub mod Finding
+pub mod Changed
+pub mod Places
