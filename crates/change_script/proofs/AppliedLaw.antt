@@ -18,7 +18,8 @@ use Rattle.flow_law.specs.InOrder.{AreTables}
 use Rattle.flow_law.specs.Lines.{label_of, after_line, after_lines, has_table, fits_table, fits_line, fit_lines}
 use Rattle.flow_law.specs.Script.{columns_beyond, keys_beyond, cell_line, changed, lines_for, script}
 use Rattle.flow_law.proofs.ScriptLaw.{script_makes, script_fits}
-use Rattle.change_script.specs.Applied.{KeyLength, wrong_key, key_fault, label_fault, can_have, has_needed, has_added, is_target_there, is_added_there, applied_line, applied_behind, applied}
+use Rattle.change_script.specs.declared.applying.ApplyFault.TheVariants.{KeyLength}
+use Rattle.change_script.specs.Applied.{wrong_key, key_fault, label_fault, can_have, has_needed, has_added, is_target_there, is_added_there, applied_line, applied_behind, applied}
 use Rattle.change_script.specs.Fits.{TableFits, TablesFit}
 
 -- a line that no view of this form refuses for its key, its labels or its column
@@ -27,7 +28,7 @@ record IsLawful (shape : Shape) (line : TableLine) : Type 0 where
   label : label_fault shape.constants line ≡ None
   column : can_have shape.spot line ≡ true
 
-has_table_is : (ts : TablesValue) (label : Text) → has_table ts label ≡ is_some (table_of ts label)
+pub has_table_is : (ts : TablesValue) (label : Text) → has_table ts label ≡ is_some (table_of ts label)
 has_table_is ts label = sym (found_any text_order ts label)
 
 -- a lawful line applies where it fits

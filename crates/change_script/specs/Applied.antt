@@ -6,29 +6,23 @@ use Rattle.ss_text.specs.Label.{is_table_label, is_column_label}
 use Rattle.flow_law.specs.declared.shape.Shape.{Shape}
 use Rattle.flow_law.specs.declared.line.TableLine.{TableLine}
 use Rattle.flow_law.specs.declared.line.TableLine.TheVariants.{TablePlus, RowMinus, ColumnMinus, ColumnPlus, RowPlus, Cell}
-use Rattle.flow_law.specs.declared.refused.IllegalLabel.{IllegalLabel}
 use Rattle.flow_law.specs.Tables.{TableValue, TablesValue, table_of}
 use Rattle.flow_law.specs.Lines.{label_of, after_line, has_row, has_column, has_table}
+use Rattle.change_script.specs.declared.applying.ApplyFault.{ApplyFault}
+use Rattle.change_script.specs.declared.applying.ApplyFault.TheVariants.{KeyLength, Illegal, NoTarget, TargetThere}
 
--- why a line does not apply: its key has another number of fields than there are constant columns; a label that it adds is not legal; what it names is not there; or what it adds is there already
-pub data Unapplied : Type 0 where
-  KeyLength : (want got : ℕ) → Unapplied
-  Illegal : IllegalLabel → Unapplied
-  NoTarget : Unapplied
-  TargetThere : Unapplied
-
-abbrev pub wrong_key : Row → Row → Option Unapplied
+abbrev pub wrong_key : Row → Row → Option ApplyFault
 wrong_key constants key = if length key == length constants then None else Some (KeyLength (length constants) (length key))
 
 -- the key of a line
-abbrev pub key_fault : Row → TableLine → Option Unapplied
+abbrev pub key_fault : Row → TableLine → Option ApplyFault
 key_fault constants (RowMinus label key) = wrong_key constants key
 key_fault constants (RowPlus label key) = wrong_key constants key
 key_fault constants (Cell label column value key) = wrong_key constants key
 key_fault constants line = None
 
 -- the label that a line adds
-abbrev pub label_fault : Row → TableLine → Option Unapplied
+abbrev pub label_fault : Row → TableLine → Option ApplyFault
 label_fault constants (TablePlus label) = if is_table_label label then None else Some (Illegal (record { table = label; column = None }))
 label_fault constants (ColumnPlus label column) = if is_column_label column constants then None else Some (Illegal (record { table = label; column = Some column }))
 label_fault constants line = None
@@ -64,26 +58,26 @@ is_added_there ts (TablePlus label) = has_table ts label
 is_added_there ts line = option_map_or (has_added line) (table_of ts (label_of line)) false
 
 -- the first of these, in this order
-abbrev pub line_fault : Shape → TablesValue → TableLine → Option Unapplied
+abbrev pub line_fault : Shape → TablesValue → TableLine → Option ApplyFault
 line_fault shape ts line =
     option_or (key_fault shape.constants line)
     (option_or (label_fault shape.constants line)
     (option_or (if is_target_there shape.spot ts line then None else Some NoTarget)
     (if is_added_there ts line then Some TargetThere else None)))
 
-abbrev pub unless : Option Unapplied → TablesValue → Result TablesValue Unapplied
+abbrev pub unless : Option ApplyFault → TablesValue → Result TablesValue ApplyFault
 unless None ts = Ok ts
 unless (Some e) ts = Err e
 
 -- the tables after a line
-abbrev pub applied_line : Shape → TablesValue → TableLine → Result TablesValue Unapplied
+abbrev pub applied_line : Shape → TablesValue → TableLine → Result TablesValue ApplyFault
 applied_line shape ts line = unless (line_fault shape ts line) (after_line ts line)
 
-abbrev pub applied_behind : Shape → Result TablesValue Unapplied → List TableLine → Result TablesValue Unapplied
+abbrev pub applied_behind : Shape → Result TablesValue ApplyFault → List TableLine → Result TablesValue ApplyFault
 applied_behind shape r [] = r
 applied_behind shape (Err e) (line ∷ lines) = Err e
 applied_behind shape (Ok ts) (line ∷ lines) = applied_behind shape (applied_line shape ts line) lines
 
 -- and after lines
-abbrev pub applied : Shape → TablesValue → List TableLine → Result TablesValue Unapplied
+abbrev pub applied : Shape → TablesValue → List TableLine → Result TablesValue ApplyFault
 applied shape ts lines = applied_behind shape (Ok ts) lines

@@ -1,8 +1,9 @@
 //! The rows that are printed for a script.
 ghost use Rattle.std.specs.Prelude.{◌≡◌, ◌∷◌, ◌++◌, map, IfOk};
-ghost use Rattle.change_script.specs.Printed.{printed};
+ghost use Rattle.change_script.specs.Printed.{verb_name, printed};
 
 use crate::Script;
+use crate::verb::Verb;
 use flow_law::TableLine;
 use ss_text::{NoMemory, Row, Text};
 use std::alloc::Global;
@@ -23,27 +24,31 @@ fn printed(alloc: Global, line: &TableLine) -> Result<Row, NoMemory>
     ensures { IfOk result (λ row. row ≡ printed line.now) }
 {
     match line {
-        TableLine::TableMinus { label } => row(alloc, b"table-", &[label], &[]),
-        TableLine::TablePlus { label } => row(alloc, b"table+", &[label], &[]),
-        TableLine::RowMinus { label, key } => row(alloc, b"row-", &[label], key.cells()),
-        TableLine::ColumnMinus { label, column } => row(alloc, b"column-", &[label, column], &[]),
-        TableLine::ColumnPlus { label, column } => row(alloc, b"column+", &[label, column], &[]),
-        TableLine::RowPlus { label, key } => row(alloc, b"row+", &[label], key.cells()),
+        TableLine::TableMinus { label } => row(alloc, Verb::TableMinus, &[label], &[]),
+        TableLine::TablePlus { label } => row(alloc, Verb::TablePlus, &[label], &[]),
+        TableLine::RowMinus { label, key } => row(alloc, Verb::RowMinus, &[label], key.cells()),
+        TableLine::ColumnMinus { label, column } => {
+            row(alloc, Verb::ColumnMinus, &[label, column], &[])
+        }
+        TableLine::ColumnPlus { label, column } => {
+            row(alloc, Verb::ColumnPlus, &[label, column], &[])
+        }
+        TableLine::RowPlus { label, key } => row(alloc, Verb::RowPlus, &[label], key.cells()),
         TableLine::Cell {
             label,
             column,
             value,
             key,
-        } => row(alloc, b"cell", &[label, column, value], key.cells()),
+        } => row(alloc, Verb::Cell, &[label, column, value], key.cells()),
     }
 }
 
-// The row of a name, the texts behind it and those of a key.
-fn row(alloc: Global, name: &[u8], texts: &[&Text], key: &[Text]) -> Result<Row, NoMemory>
-    ensures { IfOk result (λ row. row ≡ name.now ∷ (map (λ t. t.now) texts.now ++ key.now)) }
+// The row of a verb, the texts behind it and those of a key.
+fn row(alloc: Global, verb: Verb, texts: &[&Text], key: &[Text]) -> Result<Row, NoMemory>
+    ensures { IfOk result (λ row. row ≡ verb_name verb ∷ (map (λ t. t.now) texts.now ++ key.now)) }
 {
     let mut cells = Vec::with_capacity(alloc, 1 + texts.len() + key.len())?;
-    cells.push(Text::of(alloc, name)?)?;
+    cells.push(Text::of(alloc, verb.name())?)?;
     for text in texts {
         cells.push(text.copy()?)?;
     }

@@ -1,6 +1,8 @@
 //! Scripts of worked examples.
-use crate::{Script, script_lines};
-use flow_law::{TableLine, Tables};
+use crate::{
+    ApplyFault, Script, ScriptFault, ScriptLine, apply_line, read_script_line, script_lines,
+};
+use flow_law::{Shape, TableLine, Tables};
 use ss_text::{NoMemory, Row, Text};
 use std::alloc::Global;
 use std::test::Fail;
@@ -144,6 +146,69 @@ fn scripts_of_worked_rows(rt: HostRuntime) -> Result<(), Fail> {
         let found = found(alloc, before, script)?;
         let wanted = rows(alloc, script)?;
         assert_eq!(rt; found.as_slice(), wanted.as_slice(), "at {script}");
+    }
+    Ok(())
+}
+
+// Tables of the salaries, with one constant column.
+fn salaries(alloc: Global) -> Result<Shape, NoMemory> {
+    Ok(Shape {
+        label: Some(text(alloc, "salInfo")?),
+        constants: row(alloc, &["category"])?,
+        spot: Some(1),
+    })
+}
+
+// What becomes of a line.
+fn outcome(
+    alloc: Global,
+    tables: &mut Tables,
+    shape: &Shape,
+    of: &str,
+) -> Result<&'static str, NoMemory> {
+    let line = match read_script_line(alloc, &row(alloc, &words(alloc, of)?)?) {
+        Ok(ScriptLine::Change(line)) => line,
+        Ok(ScriptLine::Passed) => return Ok("passed"),
+        Err(ScriptFault::UnknownVerb) => return Ok("unknown-verb"),
+        Err(ScriptFault::FieldCount { .. }) => return Ok("field-count"),
+        Err(ScriptFault::NoMemory) => return Err(NoMemory),
+    };
+    let applied = apply_line(tables, shape, &line);
+    drop(line);
+    match applied {
+        Ok(()) => Ok("applied"),
+        Err(ApplyFault::KeyLength { .. }) => Ok("key-length"),
+        Err(ApplyFault::Illegal(_)) => Ok("illegal-label"),
+        Err(ApplyFault::NoTarget) => Ok("no-target"),
+        Err(ApplyFault::TargetThere) => Ok("target-there"),
+        Err(ApplyFault::NoMemory) => Err(NoMemory),
+    }
+}
+
+#[test]
+fn lines_are_read_and_applied(rt: HostRuntime) -> Result<(), Fail> {
+    let alloc = rt.alloc();
+    let shape = salaries(alloc)?;
+    let mut tables = made(alloc, ONE_CELL, "")?;
+    for (line, becomes) in [
+        ("done 3", "passed"),
+        ("aborted", "passed"),
+        ("sync", "unknown-verb"),
+        ("cell salInfo cs 70", "field-count"),
+        ("row+ salInfo Lect x", "key-length"),
+        ("row+ none Lect x", "key-length"),
+        ("table+ .a", "illegal-label"),
+        ("column+ none category", "illegal-label"),
+        ("table- none", "no-target"),
+        ("cell salInfo art 5 Prof", "no-target"),
+        ("table+ salInfo", "target-there"),
+        ("row+ salInfo Prof", "target-there"),
+        ("column+ salInfo art", "applied"),
+        ("cell salInfo art 5 Prof", "applied"),
+        ("column- salInfo cs", "applied"),
+    ] {
+        let found = outcome(alloc, &mut tables, &shape, line)?;
+        assert_eq!(rt; found, becomes, "at {line}");
     }
     Ok(())
 }
