@@ -3,3 +3,7 @@ pub mod TableFileLemmas
 pub mod ComparisonLemmas
 pub mod LaterLemmas
 pub mod OpeningLemmas
+pub mod HeldLemmas
+pub mod RecordLemmas
+pub mod PartLemmas
+pub mod FormLemmas

@@ -2,3 +2,6 @@ pub mod Files
 pub mod Sync
 pub mod TableFiles
 pub mod Comparison
+pub mod Records
+pub mod Held
+pub mod Forms

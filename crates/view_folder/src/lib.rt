@@ -1,18 +1,24 @@
 //! The files of a view folder.
 //!
 //! Its contract: after the opening sync the folder's `.csv` files are exactly those of the tables, after a later sync
-//! those of the labels that are named are so and all others stay, and the comparison finds the least difference. It
-//! knows nothing of views, of tables' meaning or of source relations.
+//! those of the labels that are named are so and all others stay, and the comparison finds the least difference. What
+//! is read is the tables whose records the files hold, or the first refusal. It knows nothing of views, of tables'
+//! meaning or of source relations.
 #![tactic(auto)]
 
 mod comparison;
 mod file;
+mod held;
 mod later;
+mod law;
 mod opening;
+mod records;
 mod table_file;
 
 pub use comparison::{Comparison, compare};
 pub use file::{File, folder_of_view};
+pub use held::{TablesFault, read_tables};
 pub use later::sync;
+pub use law::table_records_read_back;
 pub use opening::sync_all;
 pub use table_file::{table_files, table_text};
