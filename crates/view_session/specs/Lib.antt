@@ -1,3 +1,5 @@
 pub mod ConditionCode
+pub mod Group
 pub mod Named
+pub mod Outcome
 pub mod Session

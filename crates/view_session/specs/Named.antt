@@ -4,6 +4,7 @@ use Rattle.std.specs.List.Sorted.{IsStrictlySortedBy}
 use Rattle.ss_text.specs.Texts.{Text, text_cmp}
 use Rattle.ss_text.specs.Ascending.{ascending}
 use Rattle.schema_model.specs.Catalogue.{RelationValue, CatalogueValue, relations_of}
+use Rattle.schema_model.specs.Changes.{after}
 use Rattle.schema_model.specs.Pairs.{pair, pair_cmp}
 use Rattle.schema_model.specs.declared.pair.Pair.{Pair}
 use Rattle.schema_model.specs.declared.change.Change.{Change}
@@ -51,10 +52,21 @@ pub record AreAscending (n : Names) : Type 0 where
   pub relations : IsStrictlySortedBy pair_cmp n.relations
   pub databases : IsStrictlySortedBy text_cmp n.databases
 
--- with those of a change of a catalogue and of its script
-abbrev pub with_names : Names → CatalogueValue → Change → List TableLine → Names
-with_names n c g lines = record {
-  labels = ascending text_cmp (n.labels ++ map label_of lines);
+-- with those of a change of a catalogue, of changes that are made one after another, and of script lines
+abbrev pub with_change : Names → CatalogueValue → Change → Names
+with_change n c g = record {
+  labels = n.labels;
   relations = ascending pair_cmp (n.relations ++ named_relations c g);
   databases = ascending text_cmp (n.databases ++ named_databases g);
+}
+
+abbrev pub with_changes : Names → CatalogueValue → List Change → Names
+with_changes n c [] = n
+with_changes n c (g ∷ gs) = with_changes (with_change n c g) (after c g) gs
+
+abbrev pub with_lines : Names → List TableLine → Names
+with_lines n lines = record {
+  labels = ascending text_cmp (n.labels ++ map label_of lines);
+  relations = n.relations;
+  databases = n.databases;
 }

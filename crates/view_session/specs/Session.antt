@@ -1,8 +1,8 @@
 -- A view that is kept up to date: what it stands for, and what a change does to it.
-use Rattle.std.specs.Prelude.{◌≡◌, List, Option, None, Some, ⊤}
+use Rattle.std.specs.Prelude.{◌≡◌, List, [], ◌∷◌, ◌++◌, Option, None, Some, option_map, unwrap_or, ⊤}
 use Rattle.schema_model.specs.Catalogue.{CatalogueValue}
 use Rattle.schema_model.specs.declared.change.Change.{Change}
-use Rattle.schema_model.specs.Changes.{after}
+use Rattle.schema_model.specs.Changes.{after, after_all}
 use Rattle.schema_model.specs.Refusals.{fault}
 use Rattle.view_def.specs.Query.{Query}
 use Rattle.flow_law.specs.declared.line.TableLine.{TableLine}
@@ -12,21 +12,30 @@ use Rattle.valuation_meaning.specs.Meaning.{meaning}
 use Rattle.valuation_meaning.specs.Refusal.{refusal}
 use Rattle.valuation_meaning.specs.declared.evaluation.EvalFault.{EvalFault}
 use Rattle.valuation_meaning.specs.declared.evaluation.EvalFault.TheVariants as eval
-use Rattle.view_session.specs.Named.{Names, no_names, with_names}
+use Rattle.view_session.specs.Named.{Names, no_names, with_change, with_changes, with_lines}
 use Rattle.view_session.specs.declared.fault.OpenFault.{OpenFault}
 use Rattle.view_session.specs.declared.fault.OpenFault.TheVariants as opening
+use Rattle.view_session.specs.declared.fault.GroupStop.{GroupStop}
+use Rattle.view_session.specs.declared.fault.GroupStop.TheVariants as stop
+use Rattle.view_session.specs.declared.fault.HoldRefused.{HoldRefused}
+use Rattle.view_session.specs.declared.fault.HoldRefused.TheVariants as hold
 use Rattle.view_session.specs.declared.fault.Refused.{Refused}
 use Rattle.view_session.specs.declared.fault.Refused.TheVariants as refused
 
--- the view, the catalogue that it stands for, and what was named since names were last cleared
+-- the view, the catalogue that it stands for, what was named since names were last cleared, and the changes that the open group holds, where one is open
 pub record SessionState : Type 0 where
   pub query : Query
   pub catalogue : CatalogueValue
   pub changed : Names
+  pub held : Option (List Change)
 
 -- a session that was just opened
 abbrev pub opened : Query → CatalogueValue → SessionState
-opened q c = record { query = q; catalogue = c; changed = no_names }
+opened q c = record { query = q; catalogue = c; changed = no_names; held = None }
+
+-- with no names
+abbrev pub cleared : SessionState → SessionState
+cleared s = record s { changed = no_names }
 
 -- the tables that it stands for
 abbrev pub tables_of : SessionState → TablesValue
@@ -38,13 +47,39 @@ lines_to s c = script (tables_of s) (meaning c s.query)
 
 -- the session with another catalogue, and with the names of the change and of the lines
 abbrev pub moved_to : CatalogueValue → SessionState → Change → SessionState
-moved_to c s g = record { query = s.query; catalogue = c; changed = with_names s.changed s.catalogue g (lines_to s c) }
+moved_to c s g = record s { catalogue = c; changed = with_lines (with_change s.changed s.catalogue g) (lines_to s c) }
 
 -- the session after a change
 abbrev pub moved : SessionState → Change → SessionState
 moved s g = moved_to (after s.catalogue g) s g
 
--- the fault of an opening, and of a change, where a view is refused
+-- a group opens, holds one more change, and ends
+abbrev pub begun : SessionState → SessionState
+begun s = record s { held = Some [] }
+
+abbrev pub holding : SessionState → Change → SessionState
+holding s g = record s { held = option_map (λ gs. gs ++ g ∷ []) s.held }
+
+abbrev pub closed : SessionState → SessionState
+closed s = record s { held = None }
+
+-- the catalogue after the changes that the open group holds; the session's own where none is open
+abbrev pub working : SessionState → CatalogueValue
+working s = after_all s.catalogue (unwrap_or s.held [])
+
+-- the session after changes, all at once
+abbrev pub made : SessionState → List Change → SessionState
+made s gs = record s {
+  catalogue = after_all s.catalogue gs;
+  changed = with_lines (with_changes s.changed s.catalogue gs) (lines_to s (after_all s.catalogue gs));
+  held = None;
+}
+
+-- and after those that the open group holds
+abbrev pub committed : SessionState → SessionState
+committed s = made s (unwrap_or s.held [])
+
+-- the fault of an opening, of a change and of a group, where a view is refused
 abbrev pub open_fault : EvalFault → OpenFault
 open_fault (eval.Illegal e) = opening.Illegal e
 open_fault (eval.Conflict e) = opening.Conflict e
@@ -54,6 +89,11 @@ abbrev pub refused_by : EvalFault → Refused
 refused_by (eval.Illegal e) = refused.Illegal e
 refused_by (eval.Conflict e) = refused.Conflict e
 refused_by eval.NoMemory = refused.NoMemory
+
+abbrev pub stopped_by : EvalFault → GroupStop
+stopped_by (eval.Illegal e) = stop.Illegal e
+stopped_by (eval.Conflict e) = stop.Conflict e
+stopped_by eval.NoMemory = stop.NoMemory
 
 -- a view is not opened for this fault, or there was no memory
 abbrev pub IsOpenFault : Option EvalFault → OpenFault → Type 0
@@ -78,3 +118,17 @@ abbrev pub IsRefused : SessionState → Change → Refused → Type 0
 IsRefused s g (refused.Change r) = fault s.catalogue g ≡ Some r
 IsRefused s g refused.NoMemory = ⊤
 IsRefused s g e = (fault s.catalogue g ≡ None) × IsRefusedBy (refusal (after s.catalogue g) s.query) e
+
+-- a change is not held, since a catalogue refuses it, or there was no memory; that is the one after those that the group holds
+abbrev pub IsNotHeld : CatalogueValue → Change → HoldRefused → Type 0
+IsNotHeld c g (hold.Change r) = fault c g ≡ Some r
+IsNotHeld c g hold.NoMemory = ⊤
+
+abbrev pub IsHoldRefused : SessionState → Change → HoldRefused → Type 0
+IsHoldRefused s g e = IsNotHeld (working s) g e
+
+-- a group is refused for this fault of the view over the catalogue after its changes, or there was no memory
+abbrev pub IsGroupStop : Option EvalFault → GroupStop → Type 0
+IsGroupStop expected (stop.Illegal e) = expected ≡ Some (eval.Illegal e)
+IsGroupStop expected (stop.Conflict e) = expected ≡ Some (eval.Conflict e)
+IsGroupStop expected stop.NoMemory = ⊤

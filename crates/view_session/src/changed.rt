@@ -5,7 +5,7 @@ ghost use Rattle.ss_text.specs.Texts.{text_cmp};
 ghost use Rattle.ss_text.specs.Ascending.{ascending};
 ghost use Rattle.schema_model.specs.Pairs.{pair_cmp};
 ghost use Rattle.flow_law.specs.Lines.{label_of};
-ghost use Rattle.view_session.specs.Named.{no_names, with_names, relations_as, named_relations, named_databases};
+ghost use Rattle.view_session.specs.Named.{no_names, with_change, with_lines, relations_as, named_relations, named_databases};
 
 use change_script::Script;
 use schema_model::{Catalogue, Change, Pair};
@@ -65,7 +65,7 @@ impl Changed {
         &self.databases
     }
 
-    // The names with those of a change of a catalogue and of its script.
+    // The names with those of a change of a catalogue, and of its script.
     pub(crate) fn with(
         &self,
         alloc: Global,
@@ -73,11 +73,44 @@ impl Changed {
         change: &Change,
         script: &Script,
     ) -> Result<Changed, NoMemory>
-        ensures { IfOk result (λ names. names ≡ with_names self.now catalogue.now.databases change.now script.now) }
+        ensures { IfOk result (λ names. names ≡ with_lines (with_change self.now catalogue.now.databases change.now) script.now) }
     {
         let labels = labels_with(alloc, &self.labels, script)?;
         let relations = relations_with(alloc, &self.relations, catalogue, change)?;
         let databases = databases_with(alloc, &self.databases, change)?;
+        Ok(Changed {
+            labels,
+            relations,
+            databases,
+        })
+    }
+
+    // The names with those of a change of a catalogue.
+    pub(crate) fn with_change(
+        &self,
+        alloc: Global,
+        catalogue: &Catalogue,
+        change: &Change,
+    ) -> Result<Changed, NoMemory>
+        ensures { IfOk result (λ names. names ≡ with_change self.now catalogue.now.databases change.now) }
+    {
+        let labels = texts(alloc, &self.labels)?;
+        let relations = relations_with(alloc, &self.relations, catalogue, change)?;
+        let databases = databases_with(alloc, &self.databases, change)?;
+        Ok(Changed {
+            labels,
+            relations,
+            databases,
+        })
+    }
+
+    // The names with those of a script.
+    pub(crate) fn with_lines(&self, alloc: Global, script: &Script) -> Result<Changed, NoMemory>
+        ensures { IfOk result (λ names. names ≡ with_lines self.now script.now) }
+    {
+        let labels = labels_with(alloc, &self.labels, script)?;
+        let relations = pairs(alloc, &self.relations)?;
+        let databases = texts(alloc, &self.databases)?;
         Ok(Changed {
             labels,
             relations,

@@ -75,3 +75,55 @@ impl From<EvalFault> for Refused {
         }
     }
 }
+
+/// Why a change is not held.
+#[derive(Debug, Drop)]
+pub enum HoldRefused {
+    /// The catalogue after the changes that are held refuses it.
+    Change(Refusal),
+    NoMemory,
+}
+
+impl From<NoMemory> for HoldRefused {
+    ghost use Rattle.view_session.specs.declared.fault.HoldRefused.{HoldRefused};
+
+    ghost from_gives = { λ _ refused. refused ≡ HoldRefused.NoMemory };
+
+    fn from(_: NoMemory) -> Self {
+        HoldRefused::NoMemory
+    }
+}
+
+/// Why a group of changes is refused.
+#[derive(Debug, Drop)]
+pub enum GroupStop {
+    /// After it a label would not be legal.
+    Illegal(IllegalLabel),
+    /// After it a cell would have two values.
+    Conflict(Clash),
+    NoMemory,
+}
+
+impl From<NoMemory> for GroupStop {
+    ghost use Rattle.view_session.specs.declared.fault.GroupStop.{GroupStop};
+
+    ghost from_gives = { λ _ stop. stop ≡ GroupStop.NoMemory };
+
+    fn from(_: NoMemory) -> Self {
+        GroupStop::NoMemory
+    }
+}
+
+impl From<EvalFault> for GroupStop {
+    ghost use Rattle.view_session.specs.Session.{stopped_by};
+
+    ghost from_gives = { λ fault stop. stop ≡ stopped_by fault };
+
+    fn from(fault: EvalFault) -> Self {
+        match fault {
+            EvalFault::Illegal(label) => GroupStop::Illegal(label),
+            EvalFault::Conflict(clash) => GroupStop::Conflict(clash),
+            EvalFault::NoMemory => GroupStop::NoMemory,
+        }
+    }
+}

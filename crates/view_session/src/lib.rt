@@ -1,13 +1,14 @@
 //! A view that is kept up to date.
 //!
 //! Its contract: a session's tables are the meaning of its view over its catalogue, after any changes, and each
-//! change is answered by its refusal, changing nothing, or by the script from the former tables to the present
-//! ones. It knows nothing of lines, of files or of how a script is printed.
+//! change or group of changes is answered by its refusal, changing nothing, or by the script from the former tables
+//! to the present ones. It knows nothing of lines, of files or of how a script is printed.
 #![tactic(auto)]
 
 mod changed;
 mod fault;
+mod group;
 mod session;
 
-pub use fault::{OpenFault, Refused};
+pub use fault::{GroupStop, HoldRefused, OpenFault, Refused};
 pub use session::Session;

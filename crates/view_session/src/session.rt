@@ -1,5 +1,5 @@
 //! A view over a catalogue, and its changes.
-ghost use Rattle.std.specs.Prelude.{◌≡◌, None, IfOk, IfErr, OnOk, OnErr, IsTrue};
+ghost use Rattle.std.specs.Prelude.{◌≡◌, true, None, IfOk, IfErr, OnOk, OnErr, IsTrue, is_some, option_map, option_and_then, unwrap_or, length};
 ghost use Rattle.std.specs.List.Sorted.{IsStrictlySortedBy};
 ghost use Rattle.ss_text.specs.Texts.{text_cmp};
 ghost use Rattle.schema_model.specs.Changes.{after, is_well_formed};
@@ -9,10 +9,13 @@ ghost use Rattle.schema_model.specs.States.{settled};
 ghost use Rattle.view_def.specs.Query.{query_of};
 ghost use Rattle.valuation_meaning.specs.Meaning.{shape_of};
 ghost use Rattle.valuation_meaning.specs.Refusal.{refusal};
-ghost use Rattle.view_session.specs.Session.{opened, tables_of, lines_to, moved, moved_to, IsOpenFault, IsAccepted, IsRefused, IsRefusedBy};
+ghost use Rattle.view_session.specs.Group.{GroupState};
+ghost use Rattle.view_session.specs.Outcome.{IsOutcome};
+ghost use Rattle.view_session.specs.Session.{opened, cleared, begun, holding, closed, working, committed, tables_of, lines_to, moved, moved_to, IsOpenFault, IsAccepted, IsRefused, IsRefusedBy, IsHoldRefused, IsGroupStop};
 
 use crate::changed::Changed;
-use crate::{OpenFault, Refused};
+use crate::group::Group;
+use crate::{GroupStop, HoldRefused, OpenFault, Refused};
 use change_script::Script;
 use flow_law::{Shape, Tables};
 use schema_model::{Catalogue, Change, Pair};
@@ -22,8 +25,9 @@ use std::marker::Model;
 use valuation_meaning::{evaluate, shape_of};
 use view_def::View;
 
-/// A view that is kept up to date, which contracts see as the view, the catalogue that it stands for, and what
-/// was named since the names were last cleared. Its tables are the view's meaning.
+/// A view that is kept up to date, which contracts see as the view, the catalogue that it stands for, what was named
+/// since the names were last cleared, and the changes that the open group holds, where one is open. Its tables are the
+/// view's meaning.
 #[derive(Drop)]
 pub struct Session {
     view: Box<View>,
@@ -31,12 +35,22 @@ pub struct Session {
     shape: Shape,
     tables: Tables,
     changed: Changed,
+    group: Option<Group>,
+}
+
+// The tables, the names and the lines that the changes of a group come to.
+#[derive(Drop)]
+struct Outcome {
+    tables: Tables,
+    names: Changed,
+    lines: Script,
 }
 
 impl Model for Session {
-    ghost use Rattle.std.specs.Prelude.{◌≡◌};
+    ghost use Rattle.std.specs.Prelude.{◌≡◌, IfSome, option_map};
     ghost use Rattle.view_def.specs.Query.{query_of};
     ghost use Rattle.valuation_meaning.specs.Meaning.{meaning, shape_of};
+    ghost use Rattle.view_session.specs.Group.{GroupState, IsOver};
     ghost use Rattle.view_session.specs.Session.{SessionState};
     ghost use Rattle.std.specs.Coded.{Coded, codes};
     ghost use Rattle.view_session.specs.ConditionCode.{Mark, condition_code};
@@ -45,11 +59,12 @@ impl Model for Session {
 
     ghost coded = { let mark_code : Coded Mark = Prim.hlevel codes in Prim.hlevel (codes, condition_code mark_code) };
 
-    ghost view = { λ s. record { query = query_of s.view.value; catalogue = s.catalogue.databases; changed = s.changed } };
+    ghost view = { λ s. record { query = query_of s.view.value; catalogue = s.catalogue.databases; changed = s.changed; held = option_map (λ (g : GroupState). g.draft.changes) s.group } };
 
     ghost invariant = { λ s. record {
       shape : s.shape ≡ shape_of (query_of s.view.value);
       tables : s.tables ≡ meaning s.catalogue.databases (query_of s.view.value);
+      group : IfSome s.group (λ g. IsOver g s.changed s.catalogue.databases);
     } };
 }
 
@@ -68,13 +83,15 @@ impl Session {
             shape,
             tables,
             changed: Changed::none(alloc),
+            group: None,
         })
     }
 
-    /// Makes a change, and answers the lines by which the tables change. After each refusal the session is as
-    /// before.
+    /// Makes a change where no group is open, and answers the lines by which the tables change. After each refusal the
+    /// session is as before.
     pub fn apply(&mut self, alloc: Global, change: &Change) -> Result<Script, Refused>
-        requires { IsTrue (is_well_formed change.now) }
+        requires well_formed { IsTrue (is_well_formed change.now) }
+        requires idle { self.old.held ≡ None }
         ensures script { IfOk result (λ lines. lines ≡ lines_to self.old (after self.old.catalogue change.now)) }
         ensures accepted { OnOk result (IsAccepted self.old change.now) }
         ensures moved { OnOk result (self.new ≡ moved self.old change.now) }
@@ -107,6 +124,7 @@ impl Session {
         catalogue: Catalogue,
         change: &Change,
     ) -> Result<Script, Refused>
+        requires { self.old.held ≡ None }
         ensures script { IfOk result (λ lines. lines ≡ lines_to self.old catalogue.databases) }
         ensures allowed { OnOk result (refusal catalogue.databases self.old.query ≡ None) }
         ensures moved { OnOk result (self.new ≡ moved_to catalogue.databases self.old change.now) }
@@ -120,6 +138,104 @@ impl Session {
         self.tables = tables;
         self.changed = changed;
         Ok(script)
+    }
+
+    /// Opens a group of changes.
+    pub fn begin(&mut self, alloc: Global)
+        requires { self.old.held ≡ None }
+        ensures { self.new ≡ begun self.old }
+    {
+        self.group = Some(Group::new(alloc));
+    }
+
+    /// Holds one more change in the open group. After each refusal the session is as before.
+    pub fn hold(&mut self, alloc: Global, change: &Change) -> Result<(), HoldRefused>
+        requires open { is_some self.old.held ≡ true }
+        requires well_formed { IsTrue (is_well_formed change.now) }
+        ensures held { OnOk result (self.new ≡ holding self.old change.now) }
+        ensures accepted { OnOk result (fault (working self.old) change.now ≡ None) }
+        ensures refused { IfErr result (λ e. IsHoldRefused self.old change.now e) }
+        ensures same { OnErr result (self.new ≡ self.old) }
+    {
+        let Some(group) = &mut self.group else {
+            unreachable!()
+        };
+        group.hold(alloc, &self.catalogue, &self.changed, change)
+    }
+
+    /// Makes the changes of the open group, all at once, and answers the lines by which the tables change. The group
+    /// is closed, and after each refusal the rest of the session is as before.
+    pub fn commit_group(&mut self, alloc: Global) -> Result<Script, GroupStop>
+        requires { is_some self.old.held ≡ true }
+        ensures script { IfOk result (λ lines. lines ≡ lines_to self.old (working self.old)) }
+        ensures allowed { OnOk result (refusal (working self.old) self.old.query ≡ None) }
+        ensures moved { OnOk result (self.new ≡ committed self.old) }
+        ensures refused { IfErr result (λ e. IsGroupStop (refusal (working self.old) self.old.query) e) }
+        ensures closed { OnErr result (self.new ≡ closed self.old) }
+    {
+        match self.outcome(alloc) {
+            Ok(outcome) => Ok(self.put(outcome)),
+            Err(stop) => {
+                self.abort_group();
+                Err(stop)
+            }
+        }
+    }
+
+    // What the changes of the open group come to, where the view over the catalogue after them is not refused.
+    fn outcome(&self, alloc: Global) -> Result<Outcome, GroupStop>
+        requires { is_some self.now.held ≡ true }
+        ensures outcome { IfOk result (λ o. IsOutcome self.now o) }
+        ensures allowed { OnOk result (refusal (working self.now) self.now.query ≡ None) }
+        ensures refused { IfErr result (λ e. IsGroupStop (refusal (working self.now) self.now.query) e) }
+    {
+        let Some(group) = &self.group else {
+            unreachable!()
+        };
+        let tables = evaluate(alloc, group.catalogue(&self.catalogue), &self.view)?;
+        let lines = Script::between(alloc, &self.tables, &tables)?;
+        let names = group.names_and(alloc, &self.changed, &lines)?;
+        Ok(Outcome {
+            tables,
+            names,
+            lines,
+        })
+    }
+
+    // Puts it in place, and closes the group.
+    fn put(&mut self, outcome: Outcome) -> Script
+        requires open { is_some self.old.held ≡ true }
+        requires outcome { IsOutcome self.old outcome }
+        ensures script { result ≡ lines_to self.old (working self.old) }
+        ensures moved { self.new ≡ committed self.old }
+    {
+        let Outcome {
+            tables,
+            names,
+            lines,
+        } = outcome;
+        make(&mut self.catalogue, self.group.take());
+        self.tables = tables;
+        self.changed = names;
+        lines
+    }
+
+    /// Gives up the open group.
+    pub fn abort_group(&mut self)
+        requires { is_some self.old.held ≡ true }
+        ensures { self.new ≡ closed self.old }
+    {
+        self.group = None;
+    }
+
+    /// How many changes the open group holds, where one is open.
+    pub fn held(&self) -> Option<usize>
+        ensures { result ≡ option_map length self.now.held }
+    {
+        match &self.group {
+            Some(group) => Some(group.count()),
+            None => None,
+        }
     }
 
     /// The tables, which are the view's meaning over the catalogue.
@@ -168,10 +284,23 @@ impl Session {
         self.changed.databases()
     }
 
-    /// Forgets what was named.
+    /// Forgets what was named, where no group is open.
     pub fn clear_changed(&mut self)
-        ensures { self.new ≡ opened self.old.query self.old.catalogue }
+        requires { self.old.held ≡ None }
+        ensures { self.new ≡ cleared self.old }
     {
         self.changed.clear();
+    }
+}
+
+// Makes the changes of a group, where there is one.
+fn make(catalogue: &mut Catalogue, group: Option<Group>)
+    ensures { catalogue.new.databases ≡ unwrap_or (option_and_then (λ (g : GroupState). g.draft.after) group) catalogue.old.databases }
+{
+    let Some(group) = group else {
+        return;
+    };
+    if let Some(after) = group.into_catalogue() {
+        *catalogue = after;
     }
 }
