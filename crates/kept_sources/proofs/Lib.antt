@@ -1,0 +1,10 @@
+pub mod NamedLemmas
+pub mod TreeLemmas
+pub mod FileLemmas
+pub mod LoadedLemmas
+pub mod ReadLemmas
+pub mod ChangeLemmas
+pub mod AfterLemmas
+pub mod SavingLemmas
+pub mod FormedLemmas
+pub mod LawLemmas

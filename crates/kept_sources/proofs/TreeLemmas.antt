@@ -1,0 +1,161 @@
+-- The files and the folders in a folder.
+use Rattle.std.specs.Prelude.{T}
+use Rattle.std.proofs.Common.{◌≡◌, ◌≢◌, ◌∷◌, ◌++◌, ◌∙◌, [], ℕ, suc, Bool, true, false, cond, not, ◌&&◌, ◌||◌, ◌==◌, List, Option, Some, None, is_some, refl, sym, ap, subst, length, map, append_assoc}
+use Rattle.std.specs.Prelude.{codes, filter, unwrap_or, slice_index}
+use Rattle.std.specs.FinMap as map_of
+use Rattle.std.specs.FinMap.Entries.{below_all}
+use Rattle.std.specs.List.{AllByRecursion, list_any, list_all, cons_option}
+use Rattle.std.specs.List.Sorted.{IsStrictlySortedBy}
+use Rattle.std.specs.Ordering.{eq_by_cmp, is_lt}
+use Rattle.std.specs.Str.{is_utf8}
+use Rattle.std.specs.Cmp.Lexicographic.{texts_ties}
+use Rattle.std.specs.declared.cmp.Ordering.{Ordering}
+use Rattle.std.specs.declared.cmp.Ordering.TheVariants.{Less, Equal, Greater}
+use Rattle.std.proofs.lemmas.Bool.{and_parts, or_right, eqb-true, ne_eqb, false_from_ne_true, true≢false}
+use Rattle.std.proofs.lemmas.List.{append_cancel_left}
+use Rattle.ss_text.specs.Texts.{Text, text_cmp, text_eq, is_in}
+use Rattle.ss_text.specs.Label.{is_table_label, is_table_byte, has_label_length}
+use Rattle.ss_text.proofs.KeyLemmas.{text_order, equal_itself}
+use Rattle.outside.specs.Tree.{Tree, Place, place_cmp, file_at, files_of, subfolders_of, children_in, child_name, is_part, has_folder, has_empty_folder}
+use Rattle.outside.proofs.PlaceLemmas.{names_ascend}
+use Rattle.outside.proofs.TreeLemmas.{child_full, children_ascend}
+use Rattle.csv_catalog.specs.Loaded.{sources_folder, database_folder}
+use Rattle.view_folder.proofs.FolderLemmas.{there}
+use Rattle.kept_sources.proofs.NamedLemmas.{same_text, differs_back}
+
+less : (o : Ordering) → is_lt o ≡ true → o ≡ Less
+less Less h = refl
+less Equal h = absurd (cc)
+less Greater h = absurd (cc)
+
+is_true : (b : Bool) → T b → b ≡ true
+is_true true h = refl
+is_true false h = absurd h
+
+module _ {K X : Type 0} (R : K → K → Ordering) where
+  each_below : (k : K) (es : List (K × X)) → below_all R k es ≡ true → AllByRecursion (λ y. R k y ≡ Less) (map (λ (e : K × X). e.0) es)
+  each_below k [] h = tt
+  each_below k (e ∷ es) h =
+      let parts = and_parts (is_lt (R k e.0)) (below_all R k es) h in
+      (less (R k e.0) parts.0, each_below k es parts.1)
+
+  keys_ascend : (es : List (K × X)) → map_of.is_sorted R es ≡ true → IsStrictlySortedBy R (map (λ (e : K × X). e.0) es)
+  unfolding IsStrictlySortedBy
+  keys_ascend [] h = tt
+  keys_ascend (e ∷ es) h =
+      let parts = and_parts (below_all R e.0 es) (map_of.is_sorted R es) h in
+      (each_below e.0 es parts.0, keys_ascend es parts.1)
+
+pub files_ascend : (t : Tree) (folder : Text) → IsStrictlySortedBy text_cmp (files_of t folder)
+files_ascend t folder = names_ascend folder (map_of.keys t.files) (keys_ascend place_cmp (map_of.entries t.files) (is_true _ (map_of.entries_sorted t.files)))
+
+pub folders_ascend : (t : Tree) (folder : Text) → IsStrictlySortedBy text_cmp (subfolders_of t folder)
+folders_ascend t folder = children_ascend folder (map_of.keys t.folders) (keys_ascend text_cmp (map_of.entries t.folders) (is_true _ (map_of.entries_sorted t.folders)))
+
+-- a label has no `/`
+no_slash : (bytes : Text) → list_all is_table_byte bytes ≡ true → list_any (λ b. b == 47) bytes ≡ false
+no_slash [] h = refl
+no_slash (b ∷ bs) h =
+    let parts = and_parts (is_table_byte b) (list_all is_table_byte bs) h in
+    let other : (b == 47) ≡ false = false_from_ne_true _ (λ e. true≢false (sym parts.0 ∙ ap is_table_byte (eqb-true b 47 e))) in
+    rw (other, no_slash bs parts.1) refl
+
+label_bytes : (label : Text) → is_table_label label ≡ true → list_all is_table_byte label ≡ true
+unfolding is_table_label
+label_bytes label h = (and_parts (has_label_length label && not (slice_index label 0 == 46)) (list_all is_table_byte label) (and_parts (has_label_length label && not (slice_index label 0 == 46) && list_all is_table_byte label) (is_utf8 label) h).0).1
+
+pub label_slash : (label : Text) → is_table_label label ≡ true → list_any (λ b. b == 47) label ≡ false
+label_slash label h = no_slash label (label_bytes label h)
+
+pub label_some : (label : Text) → is_table_label label ≡ true → (length label == 0) ≡ false
+unfolding is_table_label
+label_some [] h = absurd (cc)
+label_some (b ∷ bs) h = ne_eqb (suc (length bs)) 0 (λ z. cc z)
+
+pub label_part : (label : Text) → is_table_label label ≡ true → is_part label ≡ true
+label_part label h = rw (label_some label h, label_slash label h) refl
+
+-- the folder of a database lies in that of the sources
+child_of_sources : (db : Text) → child_name sources_folder (database_folder db) ≡ cond (is_part db) (Some db) None
+child_of_sources db = refl
+
+some_of : (b : Bool) (x : Text) → b ≡ true → cond b (Some x) None ≡ Some x
+some_of b x e = rw e refl
+
+module _ (db : Text) (part : is_part db ≡ true) where
+  is_child : child_name sources_folder (database_folder db) ≡ Some db
+  is_child = child_of_sources db ∙ some_of (is_part db) db part
+
+  one_child : (k : Text) (o : Option Text) → child_name sources_folder k ≡ o → (rest : Bool) (names : List Text) → is_in db names ≡ rest → is_in db (cons_option o names) ≡ (eq_by_cmp text_cmp (database_folder db) k || rest)
+  one_child k None e rest names h = h ∙ ap (λ b. b || rest) (sym (ties_not (λ same. none_some (sym e ∙ ap (child_name sources_folder) (sym same) ∙ is_child))))
+    where
+      none_some : None ≡ Some db → ⊥
+      none_some e = absurd (cc)
+
+      ties_not : (database_folder db ≡ k → ⊥) → eq_by_cmp text_cmp (database_folder db) k ≡ false
+      ties_not other = sym (texts_ties (database_folder db) k) ∙ false_from_ne_true _ (λ s. other (same_text (database_folder db) k s))
+  one_child k (Some name) e rest names h = ap (λ b. text_eq db name || b) h ∙ ap (λ b. b || rest) (by_case (text_eq db name) refl)
+    where
+      full : k ≡ database_folder name
+      full = child_full sources_folder k name e
+
+      by_case : (b : Bool) → text_eq db name ≡ b → b ≡ eq_by_cmp text_cmp (database_folder db) k
+      by_case true s = sym (sym (texts_ties (database_folder db) k) ∙ ap (text_eq (database_folder db)) (full ∙ ap database_folder (sym (same_text db name s))) ∙ equal_itself text_order (database_folder db))
+      by_case false s =
+          sym (sym (texts_ties (database_folder db) k) ∙ false_from_ne_true _ (λ same.
+          let is : db ≡ name = append_cancel_left (codes "sources/") db name (same_text (database_folder db) k same ∙ full) in
+          true≢false (sym (equal_itself text_order name) ∙ ap (λ (x : Text). text_eq x name) (sym is) ∙ s)))
+
+  in_children : (ks : List Text) → is_in db (children_in sources_folder ks) ≡ list_any (eq_by_cmp text_cmp (database_folder db)) ks
+  in_children [] = refl
+  in_children (k ∷ ks) = one_child k (child_name sources_folder k) refl _ (children_in sources_folder ks) (in_children ks)
+
+  pub in_sources : (t : Tree) → is_in db (subfolders_of t sources_folder) ≡ has_folder t (database_folder db)
+  in_sources t = in_children (map_of.keys t.folders) ∙ sym (map_of.contains_key-keys t.folders (database_folder db))
+
+-- a folder without files and folders
+no_names : (names : List Text) → ((name : Text) → is_in name names ≡ false) → names ≡ []
+no_names [] h = refl
+no_names (n ∷ ns) h = absurd (true≢false (sym (ap (λ b. b || is_in n ns) (equal_itself text_order n)) ∙ h n))
+
+in_keys : (m : map_of.FinMap text_cmp (Unit {0})) (k : Text) → is_in k (map_of.keys m) ≡ map_of.contains_key m k
+in_keys m k = any_same (map_of.keys m) ∙ sym (map_of.contains_key-keys m k)
+  where
+    any_same : (ks : List Text) → is_in k ks ≡ list_any (eq_by_cmp text_cmp k) ks
+    any_same [] = refl
+    any_same (j ∷ ks) = ap (λ b. b || is_in k ks) (texts_ties k j) ∙ ap (λ b. eq_by_cmp text_cmp k j || b) (any_same ks)
+
+no_children : (f : Text) (ks : List Text) → ((k : Text) → is_in k ks ≡ true → child_name f k ≡ None) → children_in f ks ≡ []
+no_children f [] h = refl
+no_children f (k ∷ ks) h =
+    let here : child_name f k ≡ None = h k (ap (λ b. b || is_in k ks) (equal_itself text_order k)) in
+    let rest : children_in f ks ≡ [] = no_children f ks (λ j i. h j (or_right (text_eq j k) (is_in j ks) i)) in
+    rw (here, rest) refl
+
+pub stands_empty : (t : Tree) (f : Text) → has_folder t f ≡ true → ((name : Text) → file_at t f name ≡ None) → ((d : Text) → has_folder t d ≡ true → child_name f d ≡ None) → has_empty_folder t f ≡ true
+stands_empty t f here files folders =
+    let no_files : files_of t f ≡ [] = no_names (files_of t f) (λ name. there t f name ∙ ap is_some (files name)) in
+    let no_folders : subfolders_of t f ≡ [] = no_children f (map_of.keys t.folders) (λ d i. folders d (sym (in_keys t.folders d) ∙ i)) in
+    rw (here, no_files, no_folders) refl
+
+-- a folder in which none lies has no folder in it
+child_in : (f : Text) (ks : List Text) (k name : Text) → is_in k ks ≡ true → child_name f k ≡ Some name → is_in name (children_in f ks) ≡ true
+child_in f [] k name i e = absurd (cc)
+child_in f (j ∷ ks) k name i e =
+    elim (text_eq k j) as (λ b. text_eq k j ≡ b → (b || is_in k ks) ≡ true → is_in name (cons_option (child_name f j) (children_in f ks)) ≡ true) [
+      | true ↦ λ s _.
+          let is : child_name f j ≡ Some name = ap (child_name f) (sym (same_text k j s)) ∙ e in
+          ap (λ o. is_in name (cons_option o (children_in f ks))) is ∙ ap (λ b. b || is_in name (children_in f ks)) (equal_itself text_order name)
+      | false ↦ λ _ later. behind (child_name f j) (child_in f ks k name later e)
+    ] refl i
+  where
+    behind : (o : Option Text) → is_in name (children_in f ks) ≡ true → is_in name (cons_option o (children_in f ks)) ≡ true
+    behind None h = h
+    behind (Some x) h = or_right (text_eq name x) (is_in name (children_in f ks)) h
+
+pub none_in_folder : (t : Tree) (f d : Text) → subfolders_of t f ≡ [] → has_folder t d ≡ true → child_name f d ≡ None
+none_in_folder t f d none here = by_child (child_name f d) refl
+  where
+    by_child : (o : Option Text) → child_name f d ≡ o → o ≡ None
+    by_child None e = refl
+    by_child (Some name) e = absurd (true≢false (sym (child_in f (map_of.keys t.folders) d name (in_keys t.folders d ∙ here) e) ∙ ap (is_in name) none))
