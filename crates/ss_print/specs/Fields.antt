@@ -135,3 +135,17 @@ refusal_fields g refusal.LastAttribute = codes "last-attribute" ∷ database_in 
 refusal_fields g (refusal.ArityDiffers want got) = codes "arity-differs" ∷ database_in g ∷ relation_in g ∷ decimal want ∷ decimal got ∷ []
 refusal_fields g refusal.NoRow = codes "no-row" ∷ database_in g ∷ relation_in g ∷ []
 refusal_fields g (refusal.Limit which) = codes "limit" ∷ counted which ∷ []
+
+-- a group in which so many lines were refused, and a group of so many changes that the input ends in
+abbrev pub group_broken_fields : ℕ → Row
+group_broken_fields lines = codes "group-broken" ∷ decimal lines ∷ []
+
+abbrev pub open_group_fields : ℕ → Row
+open_group_fields changes = codes "open-group" ∷ decimal changes ∷ []
+
+-- a word that does not stand in a group, and one that stands only in a group
+abbrev pub in_group_fields : Row → Row
+in_group_fields row = codes "in-group" ∷ first_field row ∷ []
+
+abbrev pub no_group_fields : Row → Row
+no_group_fields row = codes "no-group" ∷ first_field row ∷ []

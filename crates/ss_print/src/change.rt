@@ -37,7 +37,7 @@ pub fn line_fields(alloc: Global, line: &Row, fault: ChangeFault) -> Result<Row,
 }
 
 // With the first field of a line.
-fn with_first(fields: Fields, alloc: Global, line: &Row) -> Result<Fields, NoMemory>
+pub(crate) fn with_first(fields: Fields, alloc: Global, line: &Row) -> Result<Fields, NoMemory>
     ensures { IfOk result (λ all. all ≡ fields ++ first_field line.now ∷ []) }
 {
     match line.cells() {
