@@ -1,0 +1,52 @@
+-- What the end of an input leaves of a view folder.
+use Rattle.std.proofs.Common.{◌≡◌, ◌∷◌, ◌++◌, ◌∙◌, [], ℕ, List, Option, None, Some, refl, sym, ap}
+use Rattle.outside.specs.States.{StoreState, SinkState}
+use Rattle.outside.specs.Streams.{with_bytes}
+use Rattle.outside.specs.Tree.{Tree}
+use Rattle.effects.specs.Effects.{World, Stored, Contents, contents, stored_of, world_of, performed}
+use Rattle.effects.proofs.EffectLemmas.{performed_append}
+use Rattle.view_folder.specs.Files.{view_folder}
+use Rattle.view_folder.specs.Sync.{later_sync}
+use Rattle.view_folder.proofs.LaterLemmas.{later, later_synced, named_held}
+use Rattle.run_lines.specs.Told.{tells_applied, lines_text, applied_rows}
+use Rattle.view_apply.specs.Applying.{ApplyState, synced_count, finish}
+use Rattle.view_apply.specs.Left.{IsLeft}
+
+told_tree : (o : Option Tree) (n : ℕ) (s : Stored) → stored_of o n ≡ Some s → o ≡ Some s.tree
+told_tree None n s e = absurd (cc)
+told_tree (Some t) n s e = let same : record { tree = t; writes = n } ≡ s = cc in ap (λ (x : Stored). Some x.tree) same
+
+module _ (u : ApplyState) (t : Tree) (old new : World) (told : old.store.tree ≡ Some t) where
+  abbrev at_first : Stored
+  at_first = record { tree = t; writes = old.store.writes }
+
+  abbrev at_last : Stored
+  at_last = later (view_folder u.view_db) u.shape u.tables u.tables u.named at_first
+
+  abbrev synced : StoreState
+  synced = record { tree = Some at_last.tree; writes = at_last.writes; read_faults = 0; write_faults = 0 }
+
+  first_is : contents old ≡ record { stored = Some at_first; held = old.output.held }
+  unfolding contents
+  first_is = ap (λ (o : Option Tree). record { stored = stored_of o old.store.writes; held = old.output.held }) told
+
+  synced_is : contents (world_of synced old.output) ≡ performed (later_sync (view_folder u.view_db) u.shape u.tables u.named) (contents (world_of old.store old.output))
+  unfolding contents
+  synced_is = sym (ap (performed (later_sync (view_folder u.view_db) u.shape u.tables u.named)) first_is ∙ later_synced (view_folder u.view_db) u.shape u.tables u.tables u.named at_first old.output.held)
+
+  left : contents new ≡ performed (finish u).effects (contents old) → contents new ≡ record { stored = Some at_last; held = with_bytes (lines_text (applied_rows u.lines (synced_count u))) old.output.held }
+  left h =
+      h ∙ ap (performed (finish u).effects) first_is
+      ∙ performed_append (later_sync (view_folder u.view_db) u.shape u.tables u.named) (tells_applied u.lines (synced_count u) ∷ []) (record { stored = Some at_first; held = old.output.held })
+      ∙ ap (performed (tells_applied u.lines (synced_count u) ∷ [])) (later_synced (view_folder u.view_db) u.shape u.tables u.tables u.named at_first old.output.held)
+
+  pub is_left : contents new ≡ performed (finish u).effects (contents old) → IsLeft u t old new
+  unfolding contents
+  is_left h =
+      let is = left h in
+      record {
+        tree = at_last.tree;
+        told = told_tree new.store.tree new.store.writes at_last (ap (λ (x : Contents). x.stored) is);
+        files = named_held (view_folder u.view_db) u.shape u.tables u.named old.store synced old.output t at_last.tree told refl synced_is;
+        printed = ap (λ (x : Contents). x.held) is;
+      }

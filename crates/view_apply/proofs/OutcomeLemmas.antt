@@ -1,0 +1,39 @@
+-- From what was made of a line to what it asks for.
+use Rattle.std.proofs.Common.{◌≡◌, ◌≢◌, List, ℕ, [], ◌∷◌, refl, sym, subst}
+use Rattle.std.specs.Prelude.{Result, Ok, Err, None, Some}
+use Rattle.ss_text.specs.Texts.{Row}
+use Rattle.outside.specs.States.{SinkState}
+use Rattle.effects.specs.Effects.{World, contents, performed, Partly}
+use Rattle.effects.specs.Blame.{SinkBlames}
+use Rattle.effects.specs.declared.stop.Stop.{Stop}
+use Rattle.effects.specs.declared.stop.Stop.TheVariants as stop
+use Rattle.effects.proofs.EffectLemmas.{partly_more}
+use Rattle.course.specs.declared.status.Verdict.TheVariants as verdict
+use Rattle.course.specs.Machine.{Answered, effects_of}
+use Rattle.run_lines.specs.Told.{refuses}
+use Rattle.view_apply.specs.Applying.{ApplyState, taken, reply, step}
+
+-- a call on the sink does not fail in reading
+pub sink_no_read : {A : Type 0} (old new : SinkState) (e : Stop) → SinkBlames {A = A} old new (Err e) → e ≢ stop.ReadFault
+sink_no_read old new stop.ReadFault b is = b.because
+sink_no_read old new stop.WriteFault b is = absurd (cc)
+sink_no_read old new stop.NoMemory b is = absurd (cc)
+
+module _ (s u : ApplyState) (line : List ℕ) where
+  -- a line was applied, or its refusal was printed
+  pub line_taken : (w : World) → taken s line ≡ Ok u → Answered (step s line) w w u (Ok None)
+  line_taken w e = subst (λ (r : Result ApplyState Row). Answered (reply r) w w u (Ok None)) (sym e) (refl, refl)
+
+  pub line_refused : (fields : Row) (w v : World) → taken s line ≡ Err fields → contents v ≡ performed (refuses fields ∷ []) (contents w) → Answered (step s line) w v u (Ok (Some verdict.BadCatalogue))
+  line_refused fields w v e h = subst (λ (r : Result ApplyState Row). Answered (reply r) w v u (Ok (Some verdict.BadCatalogue))) (sym e) (h, refl)
+
+  -- it was not, and its refusal broke off
+  pub line_stopped : (w v : World) (e : Stop) → Partly [] (contents w) (contents v) → Answered (step s line) w v u (Err e)
+  line_stopped w v e h = by_answer (taken s line) h
+    where
+      by_answer : (r : Result ApplyState Row) → Partly [] (contents w) (contents v) → Answered (reply r) w v u (Err e)
+      by_answer (Ok a) h = h
+      by_answer (Err fields) h = partly_more [] (refuses fields ∷ []) (contents w) (contents v) h
+
+  pub refusal_stopped : (fields : Row) (w v : World) (e : Stop) → taken s line ≡ Err fields → Partly (refuses fields ∷ []) (contents w) (contents v) → Answered (step s line) w v u (Err e)
+  refusal_stopped fields w v e is h = subst (λ (r : Result ApplyState Row). Answered (reply r) w v u (Err e)) (sym is) h

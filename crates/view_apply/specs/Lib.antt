@@ -1,0 +1,5 @@
+pub mod Refused
+pub mod Applying
+pub mod Opening
+pub mod Scripts
+pub mod Left
