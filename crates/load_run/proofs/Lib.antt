@@ -1,0 +1,4 @@
+mod GeneratorLemmas
+mod StartLemmas
+mod TableLemmas
+mod RunLemmas
