@@ -15,7 +15,7 @@ use Rattle.var_typing.specs.Typed.{typed}
 use Rattle.var_typing.specs.declared.fault.TypeFault.{TypeFault}
 use Rattle.ss_print.specs.Fields.{parse_fields, type_fields}
 use Rattle.ss_top.specs.Opening.{IsDefinition, definition_bytes}
-use Rattle.ss_top.specs.Commands.{Asked, Check, Show, Maintain, Verify, Other}
+use Rattle.ss_top.specs.Commands.{Asked, Check, Show, Maintain, Verify, Apply, Load, Other}
 use Rattle.ss_top.specs.Runs.{IsDefined}
 use Rattle.ss_top.specs.Stages.{Definition, IsRead, typed_or_refused}
 
@@ -54,4 +54,6 @@ is_defined (Check name) t = let d = some_definition name (definition_bytes t nam
 is_defined (Show name) t = let d = some_definition name (definition_bytes t name) in record { definition = d.0; is = d.1 }
 is_defined (Maintain name) t = let d = some_definition name (definition_bytes t name) in record { definition = d.0; is = d.1 }
 is_defined (Verify name) t = let d = some_definition name (definition_bytes t name) in record { definition = d.0; is = d.1 }
+is_defined (Apply name) t = let d = some_definition name (definition_bytes t name) in record { definition = d.0; is = d.1 }
+is_defined (Load changes seed) t = record { definition = Err []; is = tt }
 is_defined Other t = record { definition = Err []; is = tt }

@@ -19,7 +19,8 @@ use Rattle.ss_top.specs.Open.{OpenValue}
 use Rattle.ss_top.specs.Steps.{Opens, IsRefusal}
 use Rattle.ss_top.specs.Commands.{can_maintain}
 use Rattle.ss_top.specs.Course.{Course, GaveOut, RanBy, RanSome, Took, by_lines, first, number, status_of, is_refused_status, IsWholeInput}
-use Rattle.ss_top.specs.Answers.{step, finish, answer}
+use Rattle.ss_top.specs.Answers.{step, finish, answer, end_view}
+use Rattle.ss_top.proofs.DriveLemmas.{went_on, ended_later, took_behind}
 
 -- an opening that ended the run, and one that stopped
 pub opening_ended : (r : Reply OpenValue) (bytes : List ℕ) (rest : Option (List ℕ)) (old new : World) (v : Verdict) → Opens r old new (Ok (opened_as.Ended v)) → RanBy (by_lines step finish r) bytes rest old new (Ok v)
@@ -30,30 +31,10 @@ pub opening_stopped : (r : Reply OpenValue) (bytes : List ℕ) (rest : Option (L
 opening_stopped (Halts es w) bytes rest old new e h = h
 opening_stopped (Goes es o) bytes rest old new e h = partly_more es (course step finish o (lines_of bytes)).effects (contents old) (contents new) h
 
--- the input gave out behind an opening
-abbrev gave_out : (es : List Effect) (o : OpenValue) (bytes : List ℕ) (rest : Option (List ℕ)) (old mid new : World) → contents mid ≡ performed es (contents old) → CutOff step o bytes rest mid new → GaveOut (by_lines step finish (Goes es o)) bytes rest old new
-gave_out es o bytes rest old mid new h cut = record {
-  taken = cut.taken;
-  left = cut.left;
-  split = cut.split;
-  remains = cut.remains;
-  effects = es ++ cut.effects;
-  meant = rw cut.answered refl;
-  done = cut.done ∙ ap (performed cut.effects) h ∙ sym (performed_append es cut.effects (contents old));
-}
-
-went_on : (es : List Effect) (o : OpenValue) (bytes : List ℕ) (rest : Option (List ℕ)) (old mid new : World) (r : Result Verdict Halt) → contents mid ≡ performed es (contents old) → Ran step finish o bytes rest mid new r → RanBy (by_lines step finish (Goes es o)) bytes rest old new r
-went_on es o bytes rest old mid new (Ok v) h ran =
-    let e = course step finish o (lines_of bytes) in
-    (ran.0 ∙ ap (performed e.effects) h ∙ sym (performed_append es e.effects (contents old)), ran.1)
-went_on es o bytes rest old mid new (Err halt.InputFault) h ran = gave_out es o bytes rest old mid new h ran
-went_on es o bytes rest old mid new (Err halt.TooLong) h ran = (gave_out es o bytes rest old mid new h ran.0, ran.1)
-went_on es o bytes rest old mid new (Err (halt.Stopped e)) h ran = partly_later es (course step finish o (lines_of bytes)).effects (contents old) (contents mid) (contents new) h ran
-
 -- an opened view answered the lines
 pub opening_drove : (r : Reply OpenValue) (o : OpenValue) (bytes : List ℕ) (rest : Option (List ℕ)) (old mid new : World) (s : Result Verdict Halt) → Opens r old mid (Ok (opened_as.Open o)) → Ran step finish o bytes rest mid new s → RanBy (by_lines step finish r) bytes rest old new s
 opening_drove (Halts es w) o bytes rest old mid new s h ran = absurd h
-opening_drove (Goes es p) o bytes rest old mid new s h ran = went_on es p bytes rest old mid new s h.0 (subst (λ (x : OpenValue). Ran step finish x bytes rest mid new s) h.1 ran)
+opening_drove (Goes es p) o bytes rest old mid new s h ran = went_on step finish es p bytes rest old mid new s h.0 (subst (λ (x : OpenValue). Ran step finish x bytes rest mid new s) h.1 ran)
 
 -- no line ends the run, so that the whole input was read where all was done
 goes_always : (lines : List (List ℕ)) (es : List Effect) (o : OpenValue) → (fs : List Effect) × (p : OpenValue) × (follow step lines (Goes es o) ≡ Goes fs p)
@@ -81,10 +62,6 @@ pub some_stopped : (r : Reply OpenValue) (old new : World) (e : Stop) → Opens 
 some_stopped (Halts es w) old new e h = record { lines = []; ran = h }
 some_stopped (Goes es o) old new e h = record { lines = []; ran = partly_more es (course step finish o []).effects (contents old) (contents new) h }
 
-ended_later : (es : List Effect) (e : Ending) (old mid new : World) (r : Result Verdict Halt) → contents mid ≡ performed es (contents old) → EndedOver e mid new r → EndedOver (first es e) old new r
-ended_later es e old mid new (Ok v) h ran = (ran.0 ∙ ap (performed e.effects) h ∙ sym (performed_append es e.effects (contents old)), ran.1)
-ended_later es e old mid new (Err x) h ran = partly_later es e.effects (contents old) (contents mid) (contents new) h ran
-
 pub some_drove : (r : Reply OpenValue) (o : OpenValue) (old mid new : World) (s : Result Verdict Halt) → Opens r old mid (Ok (opened_as.Open o)) → AnsweredSome step finish o mid new s → RanSome (by_lines step finish r) old new s
 some_drove (Halts es w) o old mid new s h ran = absurd h
 some_drove (Goes es p) o old mid new s h ran = record { lines = ran.lines; ran = ended_later es (course step finish p ran.lines) old mid new s h.0 (subst (λ (x : OpenValue). EndedOver (course step finish x ran.lines) mid new s) h.1 ran.ran) }
@@ -93,26 +70,9 @@ some_drove (Goes es p) o old mid new s h ran = record { lines = ran.lines; ran =
 pub took_nothing : (c : Course) (bytes : List ℕ) (rest : Option (List ℕ)) (old new : World) → rest ≡ Some bytes → Took c bytes rest old new
 took_nothing c bytes rest old new told = inl told
 
-took_behind : (es : List Effect) (o : OpenValue) (bytes : List ℕ) (rest : Option (List ℕ)) (old mid new : World) → contents mid ≡ performed es (contents old) → lines.TookLittle step finish o bytes rest mid new → Took (by_lines step finish (Goes es o)) bytes rest old new
-took_behind es o bytes rest old mid new h took = inr (record {
-  answered = took.answered;
-  line = took.line;
-  piece = took.piece;
-  left = took.left;
-  split = took.split;
-  remains = took.remains;
-  one_line = took.one_line;
-  one_read = took.one_read;
-  effects = es ++ took.effects;
-  later = took.later;
-  meant = rw took.goes refl;
-  all = ap (λ (t : List Effect). es ++ t) took.all ∙ sym (append_assoc es took.effects took.later);
-  did = subst (λ (c : Contents). Partly took.later c (contents new)) (ap (performed took.effects) h ∙ sym (performed_append es took.effects (contents old))) took.did;
-})
-
 took_drove : (r : Reply OpenValue) (o : OpenValue) (bytes : List ℕ) (rest : Option (List ℕ)) (old mid new : World) → Opens r old mid (Ok (opened_as.Open o)) → lines.TookLittle step finish o bytes rest mid new → Took (by_lines step finish r) bytes rest old new
 took_drove (Halts es w) o bytes rest old mid new h took = absurd h
-took_drove (Goes es p) o bytes rest old mid new h took = took_behind es p bytes rest old mid new h.0 (subst (λ (x : OpenValue). lines.TookLittle step finish x bytes rest mid new) h.1 took)
+took_drove (Goes es p) o bytes rest old mid new h took = took_behind step finish es p bytes rest old mid new h.0 (subst (λ (x : OpenValue). lines.TookLittle step finish x bytes rest mid new) h.1 took)
 
 -- the statuses of `maintain`
 pub refused_can : (v : Verdict) → is_refused_status (number v) ≡ true → can_maintain (number v) ≡ true
@@ -135,7 +95,7 @@ done_can false = refl
 pub drove_can : (o : OpenValue) (w v : World) (r : Result Verdict Halt) → AnsweredSome step finish o w v r → can_maintain (status_of r) ≡ true
 drove_can o w v (Ok s) h =
     let all = goes_always h.lines [] o in
-    ap (λ (x : Verdict). can_maintain (number x)) (h.ran.1 ∙ ap (λ (r : Reply OpenValue). (ending finish r).status) all.2) ∙ done_can all.1.refused
+    ap (λ (x : Verdict). can_maintain (number x)) (h.ran.1 ∙ ap (λ (r : Reply OpenValue). (ending finish r).status) all.2) ∙ done_can (end_view all.1).refused
 drove_can o w v (Err halt.InputFault) h = refl
 drove_can o w v (Err halt.TooLong) h = refl
 drove_can o w v (Err (halt.Stopped e)) h = stopped_can e

@@ -10,6 +10,14 @@ use Rattle.view_def.specs.Query.{Query}
 use Rattle.tab_lines.specs.Lines.{lines_of}
 use Rattle.view_folder.specs.declared.comparison.Comparison.{Comparison}
 use Rattle.view_folder.specs.declared.comparison.Comparison.TheVariants as compared
+use Rattle.flow_law.specs.declared.shape.Shape.{Shape}
+use Rattle.flow_law.specs.Tables.{TablesValue}
+use Rattle.valuation_meaning.specs.Meaning.{shape_of}
+use Rattle.view_folder.specs.declared.held.TablesFault.{TablesFault}
+use Rattle.view_folder.specs.Held.{held}
+use Rattle.view_apply.specs.Applying as applying
+use Rattle.view_apply.specs.Applying.{ApplyState, by_folder, just_read}
+use Rattle.view_apply.proofs.CourseLemmas.{halts_so}
 use Rattle.view_folder.proofs.ComparisonLemmas.{holds_same}
 use Rattle.course.specs.declared.status.Verdict.{Verdict}
 use Rattle.course.specs.declared.status.Verdict.TheVariants as verdict
@@ -21,16 +29,18 @@ use Rattle.ss_top.specs.declared.status.Status.{Status}
 use Rattle.ss_top.specs.declared.status.Status.TheVariants as status
 use Rattle.ss_top.specs.Open.{OpenValue}
 use Rattle.ss_top.specs.Stages.{Definition, loaded_or_refused, refusal_of, files_of_view}
-use Rattle.ss_top.specs.Printed.{refuses}
+use Rattle.run_lines.specs.Told.{refuses}
 use Rattle.ss_top.specs.Opening.{opening, with_catalogue, with_view, done_at_once}
 use Rattle.ss_top.specs.Checking.{checked}
+use Rattle.ss_top.specs.Loads.{loaded}
 use Rattle.ss_top.specs.Verifying.{by_comparison, verified, verified_over, verified_view}
-use Rattle.ss_top.specs.Answers.{step, finish, answer}
+use Rattle.ss_top.specs.Answers.{step, finish, answer, end_view}
 use Rattle.ss_top.specs.Course.{Course, Finished, Did, RanSome, by_lines, number, status_of, is_refused_status}
-use Rattle.ss_top.specs.Commands.{Asked, Check, Show, Maintain, Verify, Other, uses_store}
+use Rattle.ss_top.specs.Applies.{apply_opening}
+use Rattle.ss_top.specs.Commands.{Asked, Check, Show, Maintain, Verify, Apply, Load, Other, uses_store}
 use Rattle.ss_top.specs.Runs.{course_of, Told}
 use Rattle.ss_top.specs.Promises.{Unchanged, Differs, folder_of}
-use Rattle.ss_top.proofs.ShownLemmas.{told_tree}
+use Rattle.ss_top.proofs.ToldLemmas.{told_tree}
 use Rattle.ss_top.proofs.StageLemmas.{are_view_files}
 
 -- a run that was refused came to its end
@@ -52,7 +62,7 @@ end_unrefused false = refl
 
 -- the end of the input refuses nothing, whatever the lines were
 lines_unrefused : (lines : List (List ℕ)) (es : List Effect) (o : OpenValue) → is_refused_status (number (ending finish (follow step lines (Goes es o))).status) ≡ false
-lines_unrefused [] es o = end_unrefused o.refused
+lines_unrefused [] es o = end_unrefused (end_view o).refused
 lines_unrefused (line ∷ lines) es o = lines_unrefused lines (es ++ (answer o line).effects) (answer o line).view
 
 module _ (t : Tree) (old new : World) (told : old.store.tree ≡ Some t) (s : Status) (refused : is_refused_status s ≡ true) where
@@ -84,6 +94,21 @@ module _ (t : Tree) (old new : World) (told : old.store.tree ≡ Some t) (s : St
   verify_unchanged : (d : Definition) → Finished (verified t d) old new s → Unchanged old new
   verify_unchanged (Err fields) f = same_stored (ap (λ (x : Contents). x.stored) f.done)
   verify_unchanged (Ok a) f = over_unchanged a.query (loaded_or_refused t) f
+
+  -- a script that is refused was printed about, and nothing was written
+  apply_unchanged_over : (lines : List (List ℕ)) (view_db : Text) (shape : Shape) (r : Result TablesValue TablesFault) → Finished ((by_lines applying.step applying.finish (by_folder view_db shape r)).whole lines) old new s → Unchanged old new
+  apply_unchanged_over lines view_db shape (Err e) f = same_stored (ap (λ (x : Contents). x.stored) f.done)
+  apply_unchanged_over lines view_db shape (Ok ts) f = by_reply (follow applying.step lines (Goes [] (just_read view_db shape ts))) refl f
+    where
+      by_reply : (r : Reply ApplyState) → follow applying.step lines (Goes [] (just_read view_db shape ts)) ≡ r → Finished (ending applying.finish r) old new s → Unchanged old new
+      by_reply (Goes es u) e f = not_so verdict.Done f.status refl
+      by_reply (Halts es v) e f =
+          let halts = halts_so lines (just_read view_db shape ts) es v e in
+          same_stored (ap (λ (x : Contents). x.stored) (f.done ∙ ap (λ (fs : List Effect). performed fs (contents old)) halts.1.1))
+
+  apply_unchanged : (lines : List (List ℕ)) (d : Definition) → Finished ((by_lines applying.step applying.finish (apply_opening t d)).whole lines) old new s → Unchanged old new
+  apply_unchanged lines (Err fields) f = same_stored (ap (λ (x : Contents). x.stored) f.done)
+  apply_unchanged lines (Ok a) f = apply_unchanged_over lines a.query.view_db (shape_of a.query) (held (shape_of a.query) t (folder_of a)) f
 
   -- what goes on behind an opening refuses nothing
   module _ (behind : Reply OpenValue → Ending) (halts : (es : List Effect) (v : Verdict) → behind (Halts es v) ≡ record { effects = es; status = v })
@@ -123,6 +148,11 @@ module _ (old new : World) (r : Result Verdict Halt) (refused : is_refused_statu
       opening_unchanged t old new (told refl) (status_of r) refused (λ x. (by_lines step finish x).whole h.lines) (λ es v. refl) (λ es o. lines_unrefused h.lines [] o) d
       (some_refused ((by_lines step finish (opening t d)).whole h.lines) r refl h.ran)
   did_refuse (Verify name) t d told h = verify_unchanged t old new (told refl) (status_of r) refused d (some_refused (verified t d) r refl h.ran)
+  did_refuse (Apply name) t d told h =
+      apply_unchanged t old new (told refl) (status_of r) refused h.lines d (some_refused ((by_lines applying.step applying.finish (apply_opening t d)).whole h.lines) r refl h.ran)
+  did_refuse (Load changes seed) t d told h =
+      let f = some_refused (loaded changes seed) r refl h.ran in
+      absurd (false≢true (ap is_refused_status (sym f.status) ∙ refused))
   did_refuse Other t d told h =
       let f = some_refused ((course_of Other t d).whole h.lines) r refl h.ran in
       absurd (false≢true (ap is_refused_status (sym f.status) ∙ refused))

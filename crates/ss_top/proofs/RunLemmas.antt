@@ -1,7 +1,7 @@
 -- From what an opening did to what a run did.
 use Rattle.ss_text.specs.Texts.{Text}
 use Rattle.ss_text.specs.Label.{is_table_label}
-use Rattle.ss_top.specs.Commands.{asked_of, command_named, can_check, can_show, can_refuse}
+use Rattle.ss_top.specs.Commands.{asked_of, command_named, command_counted, can_check, can_show, can_load, can_refuse}
 use Rattle.std.proofs.Common.{◌≡◌, ◌≢◌, ℕ, ◌+◌, ◌<◌, length-append, true, false, length, get_or, List, [], ◌∷◌, ◌++◌, Option, refl, sym, ap, ◌∙◌, arith, inl, inr}
 use Rattle.std.specs.Prelude.{Result, Ok, Err, OnErr}
 use Rattle.course.specs.Machine.{Ending}
@@ -67,6 +67,11 @@ stop_can_show stop.ReadFault = refl
 stop_can_show stop.WriteFault = refl
 stop_can_show stop.NoMemory = refl
 
+pub stop_can_load : (s : Stop) → s ≢ stop.ReadFault → (let r : Result Verdict Halt = Err (halt.Stopped s) in can_load (status_of r) ≡ true)
+stop_can_load stop.ReadFault none = absurd (none refl)
+stop_can_load stop.WriteFault none = refl
+stop_can_load stop.NoMemory none = refl
+
 pub stop_can_refuse : (s : Stop) → s ≢ stop.ReadFault → (let r : Result Verdict Halt = Err (halt.Stopped s) in can_refuse (status_of r) ≡ true)
 stop_can_refuse stop.ReadFault none = absurd (none refl)
 stop_can_refuse stop.WriteFault none = refl
@@ -110,6 +115,14 @@ two_words [] word name n w m legal = absurd (omega arith)
 two_words (a ∷ []) word name n w m legal = absurd (omega arith)
 two_words (a ∷ b ∷ []) word name n w m legal = rw (← w, ← m, legal) refl
 two_words (a ∷ b ∷ c ∷ rest) word name n w m legal = absurd (omega arith)
+
+-- three words
+pub three_words : (words : List Text) (word changes seed : Text) → length words ≡ 3 → word ≡ get_or words 0 word → changes ≡ get_or words 1 changes → seed ≡ get_or words 2 seed → asked_of words ≡ command_counted word changes seed
+three_words [] word changes seed n w c s = absurd (omega arith)
+three_words (a ∷ []) word changes seed n w c s = absurd (omega arith)
+three_words (a ∷ b ∷ []) word changes seed n w c s = absurd (omega arith)
+three_words (a ∷ b ∷ d ∷ []) word changes seed n w c s = rw (← w, ← c, ← s) refl
+three_words (a ∷ b ∷ d ∷ e ∷ rest) word changes seed n w c s = absurd (omega arith)
 
 -- a run without a fault, over an input that is not too long, finished, or there was no memory
 by_no_fault : (c : Course) (bytes : List ℕ) (rest : Option (List ℕ)) (old new : World) (i j : ℕ) (s : Status) → Did c bytes rest old new s → Cause s i j old new → NoFault i j old new → length bytes < most_taken → s ≢ status.NoMemory → Finished (c.whole (lines_of bytes)) old new s

@@ -1,12 +1,12 @@
 -- A run of `show` that ended with the status 0 showed the view.
-use Rattle.std.proofs.Common.{◌≡◌, ℕ, true, List, [], ◌∷◌, ◌++◌, Option, None, Some, refl, ap, ◌∙◌}
+use Rattle.std.proofs.Common.{◌≡◌, ℕ, true, List, [], ◌∷◌, ◌++◌, Option, None, Some, refl, sym, subst, ap, ◌∙◌}
 use Rattle.std.specs.Prelude.{Result, Ok, Err}
 use Rattle.std.specs.Prelude.{codes, decimal}
 use Rattle.ss_text.specs.Texts.{Text, Row}
 use Rattle.tab_lines.specs.Spelling.{spell}
 use Rattle.outside.specs.Streams.{with_bytes}
 use Rattle.outside.specs.Tree.{Tree, files_of}
-use Rattle.effects.specs.Effects.{World, Stored, Contents, contents, stored_of, performed}
+use Rattle.effects.specs.Effects.{Effect, World, Stored, Contents, contents, performed}
 use Rattle.effects.proofs.EffectLemmas.{performed_append}
 use Rattle.schema_model.specs.Catalogue.{CatalogueValue}
 use Rattle.view_def.specs.Query.{Query}
@@ -18,25 +18,19 @@ use Rattle.ss_top.specs.declared.status.Status.{Status}
 use Rattle.ss_top.specs.declared.status.Status.TheVariants as status
 use Rattle.ss_top.specs.Stages.{Definition, Accepted}
 use Rattle.ss_top.specs.Opening.{opening, with_catalogue, with_view, opening_effects, done_at_once}
-use Rattle.ss_top.specs.Printed.{tells_synced}
+use Rattle.run_lines.specs.Told.{tells_synced}
 use Rattle.ss_top.specs.Course.{Course, Finished, Did, is_done_status}
 use Rattle.ss_top.specs.Commands.{Show}
 use Rattle.ss_top.specs.Runs.{course_of}
+use Rattle.ss_top.specs.Places.{CsvFiles}
 use Rattle.ss_top.specs.Promises.{IsShown, synced_count}
 use Rattle.ss_top.specs.Stages.{loaded_or_refused, refusal_of, files_of_view}
 use Rattle.tab_lines.specs.Lines.{lines_of}
 use Rattle.ss_top.proofs.RunLemmas.{append_none}
-use Rattle.ss_top.proofs.PlaceLemmas.{others_stay}
+use Rattle.ss_top.proofs.PlaceLemmas.{StaysIn, performed_stays, stays_told, at_first_stays}
+use Rattle.ss_top.proofs.ToldLemmas.{told_tree, contents_told}
+use Rattle.ss_top.proofs.WithinLemmas.{opening_within}
 use Rattle.ss_top.proofs.StageLemmas.{are_view_files}
-
--- a store that tells, and its count of writes
-pub told_tree : (o : Option Tree) (n : ℕ) (s : Stored) → stored_of o n ≡ Some s → (o ≡ Some s.tree) × (n ≡ s.writes)
-told_tree None n s e = absurd (cc)
-told_tree (Some t) n s e = let same : record { tree = t; writes = n } ≡ s = cc in (ap (λ (x : Stored). Some x.tree) same, ap (λ (x : Stored). x.writes) same)
-
-pub contents_told : (w : World) (t : Tree) → w.store.tree ≡ Some t → contents w ≡ record { stored = Some (record { tree = t; writes = w.store.writes }); held = w.output.held }
-unfolding contents
-contents_told w t e = ap (λ (o : Option Tree). record { stored = stored_of o w.store.writes; held = w.output.held }) e
 
 -- the contents that an opening sync and its line leave
 module _ (t : Tree) (old new : World) (told : old.store.tree ≡ Some t) (a : Accepted) (c : CatalogueValue) where
@@ -48,6 +42,9 @@ module _ (t : Tree) (old new : World) (told : old.store.tree ≡ Some t) (a : Ac
 
   abbrev at_last : Stored
   at_last = now (view_folder q.view_db) (files_of_view c q) at_first (are_view_files c q)
+
+  abbrev opened_by : List Effect
+  opened_by = opening_effects (view_folder q.view_db) (files_of_view c q) (files_of t (view_folder q.view_db))
 
   abbrev line : List ℕ
   line = spell (codes "synced" ∷ decimal (synced_count t c q) ∷ []) ++ 10 ∷ []
@@ -71,7 +68,7 @@ module _ (t : Tree) (old new : World) (told : old.store.tree ≡ Some t) (a : Ac
         tree = at_last.tree;
         told = stored.0;
         files = held.tables;
-        others = others_stay (view_folder q.view_db) (files_of_view c q) t at_last.tree held;
+        others = stays_told (CsvFiles (view_folder q.view_db) ∷ []) t (contents new) at_last (ap (λ (x : Contents). x.stored) is) (subst (StaysIn (CsvFiles (view_folder q.view_db) ∷ []) t) (sym h) (performed_stays (CsvFiles (view_folder q.view_db) ∷ []) t opened_by (contents old) (opening_within (view_folder q.view_db) (files_of_view c q) (files_of t (view_folder q.view_db)) (are_view_files c q)) (at_first_stays (CsvFiles (view_folder q.view_db) ∷ []) t old told)));
         writes = stored.1 ∙ counted (view_folder q.view_db) (files_of_view c q) at_first (are_view_files c q);
         printed = ap (λ (x : Contents). x.held) is;
       }

@@ -22,6 +22,7 @@ use Rattle.var_typing.proofs.ProfileTheorem.{profile}
 use Rattle.flow_law.specs.Facts.{illegal, conflict, refusal_by, first_refusal}
 use Rattle.flow_law.specs.declared.refused.IllegalLabel.{IllegalLabel}
 use Rattle.flow_law.specs.declared.refused.Clash.{Clash}
+use Rattle.change_script.specs.Applied.{applied}
 use Rattle.change_script.specs.Fits.{TablesFit}
 use Rattle.change_script.proofs.FitLemmas.{FactFits, tables_fit}
 use Rattle.change_script.proofs.AppliedLaw.{script_applies}
@@ -29,7 +30,7 @@ use Rattle.valuation_meaning.specs.Terms.{Reading, value_of}
 use Rattle.valuation_meaning.specs.Elements.{Valuation}
 use Rattle.valuation_meaning.specs.Valuations.{valuations}
 use Rattle.valuation_meaning.specs.Meaning.{facts, fact_of, cell_of, constant_label, shape_of, meaning, given}
-use Rattle.view_session.specs.Session.{tables_of}
+use Rattle.view_session.specs.Session.{tables_of, lines_to, working}
 use Rattle.ss_print.specs.Fields.{illegal_fields, clash_fields}
 use Rattle.ss_top.specs.Open.{OpenValue}
 use Rattle.ss_top.specs.Stages.{Definition, Accepted, IsRead, by_typing, typed_or_refused, refusal_of}
@@ -64,7 +65,7 @@ module _ (q : Query) (p : IsViewOfProfile q) where
   none_illegal (Some l) k h = absurd (cc)
 
   -- and so do its tables, where the view is not refused
-  meaning_fits_form : (c : CatalogueValue) → refusal_of c q ≡ None → TablesFit (shape_of q) (meaning c q)
+  pub meaning_fits_form : (c : CatalogueValue) → refusal_of c q ≡ None → TablesFit (shape_of q) (meaning c q)
   unfolding refusal_of refusal_by meaning
   meaning_fits_form c none = tables_fit (shape_of q) (facts c q) (label_legal q.decls q.label p.label) (none_illegal (illegal (shape_of q) (facts c q)) (conflict (facts c q)) none) (facts_fit c)
 
@@ -93,18 +94,23 @@ module _ (o : OpenValue) (p : IsViewOfProfile o.session.query) (unrefused : refu
     of_profile : IsViewOfProfile a.view.session.query
     still : refusal_of a.view.session.catalogue a.view.session.query ≡ None
 
+  -- a script takes the tables to those over another catalogue
+  scripted : (c : CatalogueValue) → refusal_of c o.session.query ≡ None → applied (shape_of o.session.query) (tables_of o.session) (lines_to o.session c) ≡ Ok (meaning c o.session.query)
+  scripted c after_it =
+      script_applies (shape_of o.session.query) (tables_of o.session) (meaning c o.session.query) (meaning_in_order o.session.catalogue o.session.query) (meaning_in_order c o.session.query)
+      (meaning_fits_form o.session.query p o.session.catalogue unrefused) (meaning_fits_form o.session.query p c after_it)
+
   takes_on : (line : List ℕ) → TakesOn (answer o line)
-  takes_on = answer_case o TakesOn
-      (λ fields. record { takes = refl; of_profile = p; still = unrefused })
-      (λ g fits after_it. record {
-        takes =
-            let c = after o.session.catalogue g in
-            script_applies (shape_of o.session.query) (tables_of o.session) (meaning c o.session.query) (meaning_in_order o.session.catalogue o.session.query) (meaning_in_order c o.session.query)
-            (meaning_fits_form o.session.query p o.session.catalogue unrefused) (meaning_fits_form o.session.query p c after_it);
-        of_profile = p;
-        still = after_it;
-      })
-      (record { takes = refl; of_profile = p; still = unrefused })
+  takes_on = answer_case o TakesOn (record {
+    refused = λ fields. record { takes = refl; of_profile = p; still = unrefused };
+    gave_up = λ fields. record { takes = refl; of_profile = p; still = unrefused };
+    began = record { takes = refl; of_profile = p; still = unrefused };
+    kept = λ g well fits. record { takes = refl; of_profile = p; still = unrefused };
+    aborted = record { takes = refl; of_profile = p; still = unrefused };
+    changed = λ g none well fits after_it. record { takes = scripted (after o.session.catalogue g) after_it; of_profile = p; still = after_it };
+    committed = λ after_it. record { takes = scripted (working o.session) after_it; of_profile = p; still = after_it };
+    synced = record { takes = refl; of_profile = p; still = unrefused };
+  })
 
 pub each_takes : (lines : List (List ℕ)) (o : OpenValue) → IsViewOfProfile o.session.query → refusal_of o.session.catalogue o.session.query ≡ None → EachTakes o lines
 each_takes [] o p unrefused = tt

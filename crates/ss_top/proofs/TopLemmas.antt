@@ -1,32 +1,44 @@
 -- From what a command did to what is promised of a whole run.
 use Rattle.std.proofs.Common.{◌≡◌, ℕ, true, List, [], Option, Some, sym, subst}
-use Rattle.std.specs.Prelude.{Result, OnErr}
+use Rattle.std.specs.Prelude.{Result, Err, OnErr}
+use Rattle.std.specs.FinMap.{empty}
 use Rattle.ss_text.specs.Texts.{Text}
 use Rattle.tab_lines.specs.Lines.{lines_of}
 use Rattle.outside.specs.Tree.{Tree}
+use Rattle.outside.specs.Whole.{IsWhole}
 use Rattle.effects.specs.Effects.{World}
 use Rattle.course.specs.declared.status.Verdict.{Verdict}
 use Rattle.course.specs.declared.status.Halt.{Halt}
 use Rattle.course.specs.Machine.{BlamesRun}
-use Rattle.ss_top.specs.Commands.{Asked, Check, Show, Maintain, Verify, asked_of, uses_store, reads_input}
+use Rattle.ss_top.specs.Commands.{Asked, Check, Show, Maintain, Verify, Apply, Load, asked_of, uses_store, reads_input}
 use Rattle.ss_top.specs.Stages.{Definition}
 use Rattle.ss_top.specs.Course.{Course, Did, RanBy, RanSome, Took, Finished, status_of}
 use Rattle.ss_top.specs.Runs.{IsAsked, course_of, Told}
 use Rattle.ss_top.specs.Steps.{IdleRun}
-use Rattle.ss_top.specs.Clauses.{DoesCourse, IsComplete, Checks, Shows, Maintains, StopsAtSync, Verifies, TellsDifference, KeepsAll, KeepsOthers, TakesLittle}
+use Rattle.ss_top.specs.Clauses.{DoesCourse, IsComplete, Checks, Shows, Maintains, StopsAtSync, Verifies, TellsDifference, Applies, Loads, KeepsAll, KeepsOthers, TakesLittle}
 use Rattle.ss_top.proofs.RunLemmas.{by_status, finishes, by_fault}
 use Rattle.ss_top.proofs.ShownLemmas.{did_show}
 use Rattle.ss_top.proofs.CheckedLemmas.{did_check, did_verify}
+use Rattle.ss_top.proofs.LoadedLemmas.{did_load}
 use Rattle.ss_top.proofs.MaintainedLemmas.{did_maintain, did_cut_off}
+use Rattle.ss_top.proofs.AppliedLemmas.{did_apply}
 use Rattle.ss_top.proofs.RefusedLemmas.{did_differ, did_refuse}
 use Rattle.ss_top.proofs.WithinLemmas.{did_keep}
 use Rattle.ss_top.proofs.DefinitionLemmas.{is_defined}
+
+-- a tree where nothing is
+no_tree : Tree
+no_tree = record { folders = empty; files = empty }
 
 -- a run over these words, and what its command says of it
 module _ (words : List Text) (input rest : Option (List ℕ)) (i j : ℕ) (old new : World) (r : Result Verdict Halt) where
   -- what the command did, by the course of a definition
   abbrev Ran : Type 0
   Ran = (t : Tree) (bytes : List ℕ) (d : Definition) → Told (uses_store (asked_of words)) old.store.tree t → Told (reads_input (asked_of words)) input bytes → IsAsked (asked_of words) t d → RanBy (course_of (asked_of words) t d) bytes rest old new r
+
+  -- a tree that is told has no file outside a folder
+  abbrev Whole : Type 0
+  Whole = (t : Tree) → old.store.tree ≡ Some t → IsWhole t
 
   module _ (ran : Ran) (blames : BlamesRun i j old new r) (idle : IdleRun r old new) where
     did_by : (t : Tree) (bytes : List ℕ) (d : Definition) → Told (uses_store (asked_of words)) old.store.tree t → Told (reads_input (asked_of words)) input bytes → IsAsked (asked_of words) t d → Did (course_of (asked_of words) t d) bytes rest old new (status_of r)
@@ -51,14 +63,20 @@ module _ (words : List Text) (input rest : Option (List ℕ)) (i j : ℕ) (old n
     pub shows : Shows words old new (status_of r)
     shows name t d is defines done = did_show name t d rest old new (status_of r) defines.told done (named (Show name) t [] d is (λ _. defines.told) (λ no. absurd (cc)) defines.is)
 
-    pub maintains : Maintains words input old new (status_of r)
-    maintains name t bytes d is defines given done = did_maintain name t bytes d rest old new (status_of r) defines.is defines.told done (named (Maintain name) t bytes d is (λ _. defines.told) (λ _. given) defines.is)
+    pub maintains : Whole → Maintains words input old new (status_of r)
+    maintains whole name t bytes d is defines given done = did_maintain name t bytes d rest old new (status_of r) defines.is defines.told (whole t defines.told) done (named (Maintain name) t bytes d is (λ _. defines.told) (λ _. given) defines.is)
 
-    pub stops_at_sync : StopsAtSync words input rest old new (status_of r)
-    stops_at_sync name t bytes d is defines given gave = did_cut_off name t bytes d rest old new (status_of r) defines.is defines.told gave (named (Maintain name) t bytes d is (λ _. defines.told) (λ _. given) defines.is)
+    pub stops_at_sync : Whole → StopsAtSync words input rest old new (status_of r)
+    stops_at_sync whole name t bytes d is defines given gave = did_cut_off name t bytes d rest old new (status_of r) defines.is defines.told (whole t defines.told) gave (named (Maintain name) t bytes d is (λ _. defines.told) (λ _. given) defines.is)
 
     pub verifies : Verifies words old new (status_of r)
     verifies name t d is defines done = did_verify name t d rest old new (status_of r) done (named (Verify name) t [] d is (λ _. defines.told) (λ no. absurd (cc)) defines.is)
+
+    pub applies : Applies words input old new (status_of r)
+    applies name t bytes d is defines given done = did_apply name t bytes d rest old new (status_of r) defines.told done (named (Apply name) t bytes d is (λ _. defines.told) (λ _. given) defines.is)
+
+    pub loads : Loads words old new (status_of r)
+    loads changes seed is done = did_load changes seed no_tree (Err []) rest old new (status_of r) done (named (Load changes seed) no_tree [] (Err []) is (λ no. absurd (cc)) (λ no. absurd (cc)) tt)
 
     pub tells_difference : TellsDifference words old (status_of r)
     tells_difference name t d is defines refused = did_differ name t d rest old new (status_of r) refused (named (Verify name) t [] d is (λ _. defines.told) (λ no. absurd (cc)) defines.is)
@@ -71,12 +89,15 @@ module _ (words : List Text) (old new : World) (r : Result Verdict Halt) where
   pub keeps_all : RanSomehow → KeepsAll words old new (status_of r)
   keeps_all ran t told refused = let d = is_defined (asked_of words) t in did_refuse old new r refused (asked_of words) t d.definition told (ran t d.definition told d.is)
 
-  pub keeps_others : RanSomehow → KeepsOthers words old new
-  keeps_others ran t d told asked = did_keep (asked_of words) t d old new r told (ran t d (λ _. told) asked)
-
   module _ (input rest : Option (List ℕ)) where
     abbrev Taken : Type 0
     Taken = (t : Tree) (bytes : List ℕ) (d : Definition) → Told (uses_store (asked_of words)) old.store.tree t → reads_input (asked_of words) ≡ true → input ≡ Some bytes → IsAsked (asked_of words) t d → OnErr r (Took (course_of (asked_of words) t d) bytes rest old new)
+
+    abbrev RanTold : Type 0
+    RanTold = (t : Tree) (bytes : List ℕ) (d : Definition) → Told (uses_store (asked_of words)) old.store.tree t → Told (reads_input (asked_of words)) input bytes → IsAsked (asked_of words) t d → RanBy (course_of (asked_of words) t d) bytes rest old new r
+
+    pub keeps_others : RanSomehow → RanTold → KeepsOthers words input old new
+    keeps_others some ran t d told asked = did_keep (asked_of words) t d input rest old new r told (some t d (λ _. told) asked) (λ bytes given. ran t bytes d (λ _. told) (λ _. given) asked)
 
     pub takes_little : Taken → TakesLittle words input rest old new (status_of r)
     takes_little taken c bytes has reads given fault =

@@ -1,5 +1,6 @@
 -- What an opened view is asked.
-use Rattle.std.proofs.Common.{◌≡◌, Option, None, Some, Bor, is_some, ap, ◌∙◌}
+use Rattle.std.proofs.Common.{◌≡◌, ℕ, false, List, length, Option, None, Some, Bor, is_some, refl, ap, ◌∙◌}
+use Rattle.std.specs.Prelude.{option_map}
 use Rattle.std.specs.Option.{option_copied}
 use Rattle.std.proofs.lemmas.Map.Made.{is_some-lookup}
 use Rattle.ss_text.specs.Texts.{Text, text_eq, is_in}
@@ -13,3 +14,12 @@ copied_there (Some x) t e = ap is_some e
 -- a table is found where its label is among the labels
 pub has_label : (o : Option (Bor TableValue)) (ts : TablesValue) (label : Text) → option_copied o ≡ table_of ts label → is_some o ≡ is_in label (labels_of ts)
 has_label o ts label e = copied_there o (table_of ts label) e ∙ is_some-lookup (text_eq label) ts
+
+-- a group is open where its changes are counted, and none is where none is held
+pub there_counted : {A : Type 0} (o : Option (List A)) (n : Option ℕ) → n ≡ option_map length o → is_some n ≡ is_some o
+there_counted None n e = ap is_some e
+there_counted (Some xs) n e = ap is_some e
+
+pub none_open : {A : Type 0} (o : Option A) → is_some o ≡ false → o ≡ None
+none_open None e = refl
+none_open (Some x) e = absurd (cc e)

@@ -1,9 +1,10 @@
 -- How an opened view answers the lines of its input.
-use Rattle.std.specs.Prelude.{Bool, true, ◌||◌, ℕ, ◌+◌, List, [], ◌∷◌, ◌++◌, length, filter, Option, None, Some, Result, Ok, Err, if◌then◌else◌, codes}
-use Rattle.ss_text.specs.Texts.{Row, text_eq, is_in}
+use Rattle.std.specs.Prelude.{Bool, true, ◌||◌, ℕ, suc, zero, ◌+◌, ◌==◌, List, [], ◌∷◌, ◌++◌, length, filter, Option, None, Some, is_some, Result, Ok, Err, if◌then◌else◌, codes}
+use Rattle.std.specs.Option.{option_map_or}
+use Rattle.ss_text.specs.Texts.{Text, Row, text_eq, is_in}
+use Rattle.schema_model.specs.Catalogue.{CatalogueValue}
 use Rattle.tab_lines.specs.Spelling.{unspell}
 use Rattle.effects.specs.Effects.{Effect}
-use Rattle.schema_model.specs.Catalogue.{CatalogueValue}
 use Rattle.schema_model.specs.Changes.{after}
 use Rattle.schema_model.specs.Refusals.{fault}
 use Rattle.schema_model.specs.Reading.{change_of}
@@ -16,71 +17,131 @@ use Rattle.flow_law.specs.Tables.{labels_of}
 use Rattle.valuation_meaning.specs.Meaning.{shape_of}
 use Rattle.view_folder.specs.Files.{view_folder}
 use Rattle.view_folder.specs.Sync.{later_sync}
-use Rattle.view_session.specs.Session.{opened, tables_of, lines_to, moved}
+use Rattle.outside.specs.Tree.{Tree}
+use Rattle.view_session.specs.Session.{SessionState, cleared, tables_of, lines_to, moved, begun, holding, closed, working, committed}
+use Rattle.kept_sources.specs.Counted.{tree_after, counted}
+use Rattle.kept_sources.specs.Synced.{Synced, synced, saving}
 use Rattle.course.specs.declared.status.Verdict.TheVariants as verdict
 use Rattle.course.specs.Machine.{Reply, Goes, Ending}
-use Rattle.ss_print.specs.Fields.{escape_fields, first_field, line_fields, refusal_fields}
+use Rattle.ss_print.specs.Fields.{escape_fields, first_field, line_fields, refusal_fields, group_broken_fields, open_group_fields, in_group_fields, no_group_fields}
 use Rattle.ss_top.specs.Open.{OpenValue}
-use Rattle.ss_top.specs.Printed.{refuses, tells_script, tells_synced}
+use Rattle.ss_top.specs.declared.word.Word.{Word}
+use Rattle.ss_top.specs.declared.word.Word.TheVariants as word
+use Rattle.run_lines.specs.Told.{refuses, tells_begun, tells_held, tells_aborted, tells_script, tells_synced}
 use Rattle.ss_top.specs.Stages.{refusal_of}
 
--- what is said to a line: a refusal with its fields, the lines of a script, or the count of a sync
+-- what is said to a line: a refusal with its fields, a group that opens, a change that it holds, a group that is given up, the lines of a script, or the count of a sync
 pub data Said : Type 0 where
   Refuses : Row → Said
+  Begins : Said
+  Holds : Said
+  Aborts : Said
   Scripts : List TableLine → Said
   Syncs : ℕ → Said
 
--- an answer to a line: what is said, what is done, what the view then is, and how many files that writes, or removes where they are there
+-- an answer to a line: what is said, what is done, what the view then is, and how many files and folders that writes, makes or removes over a tree
 pub record Answer : Type 0 where
   pub said : Said
   pub effects : List Effect
   pub view : OpenValue
-  pub writes : ℕ
+  pub writes : Tree → ℕ
 
--- a line is refused, and changes nothing
+-- whether a group is open, and how many lines are refused in it with one more
+abbrev pub in_group : OpenValue → Bool
+in_group o = is_some o.session.held
+
+abbrev pub more_broken : OpenValue → ℕ
+more_broken o = if in_group o then suc o.broken else o.broken
+
+-- a line is refused, and changes nothing else
 abbrev pub refusing : OpenValue → Row → Answer
 refusing o fields = record {
   said = Refuses fields;
   effects = refuses fields ∷ [];
-  view = record { session = o.session; synced = o.synced; refused = true };
-  writes = 0;
+  view = record { session = o.session; synced = o.synced; refused = true; broken = more_broken o };
+  writes = λ t. 0;
 }
 
--- a change is made: its script is printed
-abbrev pub changing : OpenValue → Change → Answer
-changing o g =
-    let lines : List TableLine = lines_to o.session (after o.session.catalogue g) in
+-- a group opens, holds a change, is given up, and is refused at its end, which gives it up too
+abbrev pub beginning : OpenValue → Answer
+beginning o = record {
+  said = Begins;
+  effects = tells_begun ∷ [];
+  view = record { session = begun o.session; synced = o.synced; refused = o.refused; broken = 0 };
+  writes = λ t. 0;
+}
+
+abbrev pub keeping : OpenValue → Change → Answer
+keeping o g = record {
+  said = Holds;
+  effects = tells_held ∷ [];
+  view = record { session = holding o.session g; synced = o.synced; refused = o.refused; broken = o.broken };
+  writes = λ t. 0;
+}
+
+abbrev pub aborting : OpenValue → Answer
+aborting o = record {
+  said = Aborts;
+  effects = tells_aborted ∷ [];
+  view = record { session = closed o.session; synced = o.synced; refused = o.refused; broken = 0 };
+  writes = λ t. 0;
+}
+
+abbrev pub giving_up : OpenValue → Row → Answer
+giving_up o fields = record {
+  said = Refuses fields;
+  effects = refuses fields ∷ [];
+  view = record { session = closed o.session; synced = o.synced; refused = true; broken = 0 };
+  writes = λ t. 0;
+}
+
+-- the catalogue becomes another, and the script is printed
+abbrev pub scripting : OpenValue → CatalogueValue → SessionState → ℕ → Answer
+scripting o c s broken =
+    let lines : List TableLine = lines_to o.session c in
     record {
       said = Scripts lines;
       effects = tells_script lines ∷ [];
-      view = record { session = moved o.session g; synced = o.synced; refused = o.refused };
-      writes = 0;
+      view = record { session = s; synced = o.synced; refused = o.refused; broken = broken };
+      writes = λ t. 0;
     }
+
+-- a change is made, and so are those of a group
+abbrev pub changing : OpenValue → Change → Answer
+changing o g = scripting o (after o.session.catalogue g) (moved o.session g) o.broken
+
+abbrev pub committing : OpenValue → Answer
+committing o = scripting o (working o.session) (committed o.session) 0
 
 -- the count that a sync prints: of the labels that were named, how many have a table, or had one at the last sync
 abbrev pub sync_count : OpenValue → ℕ
 sync_count o = length (filter (λ label. is_in label (labels_of (tables_of o.session)) || is_in label o.synced) o.session.changed.labels)
 
--- how many files a sync writes, or removes where they are there
-abbrev pub sync_writes : OpenValue → ℕ
-sync_writes o = sync_count o
+-- how many files and folders a sync writes, makes or removes over a tree: those of the sources, and those of the view, which are counted
+abbrev pub sync_writes : Tree → OpenValue → ℕ
+sync_writes t o = counted (saving o.session) t + sync_count o
 
 -- the files of the labels that were named are synced, and their number is printed
-abbrev pub sync_effects : OpenValue → List Effect
-sync_effects o =
+abbrev pub view_effects : OpenValue → List Effect
+view_effects o =
     later_sync (view_folder o.session.query.view_db) (shape_of o.session.query) (tables_of o.session) o.session.changed.labels
     ++ tells_synced (sync_count o) ∷ []
+
+-- before them the sources that were named are saved
+abbrev pub sync_effects : OpenValue → List Effect
+sync_effects o = saving o.session ++ view_effects o
 
 abbrev pub syncing : OpenValue → Answer
 syncing o = record {
   said = Syncs (sync_count o);
   effects = sync_effects o;
   view = record {
-    session = opened o.session.query o.session.catalogue;
+    session = cleared o.session;
     synced = labels_of (tables_of o.session);
     refused = o.refused;
+    broken = o.broken;
   };
-  writes = sync_writes o;
+  writes = λ t. sync_writes t o;
 }
 
 -- the view over the catalogue after a change is refused, or the change is made
@@ -88,27 +149,53 @@ abbrev pub by_view : OpenValue → Change → Option Row → Answer
 by_view o g (Some fields) = refusing o fields
 by_view o g None = changing o g
 
--- the catalogue refuses a change, or the view is judged over the catalogue after it
+-- the catalogue refuses a change, or the view is judged over the catalogue after it; in a group the change is held where the catalogue after those before it does not refuse it
 abbrev pub by_fault : OpenValue → Change → Option Refusal → Answer
 by_fault o g (Some r) = refusing o (refusal_fields g r)
-by_fault o g None = by_view o g (refusal_of (after o.session.catalogue g) o.session.query)
+by_fault o g None = if in_group o then keeping o g else by_view o g (refusal_of (after o.session.catalogue g) o.session.query)
 
 -- a line says no change, or the change is judged
 abbrev pub by_change : OpenValue → Row → Result Change ChangeFault → Answer
 by_change o row (Err f) = refusing o (line_fields row f)
-by_change o row (Ok g) = by_fault o g (fault o.session.catalogue g)
+by_change o row (Ok g) = by_fault o g (fault (working o.session) g)
 
--- `sync` alone is a sync, and has no further fields
-abbrev pub by_sync : OpenValue → Row → Answer
-by_sync o (word ∷ []) = syncing o
-by_sync o row = refusing o (line_fields row (FieldCount (length row)))
+-- the view over the catalogue after a group is refused, or its changes are made
+abbrev pub by_group : OpenValue → Option Row → Answer
+by_group o (Some fields) = giving_up o fields
+by_group o None = committing o
 
--- whether the first field is `sync`
-abbrev pub is_sync : Row → Bool
-is_sync row = text_eq (first_field row) (codes "sync")
+-- a group in which lines were refused is refused, and else the view is judged
+abbrev pub by_broken : OpenValue → ℕ → Answer
+by_broken o zero = by_group o (refusal_of (working o.session) o.session.query)
+by_broken o (suc n) = giving_up o (group_broken_fields (suc n))
+
+-- the word that the first field is
+abbrev pub word_in : Text → Option Word
+word_in field =
+    if text_eq field (codes "begin") then Some word.Begin
+    else if text_eq field (codes "commit") then Some word.Commit
+    else if text_eq field (codes "abort") then Some word.Abort
+    else if text_eq field (codes "sync") then Some word.Sync
+    else None
+
+-- a word alone: a group does not stand in another, nor a sync in a group, and none is ended that is not open
+abbrev pub by_word : OpenValue → Row → Word → Answer
+by_word o row word.Begin = if in_group o then refusing o (in_group_fields row) else beginning o
+by_word o row word.Commit = if in_group o then by_broken o o.broken else refusing o (no_group_fields row)
+by_word o row word.Abort = if in_group o then aborting o else refusing o (no_group_fields row)
+by_word o row word.Sync = if in_group o then refusing o (in_group_fields row) else syncing o
+
+-- a word has no further fields
+abbrev pub by_fields : OpenValue → Row → Word → Answer
+by_fields o row w = if length row == 1 then by_word o row w else refusing o (line_fields row (FieldCount (length row)))
+
+-- a line that begins with a word, or that says a change
+abbrev pub by_first : OpenValue → Row → Option Word → Answer
+by_first o row (Some w) = by_fields o row w
+by_first o row None = by_change o row (change_of row)
 
 abbrev pub by_row : OpenValue → Row → Answer
-by_row o row = if is_sync row then by_sync o row else by_change o row (change_of row)
+by_row o row = by_first o row (word_in (first_field row))
 
 -- a line has a backslash that spells nothing, or its row is answered
 abbrev pub by_spelling : OpenValue → Result Row ℕ → Answer
@@ -122,21 +209,45 @@ answer o line = by_spelling o (unspell line)
 abbrev pub step : OpenValue → List ℕ → Reply OpenValue
 step o line = Goes (answer o line).effects (answer o line).view
 
--- how many files the answers to these lines write, or remove where they are there
-abbrev pub writes_by : OpenValue → List (List ℕ) → ℕ
-writes_by o [] = 0
-writes_by o (line ∷ lines) = (answer o line).writes + writes_by (answer o line).view lines
+-- how many files and folders the answers to these lines write, make or remove over a tree
+abbrev pub writes_by : Tree → OpenValue → List (List ℕ) → ℕ
+writes_by t o [] = 0
+writes_by t o (line ∷ lines) = (answer o line).writes t + writes_by (tree_after (answer o line).effects t) (answer o line).view lines
 
--- the catalogue at the last sync, after an answer over this catalogue, where it was another before
-abbrev pub synced_by : Said → CatalogueValue → CatalogueValue → CatalogueValue
-synced_by (Syncs n) c before = c
-synced_by said c before = before
+-- the view after the answers to these lines
+abbrev pub view_after : OpenValue → List (List ℕ) → OpenValue
+view_after o [] = o
+view_after o (line ∷ lines) = view_after (answer o line).view lines
+
+-- what was saved at the last sync, after an answer of this session, where it was another before
+abbrev pub synced_by : Said → SessionState → Synced → Synced
+synced_by (Syncs n) s before = synced s before
+synced_by said s before = before
 
 -- and after the answers to these lines
-abbrev pub last_synced : OpenValue → CatalogueValue → List (List ℕ) → CatalogueValue
+abbrev pub last_synced : OpenValue → Synced → List (List ℕ) → Synced
 last_synced o before [] = before
-last_synced o before (line ∷ lines) = last_synced (answer o line).view (synced_by (answer o line).said o.session.catalogue before) lines
+last_synced o before (line ∷ lines) = last_synced (answer o line).view (synced_by (answer o line).said o.session before) lines
 
--- the end of the input is one more sync
+-- and after the sync at their end
+abbrev pub end_synced : OpenValue → Synced → List (List ℕ) → Synced
+end_synced o before lines = synced (view_after o lines).session (last_synced o before lines)
+
+-- at the end of the input an open group is refused
+abbrev pub by_open : OpenValue → Option (List Change) → Option Answer
+by_open o None = None
+by_open o (Some gs) = Some (giving_up o (open_group_fields (length gs)))
+
+abbrev pub last_answer : OpenValue → Option Answer
+last_answer o = by_open o o.session.held
+
+-- what that does, and the view then
+abbrev pub end_effects : OpenValue → List Effect
+end_effects o = option_map_or (λ (a : Answer). a.effects) (last_answer o) []
+
+abbrev pub end_view : OpenValue → OpenValue
+end_view o = option_map_or (λ (a : Answer). a.view) (last_answer o) o
+
+-- and then comes one more sync
 abbrev pub finish : OpenValue → Ending
-finish o = record { effects = sync_effects o; status = if o.refused then verdict.SomeRefused else verdict.Done }
+finish o = record { effects = end_effects o ++ sync_effects (end_view o); status = if (end_view o).refused then verdict.SomeRefused else verdict.Done }

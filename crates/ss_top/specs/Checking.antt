@@ -5,7 +5,7 @@ use Rattle.view_def.specs.Print.{print}
 use Rattle.course.specs.declared.status.Verdict.{Verdict}
 use Rattle.course.specs.declared.status.Verdict.TheVariants as verdict
 use Rattle.course.specs.Machine.{Ending}
-use Rattle.ss_top.specs.Printed.{refuses}
+use Rattle.run_lines.specs.Told.{refuses}
 use Rattle.ss_top.specs.Stages.{Definition}
 
 -- one effect, and the end

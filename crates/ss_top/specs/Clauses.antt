@@ -7,12 +7,14 @@ use Rattle.outside.specs.Tree.{Tree}
 use Rattle.effects.specs.Effects.{World}
 use Rattle.ss_top.specs.declared.status.Status.{Status}
 use Rattle.ss_top.specs.declared.status.Status.TheVariants as status
-use Rattle.ss_top.specs.Commands.{Check, Show, Maintain, Verify, asked_of, uses_store, reads_input}
+use Rattle.ss_top.specs.Commands.{Check, Show, Maintain, Verify, Apply, Load, asked_of, uses_store, reads_input}
 use Rattle.ss_top.specs.Stages.{Definition}
 use Rattle.ss_top.specs.Opening.{IsDefinition, definition_bytes}
 use Rattle.ss_top.specs.Course.{Course, Did, Took, NoFault, Finished, IsReadWhole, is_done_status, is_fault_status, is_refused_status, GaveOutStatus}
 use Rattle.ss_top.specs.Runs.{IsAsked, IsCourse, Told}
-use Rattle.ss_top.specs.Promises.{IsChecked, IsShown, IsMaintained, IsCutOff, IsVerified, Differs, Unchanged, Keeps, exempt_of}
+use Rattle.ss_top.specs.Applies.{IsApplied}
+use Rattle.ss_top.specs.Loads.{IsLoaded}
+use Rattle.ss_top.specs.Promises.{IsChecked, IsShown, IsMaintained, IsCutOff, IsVerified, Differs, Unchanged, KeepsBut}
 
 -- the definition of a name, over a store that tells its tree
 pub record Defines (name : Text) (w : World) (t : Tree) (d : Definition) : Type 0 where
@@ -49,7 +51,7 @@ Maintains words input old new s =
     (name : Text) (t : Tree) (bytes : List ℕ) (d : Definition) → asked_of words ≡ Maintain name → Defines name old t d → input ≡ Some bytes
     → is_done_status s ≡ true → IsMaintained d t (lines_of bytes) old new s
 
--- where the input gave out, the folder is that of the last sync: at 9, or at 6 where no read of the store failed
+-- where the input gave out, the view's folder and the sources are those of the last sync: at 9, or at 6 where no read of the store failed
 abbrev pub StopsAtSync : List Text → Option (List ℕ) → Option (List ℕ) → World → World → Status → Type 0
 StopsAtSync words input rest old new s =
     (name : Text) (t : Tree) (bytes : List ℕ) (d : Definition) → asked_of words ≡ Maintain name → Defines name old t d → input ≡ Some bytes
@@ -63,6 +65,16 @@ Verifies words old new s = (name : Text) (t : Tree) (d : Definition) → asked_o
 abbrev pub TellsDifference : List Text → World → Status → Type 0
 TellsDifference words old s = (name : Text) (t : Tree) (d : Definition) → asked_of words ≡ Verify name → Defines name old t d → s ≡ status.NoView → Differs d t
 
+-- `apply` is done where the script that the input says is applied to the view's folder
+abbrev pub Applies : List Text → Option (List ℕ) → World → World → Status → Type 0
+Applies words input old new s =
+    (name : Text) (t : Tree) (bytes : List ℕ) (d : Definition) → asked_of words ≡ Apply name → Defines name old t d → input ≡ Some bytes
+    → s ≡ status.Done → IsApplied d t (lines_of bytes) old new
+
+-- `load` is done where the line of its run is printed
+abbrev pub Loads : List Text → World → World → Status → Type 0
+Loads words old new s = (changes seed : ℕ) → asked_of words ≡ Load changes seed → s ≡ status.Done → IsLoaded changes seed old new
+
 -- where a run is done, the whole input was read
 abbrev pub ReadsWhole : List Text → Option (List ℕ) → Option (List ℕ) → Status → Type 0
 ReadsWhole words input rest s = (bytes : List ℕ) → reads_input (asked_of words) ≡ true → is_done_status s ≡ true → input ≡ Some bytes → IsReadWhole bytes rest
@@ -71,9 +83,9 @@ ReadsWhole words input rest s = (bytes : List ℕ) → reads_input (asked_of wor
 abbrev pub KeepsAll : List Text → World → World → Status → Type 0
 KeepsAll words old new s = (t : Tree) → Told (uses_store (asked_of words)) old.store.tree t → is_refused_status s ≡ true → Unchanged old new
 
--- whatever the status, only the `.csv` files of the view's folder are changed
-abbrev pub KeepsOthers : List Text → World → World → Type 0
-KeepsOthers words old new = (t : Tree) (d : Definition) → old.store.tree ≡ Some t → IsAsked (asked_of words) t d → Keeps (exempt_of d) t new
+-- whatever the status, only the `.csv` files of the view's folder are changed, and the sources that accepted changes named
+abbrev pub KeepsOthers : List Text → Option (List ℕ) → World → World → Type 0
+KeepsOthers words input old new = (t : Tree) (d : Definition) → old.store.tree ≡ Some t → IsAsked (asked_of words) t d → KeepsBut (asked_of words) t d input new
 
 -- a run that gave up took no more of its input than it answered, the line under way and what one read gives
 abbrev pub TakesLittle : List Text → Option (List ℕ) → Option (List ℕ) → World → World → Status → Type 0

@@ -1,16 +1,19 @@
 -- What the words ask for.
-use Rattle.std.specs.Prelude.{Bool, true, false, List, [], ◌∷◌, if◌then◌else◌, codes}
+use Rattle.std.specs.Prelude.{ℕ, Bool, true, false, List, [], ◌∷◌, Option, None, Some, if◌then◌else◌, codes}
 use Rattle.ss_text.specs.Texts.{Text, text_eq}
 use Rattle.ss_text.specs.Label.{is_table_label}
+use Rattle.load_run.specs.Numbers.{changes_of, seed_of}
 use Rattle.ss_top.specs.declared.status.Status.{Status}
 use Rattle.ss_top.specs.declared.status.Status.TheVariants as status
 
--- a command with the name of a view, or words that are none of the forms
+-- a command with the name of a view, a run of so many changes with a seed, or words that are none of the forms
 pub data Asked : Type 0 where
   Check : Text → Asked
   Show : Text → Asked
   Maintain : Text → Asked
   Verify : Text → Asked
+  Apply : Text → Asked
+  Load : ℕ → ℕ → Asked
   Other : Asked
 
 abbrev pub command_named : Text → Text → Asked
@@ -18,17 +21,29 @@ command_named word name =
     if text_eq word (codes "check") then Check name else
     if text_eq word (codes "show") then Show name else
     if text_eq word (codes "maintain") then Maintain name else
-    if text_eq word (codes "verify") then Verify name else Other
+    if text_eq word (codes "verify") then Verify name else
+    if text_eq word (codes "apply") then Apply name else Other
 
--- a word and a legal table label
+-- where both are lawful numbers
+abbrev pub load_of : Option ℕ → Option ℕ → Asked
+load_of (Some changes) (Some seed) = Load changes seed
+load_of (Some changes) None = Other
+load_of None seed = Other
+
+abbrev pub command_counted : Text → Text → Text → Asked
+command_counted word changes seed = if text_eq word (codes "load") then load_of (changes_of changes) (seed_of seed) else Other
+
+-- a word and a legal table label, or `load` and two numbers
 abbrev pub asked_of : List Text → Asked
 asked_of [] = Other
 asked_of (word ∷ []) = Other
 asked_of (word ∷ name ∷ []) = if is_table_label name then command_named word name else Other
-asked_of (word ∷ name ∷ more ∷ rest) = Other
+asked_of (word ∷ changes ∷ seed ∷ []) = command_counted word changes seed
+asked_of (word ∷ name ∷ more ∷ another ∷ rest) = Other
 
 -- whether a command calls the store
 abbrev pub uses_store : Asked → Bool
+uses_store (Load changes seed) = false
 uses_store Other = false
 uses_store asked = true
 
@@ -38,11 +53,14 @@ only_reads (Check name) = true
 only_reads (Show name) = false
 only_reads (Maintain name) = false
 only_reads (Verify name) = true
+only_reads (Apply name) = false
+only_reads (Load changes seed) = true
 only_reads Other = true
 
 -- and whether it reads the input
 abbrev pub reads_input : Asked → Bool
 reads_input (Maintain name) = true
+reads_input (Apply name) = true
 reads_input asked = false
 
 -- the statuses that any command can give
@@ -67,6 +85,15 @@ can_maintain status.SomeRefused = true
 can_maintain status.TooLong = true
 can_maintain s = can_show s
 
+abbrev pub can_apply : Status → Bool
+can_apply status.BadCatalogue = true
+can_apply status.TooLong = true
+can_apply s = can_check s
+
+abbrev pub can_load : Status → Bool
+can_load status.Done = true
+can_load s = can_always s
+
 abbrev pub can_refuse : Status → Bool
 can_refuse status.Usage = true
 can_refuse s = can_always s
@@ -77,4 +104,6 @@ can_end (Check name) s = can_check s
 can_end (Show name) s = can_show s
 can_end (Maintain name) s = can_maintain s
 can_end (Verify name) s = can_show s
+can_end (Apply name) s = can_apply s
+can_end (Load changes seed) s = can_load s
 can_end Other s = can_refuse s

@@ -1,4 +1,3 @@
-pub mod Printed
 pub mod Commands
 pub mod Stages
 pub mod Open
@@ -6,6 +5,7 @@ pub mod Opening
 pub mod Records
 pub mod Checking
 pub mod Verifying
+pub mod Loads
 pub mod Answers
 pub mod Steps
 pub mod Course
@@ -13,4 +13,5 @@ pub mod Runs
 pub mod Exit
 pub mod Places
 pub mod Promises
+pub mod Applies
 pub mod Clauses

@@ -12,7 +12,7 @@ use Rattle.course.specs.declared.status.Verdict.{Verdict}
 use Rattle.course.specs.declared.status.Verdict.TheVariants as verdict
 use Rattle.course.specs.Machine.{Reply, Goes, Halts, Ending}
 use Rattle.ss_top.specs.Open.{OpenValue, just_opened}
-use Rattle.ss_top.specs.Printed.{refuses, tells_synced}
+use Rattle.run_lines.specs.Told.{refuses, tells_synced}
 use Rattle.ss_top.specs.Stages.{Definition, IsRead, loaded_or_refused, refusal_of, files_of_view}
 
 -- the bytes of a definition, where it is there

@@ -1,7 +1,7 @@
 -- What a user relies on, said of a whole run.
 use Rattle.std.specs.Prelude.{◌≡◌, ℕ, ◌+◌, true, List, [], ◌∷◌, ◌++◌, length, Option, None, Some, Ok, Err, codes, decimal}
 use Rattle.ss_text.specs.Texts.{Text}
-use Rattle.tab_lines.specs.Lines.{whole_lines}
+use Rattle.tab_lines.specs.Lines.{lines_of, whole_lines}
 use Rattle.tab_lines.specs.Spelling.{spell}
 use Rattle.outside.specs.Counts.{risen}
 use Rattle.outside.specs.Streams.{with_bytes}
@@ -17,15 +17,18 @@ use Rattle.flow_law.specs.declared.shape.Shape.{Shape}
 use Rattle.change_script.specs.Applied.{applied}
 use Rattle.valuation_meaning.specs.Meaning.{shape_of}
 use Rattle.view_session.specs.Session.{tables_of}
+use Rattle.kept_sources.specs.Counted.{tree_after}
+use Rattle.kept_sources.specs.Synced.{Synced, unsaved, synced, SourcesHold}
 use Rattle.flow_law.specs.Lines.{after_lines, fit_lines}
 use Rattle.view_def.specs.Print.{print}
-use Rattle.course.specs.Machine.{Goes, follow}
+use Rattle.course.specs.Machine.{Reply, Goes, Halts, follow}
 use Rattle.ss_top.specs.declared.status.Status.{Status}
 use Rattle.ss_top.specs.Open.{OpenValue, just_opened}
-use Rattle.ss_top.specs.Opening.{opening_effects}
-use Rattle.ss_top.specs.Places.{Exempt, CsvFiles, OthersStay}
-use Rattle.ss_top.specs.Printed.{same_line}
-use Rattle.ss_top.specs.Answers.{Said, Scripts, answer, step, finish, writes_by, sync_writes, last_synced}
+use Rattle.ss_top.specs.Commands.{Asked, Maintain}
+use Rattle.ss_top.specs.Opening.{opening, opening_effects}
+use Rattle.ss_top.specs.Places.{Exempt, CsvFiles, OthersStay, sources_of}
+use Rattle.run_lines.specs.Told.{same_line}
+use Rattle.ss_top.specs.Answers.{Said, Scripts, answer, step, finish, writes_by, sync_writes, last_synced, end_synced}
 use Rattle.ss_top.specs.Course.{number}
 use Rattle.ss_top.specs.Stages.{Definition, Accepted, loaded_or_refused, refusal_of, files_of_view}
 
@@ -57,16 +60,32 @@ folder_of a = view_folder a.query.view_db
 abbrev pub view_at_first : {d : Definition} {t : Tree} → IsOpened d t → OpenValue
 view_at_first o = just_opened o.accepted.query o.catalogue
 
--- the places that a run with a definition may change: the `.csv` files of its view's folder
-abbrev pub exempt_of : Definition → List Exempt
-exempt_of (Ok a) = CsvFiles (folder_of a) ∷ []
-exempt_of (Err fields) = []
+-- the `.csv` files of its folder may be changed
+abbrev pub view_exempt : Definition → List Exempt
+view_exempt (Ok a) = CsvFiles (folder_of a) ∷ []
+view_exempt (Err fields) = []
 
--- the store tells a tree, whose files at all places that are not exempt are as they were
+-- and so may the sources that accepted changes name, in these lines behind an opening
+abbrev pub sources_exempt : Reply OpenValue → List (List ℕ) → List Exempt
+sources_exempt (Goes es o) lines = sources_of (end_synced o (unsaved o.session.catalogue) lines)
+sources_exempt (Halts es v) lines = []
+
+-- what a run with a definition may change, over these lines
+abbrev pub exempt_of : Asked → Tree → Definition → List (List ℕ) → List Exempt
+exempt_of (Maintain name) t d lines = view_exempt d ++ sources_exempt (opening t d) lines
+exempt_of asked t d lines = view_exempt d
+
+-- the store tells a tree, whose files and folders that are not exempt are as they were
 pub record Keeps (exempt : List Exempt) (t : Tree) (new : World) : Type 0 where
   pub tree : Tree
   pub told : new.store.tree ≡ Some tree
   pub others : OthersStay exempt t tree
+
+-- so it is for some of the first lines of an input, where it tells them
+pub record KeepsBut (asked : Asked) (t : Tree) (d : Definition) (input : Option (List ℕ)) (new : World) : Type 0 where
+  pub lines : List (List ℕ)
+  pub first : (bytes : List ℕ) → input ≡ Some bytes → (more : List (List ℕ)) × (lines_of bytes ≡ lines ++ more)
+  pub kept : Keeps (exempt_of asked t d lines) t new
 
 -- a view was verified: the `.csv` files of its folder are exactly the canonical files of its meaning, and their number was printed
 pub record IsVerified (d : Definition) (t : Tree) (old new : World) : Type 0 where
@@ -92,12 +111,22 @@ abbrev pub opening_writes : Tree → CatalogueValue → Query → ℕ
 opening_writes t c q = synced_count t c q
 
 -- the effects of an opening, and of the answers to all lines behind it
-abbrev pub effects_so_far : Tree → Accepted → CatalogueValue → List Effect → List Effect
-effects_so_far t a c answers = opening_effects (folder_of a) (files_of_view c a.query) (files_of t (folder_of a)) ++ answers
+abbrev pub opening_of : Tree → Accepted → CatalogueValue → List Effect
+opening_of t a c = opening_effects (folder_of a) (files_of_view c a.query) (files_of t (folder_of a))
 
--- how many files all that writes, or removes where they are there
+abbrev pub effects_so_far : Tree → Accepted → CatalogueValue → List Effect → List Effect
+effects_so_far t a c answers = opening_of t a c ++ answers
+
+-- how many files and folders all that writes, makes or removes
 abbrev pub writes_so_far : Tree → Accepted → CatalogueValue → List (List ℕ) → ℕ
-writes_so_far t a c lines = opening_writes t c a.query + writes_by (just_opened a.query c) lines
+writes_so_far t a c lines = opening_writes t c a.query + writes_by (tree_after (opening_of t a c) t) (just_opened a.query c) lines
+
+-- what was saved by the syncs among the answers to these lines, and by that at their end
+abbrev pub saved_so_far : {d : Definition} {t : Tree} → IsOpened d t → List (List ℕ) → Synced
+saved_so_far o lines = last_synced (view_at_first o) (unsaved o.catalogue) lines
+
+abbrev pub saved_at_end : {d : Definition} {t : Tree} → IsOpened d t → List (List ℕ) → OpenValue → Synced
+saved_at_end o lines last = synced last.session (saved_so_far o lines)
 
 -- what is said of an answer takes the tables before its line to those after it: a script is applied to them, and else they stay
 abbrev pub TakesBy : Shape → TablesValue → TablesValue → Said → Type 0
@@ -111,7 +140,7 @@ EachTakes o (line ∷ lines) =
     TakesBy (shape_of o.session.query) (tables_of o.session) (tables_of (answer o line).view.session) (answer o line).said
     × EachTakes (answer o line).view lines
 
--- a view was kept up to date: each line of the input was answered in turn, each script takes the tables to those after its line, the `.csv` files of the view folder are exactly the canonical files of the view's meaning over the last catalogue, all other files stay, and just the answers were printed
+-- a view was kept up to date: each line of the input was answered in turn, each script takes the tables to those after its line, the `.csv` files of the view folder are exactly the canonical files of the view's meaning over the last catalogue, the sources hold that catalogue, all other files and folders stay, and just the answers were printed
 pub record IsMaintained (d : Definition) (t : Tree) (lines : List (List ℕ)) (old new : World) (s : Status) : Type 0 where
   pub opened : IsOpened d t
   pub answers : List Effect
@@ -121,12 +150,13 @@ pub record IsMaintained (d : Definition) (t : Tree) (lines : List (List ℕ)) (o
   pub takes : EachTakes (view_at_first opened) lines
   pub told : new.store.tree ≡ Some tree
   pub files : Holds (folder_of opened.accepted) (files_of_view last.session.catalogue opened.accepted.query) tree
-  pub others : OthersStay (CsvFiles (folder_of opened.accepted) ∷ []) t tree
-  pub writes : new.store.writes ≡ risen old.store.writes (writes_so_far t opened.accepted opened.catalogue lines + sync_writes last)
+  pub sources : SourcesHold (saved_at_end opened lines last) t tree
+  pub others : OthersStay (CsvFiles (folder_of opened.accepted) ∷ sources_of (saved_at_end opened lines last)) t tree
+  pub writes : new.store.writes ≡ risen old.store.writes (writes_so_far t opened.accepted opened.catalogue lines + sync_writes (tree_after (effects_so_far t opened.accepted opened.catalogue answers) t) last)
   pub printed : new.output.held ≡ with_bytes (printed_by (effects_so_far t opened.accepted opened.catalogue answers ++ (finish last).effects)) old.output.held
   pub status : s ≡ number (finish last).status
 
--- the input gave out: each whole line of the bytes taken was answered in turn, each script takes the tables to those after its line, the `.csv` files of the view folder are exactly the canonical files of the view's meaning over the catalogue at the last sync, all other files stay, and just the answers were printed
+-- the input gave out: each whole line of the bytes taken was answered in turn, each script takes the tables to those after its line, the `.csv` files of the view folder are exactly the canonical files of the view's meaning over the catalogue at the last sync, the sources hold that catalogue, all other files and folders stay, and just the answers were printed
 pub record IsCutOff (d : Definition) (t : Tree) (bytes : List ℕ) (rest : Option (List ℕ)) (old new : World) : Type 0 where
   pub opened : IsOpened d t
   pub taken : List ℕ
@@ -139,12 +169,13 @@ pub record IsCutOff (d : Definition) (t : Tree) (bytes : List ℕ) (rest : Optio
   pub answered : follow step (whole_lines taken) (Goes [] (view_at_first opened)) ≡ Goes answers last
   pub takes : EachTakes (view_at_first opened) (whole_lines taken)
   pub told : new.store.tree ≡ Some tree
-  pub files : Holds (folder_of opened.accepted) (files_of_view (last_synced (view_at_first opened) opened.catalogue (whole_lines taken)) opened.accepted.query) tree
-  pub others : OthersStay (CsvFiles (folder_of opened.accepted) ∷ []) t tree
+  pub files : Holds (folder_of opened.accepted) (files_of_view (saved_so_far opened (whole_lines taken)).catalogue opened.accepted.query) tree
+  pub sources : SourcesHold (saved_so_far opened (whole_lines taken)) t tree
+  pub others : OthersStay (CsvFiles (folder_of opened.accepted) ∷ sources_of (saved_so_far opened (whole_lines taken))) t tree
   pub writes : new.store.writes ≡ risen old.store.writes (writes_so_far t opened.accepted opened.catalogue (whole_lines taken))
   pub printed : new.output.held ≡ with_bytes (printed_by (effects_so_far t opened.accepted opened.catalogue answers)) old.output.held
 
--- a view was shown: its definition, the catalogue and the view over it were accepted, the `.csv` files of the view folder are exactly the canonical files of the view's meaning, all other files stay, and the opening line was printed
+-- a view was shown: its definition, the catalogue and the view over it were accepted, the `.csv` files of the view folder are exactly the canonical files of the view's meaning, all other files and folders stay, and the opening line was printed
 pub record IsShown (d : Definition) (t : Tree) (old new : World) : Type 0 where
   pub opened : IsOpened d t
   pub tree : Tree

@@ -3,13 +3,16 @@ use Rattle.std.specs.Prelude.{◌≡◌, Bool, true, [], ◌∷◌, Option, Some
 use Rattle.outside.specs.Tree.{Tree}
 use Rattle.course.specs.declared.status.Verdict.TheVariants as verdict
 use Rattle.course.specs.Machine.{ending}
-use Rattle.ss_top.specs.Commands.{Asked, Check, Show, Maintain, Verify, Other}
-use Rattle.ss_top.specs.Printed.{tells_usage}
+use Rattle.ss_top.specs.Commands.{Asked, Check, Show, Maintain, Verify, Apply, Load, Other}
+use Rattle.run_lines.specs.Told.{tells_usage}
 use Rattle.ss_top.specs.Stages.{Definition}
 use Rattle.ss_top.specs.Opening.{IsDefinition, definition_bytes, opening, done_at_once}
 use Rattle.ss_top.specs.Checking.{checked}
 use Rattle.ss_top.specs.Verifying.{verified}
+use Rattle.ss_top.specs.Loads.{loaded}
 use Rattle.ss_top.specs.Answers.{step, finish}
+use Rattle.ss_top.specs.Applies.{apply_opening}
+use Rattle.view_apply.specs.Applying as applying
 use Rattle.ss_top.specs.Course.{Course, unread, by_lines}
 
 -- what the definition that is asked for is
@@ -18,6 +21,8 @@ IsAsked (Check name) t d = IsDefinition name (definition_bytes t name) d
 IsAsked (Show name) t d = IsDefinition name (definition_bytes t name) d
 IsAsked (Maintain name) t d = IsDefinition name (definition_bytes t name) d
 IsAsked (Verify name) t d = IsDefinition name (definition_bytes t name) d
+IsAsked (Apply name) t d = IsDefinition name (definition_bytes t name) d
+IsAsked (Load changes seed) t d = Unit {0}
 IsAsked Other t d = Unit {0}
 
 -- the definition that is asked for is there to be judged
@@ -31,6 +36,8 @@ course_of (Check name) t d = unread (checked d)
 course_of (Show name) t d = unread (ending done_at_once (opening t d))
 course_of (Maintain name) t d = by_lines step finish (opening t d)
 course_of (Verify name) t d = unread (verified t d)
+course_of (Apply name) t d = by_lines applying.step applying.finish (apply_opening t d)
+course_of (Load changes seed) t d = unread (loaded changes seed)
 course_of Other t d = unread (record { effects = tells_usage ∷ []; status = verdict.Usage })
 
 -- this is the course of what is asked, over this tree

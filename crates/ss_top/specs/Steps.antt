@@ -1,5 +1,5 @@
 -- What the steps of a run answer, against the definitions.
-use Rattle.std.specs.Prelude.{◌≡◌, true, List, Option, None, Some, Result, Ok, Err}
+use Rattle.std.specs.Prelude.{◌≡◌, ◌⊎◌, true, List, Option, None, Some, Result, Ok, Err}
 use Rattle.ss_text.specs.Texts.{Row}
 use Rattle.schema_model.specs.Catalogue.{CatalogueValue}
 use Rattle.view_def.specs.Query.{Query, query_of}
@@ -10,12 +10,17 @@ use Rattle.effects.specs.declared.stop.Stop.{Stop}
 use Rattle.effects.specs.declared.stop.Stop.TheVariants as stop
 use Rattle.outside.specs.Reading.{OnlyRead}
 use Rattle.course.specs.declared.status.Verdict.{Verdict}
+use Rattle.course.specs.declared.status.Verdict.TheVariants as verdict
 use Rattle.course.specs.declared.status.Halt.{Halt}
 use Rattle.course.specs.declared.status.Halt.TheVariants as halt
 use Rattle.course.specs.Machine.{Reply, Goes, Halts, effects_of}
 use Rattle.schema_model.specs.declared.change.Change.{Change}
 use Rattle.view_session.specs.declared.fault.OpenFault.{OpenFault}
 use Rattle.view_session.specs.declared.fault.OpenFault.TheVariants as open_fault
+use Rattle.view_session.specs.declared.fault.GroupStop.{GroupStop}
+use Rattle.view_session.specs.declared.fault.GroupStop.TheVariants as group_stop
+use Rattle.view_session.specs.declared.fault.HoldRefused.{HoldRefused}
+use Rattle.view_session.specs.declared.fault.HoldRefused.TheVariants as hold
 use Rattle.view_session.specs.declared.fault.Refused.{Refused}
 use Rattle.view_session.specs.declared.fault.Refused.TheVariants as refused
 use Rattle.ss_print.specs.Fields.{refusal_fields, illegal_fields, clash_fields}
@@ -30,6 +35,9 @@ use Rattle.ss_top.specs.declared.tables.Showing.{Showing}
 use Rattle.ss_top.specs.declared.tables.Showing.TheVariants as showing
 use Rattle.ss_top.specs.declared.opening.Viewing.{Viewing}
 use Rattle.ss_top.specs.declared.opening.Viewing.TheVariants as viewing
+use Rattle.view_apply.specs.Applying.{ApplyState}
+use Rattle.ss_top.specs.declared.apply.Folder.{Folder}
+use Rattle.ss_top.specs.declared.apply.Folder.TheVariants as folder
 use Rattle.ss_top.specs.declared.opening.Opened.{Opened}
 use Rattle.ss_top.specs.declared.opening.Opened.TheVariants as opened_as
 
@@ -70,6 +78,16 @@ IsFieldsOf g (refused.Illegal e) row = row ≡ illegal_fields e
 IsFieldsOf g (refused.Conflict e) row = row ≡ clash_fields e
 IsFieldsOf g refused.NoMemory row = ⊥
 
+-- the fields of a change that is not held, and of a group that is refused
+abbrev pub IsHoldFieldsOf : Change → HoldRefused → Row → Type 0
+IsHoldFieldsOf g (hold.Change r) row = row ≡ refusal_fields g r
+IsHoldFieldsOf g hold.NoMemory row = ⊥
+
+abbrev pub IsStopFieldsOf : GroupStop → Row → Type 0
+IsStopFieldsOf (group_stop.Illegal e) row = row ≡ illegal_fields e
+IsStopFieldsOf (group_stop.Conflict e) row = row ≡ clash_fields e
+IsStopFieldsOf group_stop.NoMemory row = ⊥
+
 -- a run that an opening ended was refused
 abbrev pub IsRefusal : Opened → Type 0
 IsRefusal (opened_as.Open v) = Unit {0}
@@ -101,3 +119,16 @@ Opens (Goes es a) old new (Ok (opened_as.Ended v)) = ⊥
 Opens (Halts es w) old new (Ok (opened_as.Open s)) = ⊥
 Opens (Halts es w) old new (Ok (opened_as.Ended v)) = (contents new ≡ performed es (contents old)) × (v ≡ w)
 Opens r old new (Err e) = Partly (effects_of r) (contents old) (contents new)
+
+-- what the opening of a view's folder did
+abbrev pub FolderOpens : Reply ApplyState → World → World → Result Folder Stop → Type 0
+FolderOpens (Goes es a) old new (Ok (folder.Open s)) = (contents new ≡ performed es (contents old)) × (s ≡ a)
+FolderOpens (Goes es a) old new (Ok (folder.Ended v)) = ⊥
+FolderOpens (Halts es w) old new (Ok (folder.Open s)) = ⊥
+FolderOpens (Halts es w) old new (Ok (folder.Ended v)) = (contents new ≡ performed es (contents old)) × (v ≡ w)
+FolderOpens r old new (Err e) = Partly (effects_of r) (contents old) (contents new)
+
+-- a run that such an opening ended was refused for its definition or for the folder
+abbrev pub IsFolderRefusal : Folder → Type 0
+IsFolderRefusal (folder.Open s) = Unit {0}
+IsFolderRefusal (folder.Ended v) = (v ≡ verdict.BadDefinition) ⊎ (v ≡ verdict.BadCatalogue)

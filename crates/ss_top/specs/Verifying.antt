@@ -11,7 +11,7 @@ use Rattle.view_folder.specs.declared.comparison.Comparison.TheVariants as compa
 use Rattle.course.specs.declared.status.Verdict.TheVariants as verdict
 use Rattle.course.specs.Machine.{Ending}
 use Rattle.ss_top.specs.Checking.{ends}
-use Rattle.ss_top.specs.Printed.{refuses, tells_same, tells_difference}
+use Rattle.run_lines.specs.Told.{refuses, tells_same, tells_difference}
 use Rattle.ss_top.specs.Stages.{Definition, loaded_or_refused, refusal_of, files_of_view}
 
 -- how a folder compares, and the end

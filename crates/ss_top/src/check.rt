@@ -13,10 +13,10 @@ ghost use Rattle.ss_top.specs.Course.{number};
 ghost use Rattle.ss_top.specs.Steps.{IdleUnread};
 
 use crate::definition::{Understood, read_definition};
-use crate::printed::refuse;
 use course::Verdict;
 use effects::{Stop, print};
 use outside::{Folders, Sink};
+use run_lines::refuse;
 use ss_text::Text;
 use std::alloc::Global;
 use view_def::view_text;

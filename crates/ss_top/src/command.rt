@@ -6,21 +6,23 @@ ghost use Rattle.outside.specs.Tree.{Tree};
 ghost use Rattle.course.specs.Machine.{Ended, BlamesRun};
 ghost use Rattle.course.specs.declared.status.Verdict.TheVariants.{Usage};
 ghost use Rattle.effects.specs.Blame.{Blames};
-ghost use Rattle.ss_top.specs.Printed.{tells_usage};
-ghost use Rattle.ss_top.specs.Commands.{Asked, asked_of, command_named, uses_store, only_reads, reads_input, can_end};
+ghost use Rattle.run_lines.specs.Told.{tells_usage};
+ghost use Rattle.ss_top.specs.Commands.{Asked, asked_of, command_named, command_counted, uses_store, only_reads, reads_input, can_end};
 ghost use Rattle.ss_top.specs.Stages.{Definition};
 ghost use Rattle.ss_top.specs.Course.{RanBy, RanSome, Took, status_of, IsWholeInput};
 ghost use Rattle.ss_top.specs.Runs.{IsAsked, course_of, Told};
 ghost use Rattle.ss_top.specs.Steps.{IdleRun};
 
+use crate::apply::apply;
 use crate::check::check;
+use crate::load::{counts_asked, load};
 use crate::maintain::maintain;
-use crate::printed::tell_usage;
 use crate::show::show;
 use crate::verify::verify;
 use course::{Halt, Verdict};
 use effects::Stop;
 use outside::{Folders, Sink, Source};
+use run_lines::tell_usage;
 use ss_text::{Steps, Text, table_label_legal};
 use std::alloc::Global;
 use std::sync::ledger::Ledger;
@@ -81,8 +83,48 @@ fn run_named<F: Folders, S: Source, K: Sink, L: Ledger>(
         let verdict = verify(alloc, store, output, name)?;
         return Ok(verdict);
     }
+    if word.as_slice() == b"apply".as_slice() {
+        return apply(alloc, store, input, output, name, steps);
+    }
     let verdict = usage(alloc, store, output)?;
     Ok(verdict)
+}
+
+// Does what three words ask for.
+#[tactic(auto, using(crate::proofs::RunLemmas::ran_some, crate::proofs::RunLemmas::stopped_some, crate::proofs::RunLemmas::stop_can_load, crate::proofs::RunLemmas::stop_can_refuse, crate::proofs::RunLemmas::idle_other))]
+fn run_counted<F: Folders, S: Source, K: Sink, L: Ledger>(
+    alloc: Global,
+    word: &Text,
+    changes: &Text,
+    seed: &Text,
+    store: &mut F,
+    input: &mut S,
+    output: &mut K,
+    steps: &mut Steps<L>,
+) -> Result<Verdict, Halt>
+    ensures ran { (t : Tree) (bytes : List ℕ) (d : Definition) → Told (uses_store (command_counted word.now changes.now seed.now)) (F.state store.old).tree t → Told (reads_input (command_counted word.now changes.now seed.now)) (S.rest input.old) bytes → IsAsked (command_counted word.now changes.now seed.now) t d → RanBy (course_of (command_counted word.now changes.now seed.now) t d) bytes (S.rest input.new) (world_of (F.state store.old) (K.state output.old)) (world_of (F.state store.new) (K.state output.new)) result }
+    ensures blames { BlamesRun (S.faults input.old) (S.faults input.new) (world_of (F.state store.old) (K.state output.old)) (world_of (F.state store.new) (K.state output.new)) result }
+    ensures steps { steps.new ≡ steps.old }
+    ensures can { can_end (command_counted word.now changes.now seed.now) (status_of result) ≡ true }
+    ensures some { (t : Tree) (d : Definition) → Told (uses_store (command_counted word.now changes.now seed.now)) (F.state store.old).tree t → IsAsked (command_counted word.now changes.now seed.now) t d → RanSome (course_of (command_counted word.now changes.now seed.now) t d) (world_of (F.state store.old) (K.state output.old)) (world_of (F.state store.new) (K.state output.new)) result }
+    ensures took { (t : Tree) (bytes : List ℕ) (d : Definition) → Told (uses_store (command_counted word.now changes.now seed.now)) (F.state store.old).tree t → reads_input (command_counted word.now changes.now seed.now) ≡ true → S.rest input.old ≡ Some bytes → IsAsked (command_counted word.now changes.now seed.now) t d → OnErr result (Took (course_of (command_counted word.now changes.now seed.now) t d) bytes (S.rest input.new) (world_of (F.state store.old) (K.state output.old)) (world_of (F.state store.new) (K.state output.new))) }
+    ensures idle { IdleRun result (world_of (F.state store.old) (K.state output.old)) (world_of (F.state store.new) (K.state output.new)) }
+    ensures whole { (bytes : List ℕ) → reads_input (command_counted word.now changes.now seed.now) ≡ true → S.rest input.old ≡ Some bytes → IsWholeInput bytes (S.rest input.new) result }
+    ensures only_read { only_reads (command_counted word.now changes.now seed.now) ≡ true → OnlyRead (F.state store.old) (F.state store.new) }
+    ensures store { uses_store (command_counted word.now changes.now seed.now) ≡ false → F.state store.new ≡ F.state store.old }
+    ensures rest { reads_input (command_counted word.now changes.now seed.now) ≡ false → S.rest input.new ≡ S.rest input.old }
+    ensures faults { reads_input (command_counted word.now changes.now seed.now) ≡ false → S.faults input.new ≡ S.faults input.old }
+{
+    match counts_asked(word, changes, seed) {
+        Some((changes, seed)) => {
+            let verdict = load(alloc, store, output, changes, seed)?;
+            Ok(verdict)
+        }
+        None => {
+            let verdict = usage(alloc, store, output)?;
+            Ok(verdict)
+        }
+    }
 }
 
 // Does what the words ask for.
@@ -110,6 +152,9 @@ pub(crate) fn run_words<F: Folders, S: Source, K: Sink, L: Ledger>(
     match words {
         [word, name] if table_label_legal(name) => {
             run_named(alloc, word, name, store, input, output, steps)
+        }
+        [word, changes, seed] => {
+            run_counted(alloc, word, changes, seed, store, input, output, steps)
         }
         _ => {
             let verdict = usage(alloc, store, output)?;

@@ -2,12 +2,13 @@
 #![tactic(auto)]
 
 mod accepted;
+mod apply;
 mod check;
 mod command;
 mod definition;
+mod load;
 mod maintain;
 mod opening;
-mod printed;
 mod show;
 mod sources;
 mod status;
@@ -15,6 +16,7 @@ mod tables;
 mod top;
 mod verify;
 mod view;
+mod word;
 
 pub use status::Status;
 pub use top::run;

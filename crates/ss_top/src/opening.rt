@@ -11,12 +11,12 @@ ghost use Rattle.ss_top.specs.Steps.{Opens, Views, IsOpenFieldsOf, IsRefusal, Id
 
 use crate::accepted;
 use crate::definition::{Understood, read_definition};
-use crate::printed::refuse;
 use crate::sources::{Loading, load_sources};
 use crate::view::OpenView;
 use course::Verdict;
 use effects::Stop;
 use outside::{Folders, Sink};
+use run_lines::refuse;
 use schema_model::Catalogue;
 use ss_print::{clash_fields, illegal_fields};
 use ss_text::{NoMemory, Row, Text};

@@ -17,12 +17,12 @@ ghost use Rattle.ss_top.specs.Steps.{IdleUnread};
 ghost use Rattle.ss_top.specs.Verifying.{by_comparison, verified, verified_over, verified_view};
 
 use crate::definition::{Understood, read_definition};
-use crate::printed::{refuse, tell_difference, tell_same};
 use crate::sources::{Loading, load_sources};
 use crate::tables::{Showing, show_tables};
 use course::Verdict;
 use effects::Stop;
 use outside::{Folders, Sink};
+use run_lines::{refuse, tell_difference, tell_same};
 use schema_model::Catalogue;
 use ss_text::Text;
 use std::alloc::Global;

@@ -1,5 +1,5 @@
 //! An opened view, and its answers.
-ghost use Rattle.std.specs.Prelude.{◌≡◌, ◌≢◌, ◌||◌, ◌∷◌, ◌++◌, [], map, filter, length, false, Some, IfOk, IfErr, OnOk, IsTrue};
+ghost use Rattle.std.specs.Prelude.{◌≡◌, ◌≢◌, ◌||◌, ◌∷◌, ◌++◌, [], map, filter, length, false, None, Some, IfOk, IfErr, OnOk, IsTrue};
 ghost use Rattle.std.specs.List.{list_any};
 ghost use Rattle.std.specs.List.Sorted.{IsStrictlySortedBy};
 ghost use Rattle.ss_text.specs.Texts.{is_in, text_cmp};
@@ -13,24 +13,26 @@ ghost use Rattle.flow_law.specs.Tables.{labels_of};
 ghost use Rattle.valuation_meaning.specs.Meaning.{shape_of};
 ghost use Rattle.view_folder.specs.Files.{view_folder};
 ghost use Rattle.view_folder.specs.Sync.{later_sync};
-ghost use Rattle.view_session.specs.Session.{tables_of};
+ghost use Rattle.view_session.specs.Session.{tables_of, working};
+ghost use Rattle.kept_sources.specs.Synced.{saving};
 ghost use Rattle.course.specs.Machine.{Answered, Ended};
 ghost use Rattle.ss_print.specs.Fields.{first_field, line_fields};
 ghost use Rattle.schema_model.specs.declared.change.ChangeFault.TheVariants.{NoMemory as LacksMemory};
-ghost use Rattle.ss_top.specs.Printed.{refuses, tells_synced};
+ghost use Rattle.run_lines.specs.Told.{refuses, tells_synced};
 ghost use Rattle.outside.specs.Tree.{Tree, files_of};
 ghost use Rattle.ss_top.specs.Opening.{opening_effects};
 ghost use Rattle.ss_top.specs.Stages.{files_of_view};
 ghost use Rattle.ss_top.specs.Steps.{IsFieldsOf, IdleUnread};
 ghost use Rattle.ss_top.specs.Records.{HasRecords};
-ghost use Rattle.ss_top.specs.Answers.{step, finish, answer, by_spelling, by_row, by_sync, by_change, by_fault, refusing, syncing, sync_effects, sync_count, is_sync};
+ghost use Rattle.ss_top.specs.Answers.{step, finish, answer, by_row, by_change, by_fault, in_group, more_broken, refusing, syncing, sync_effects, view_effects, sync_count, end_view};
 
-use crate::printed::{refuse, tell_script, tell_synced};
-use change_script::Script;
+use crate::word::word_of;
 use course::{Machine, Verdict};
+use csv_catalog::save_changed;
 use effects::Stop;
 use flow_law::Tables;
 use outside::{Folders, Sink};
+use run_lines::{refuse, tell_script, tell_synced};
 use schema_model::{Change, ChangeFault};
 use ss_print::{clash_fields, escape_fields, illegal_fields, line_fields, refusal_fields};
 use ss_text::{NoMemory, Row, Steps, Text};
@@ -41,14 +43,17 @@ use tab_lines::{LineFault, read_line};
 use view_folder::{sync, sync_all};
 use view_session::{Refused, Session};
 
+mod group;
+
 /// An opened view, which contracts see as the view over its catalogue, the labels of its tables at the last
-/// sync, and whether some line was refused.
+/// sync, whether some line was refused, and how many were refused in the open group.
 #[derive(Drop)]
 pub(crate) struct OpenView {
     session: Session,
     view_db: Text,
     synced: Vec<Text>,
     some_refused: bool,
+    broken: usize,
     ghost records: { HasRecords session.query },
 }
 
@@ -64,7 +69,7 @@ impl Model for OpenView {
 
     ghost coded = { let mark_code : Coded Mark = Prim.hlevel codes in Prim.hlevel (codes, condition_code mark_code) };
 
-    ghost view = { λ v. record { session = v.session; synced = v.synced.items; refused = v.some_refused } };
+    ghost view = { λ v. record { session = v.session; synced = v.synced.items; refused = v.some_refused; broken = v.broken } };
 
     ghost invariant = { λ v. record {
       view_db : v.view_db ≡ v.session.query.view_db;
@@ -82,16 +87,6 @@ fn labels_of(alloc: Global, tables: &Tables) -> Result<Vec<Text>, NoMemory>
         labels.push(tables.label(place).copy()?)?;
     }
     Ok(labels)
-}
-
-// Whether the first field of a line is `sync`.
-fn is_sync(row: &Row) -> bool
-    ensures { result ≡ is_sync row.now }
-{
-    match row.cells() {
-        [first, ..] => first.as_slice() == b"sync".as_slice(),
-        [] => false,
-    }
 }
 
 impl OpenView {
@@ -112,6 +107,7 @@ impl OpenView {
             view_db,
             synced,
             some_refused: false,
+            broken: 0,
         })
     }
 
@@ -139,14 +135,39 @@ impl OpenView {
         Ok(())
     }
 
+    // Whether a group is open.
+    #[tactic(auto, using(crate::proofs::ViewLemmas::there_counted))]
+    fn in_group(&self) -> bool
+        ensures { result ≡ in_group self.now }
+    {
+        self.session.held().is_some()
+    }
+
+    // How many lines are refused in the open group with one more.
+    fn more_broken(&self) -> Result<usize, NoMemory>
+        ensures { IfOk result (λ broken. broken ≡ more_broken self.now) }
+    {
+        if !self.in_group() {
+            return Ok(self.broken);
+        }
+        // More lines than can be counted are no memory.
+        match self.broken.checked_add(1) {
+            Some(broken) => Ok(broken),
+            None => Err(NoMemory),
+        }
+    }
+
     // Refuses a line.
+    #[tactic(auto, using(effects::proofs::Following::following))]
     fn refuse<K: Sink>(&mut self, alloc: Global, output: &mut K, fields: &Row) -> Result<(), Stop>
         ensures does { (s : _) → Does (refuses fields.now ∷ []) (world_of s (K.state output.old)) (world_of s (K.state output.new)) result }
         ensures view { OnOk result (self.new ≡ (refusing self.old fields.now).view) }
         ensures blames { SinkBlames (K.state output.old) (K.state output.new) result }
     {
+        let broken = self.more_broken()?;
         refuse(alloc, output, fields)?;
         self.some_refused = true;
+        self.broken = broken;
         Ok(())
     }
 
@@ -191,7 +212,7 @@ impl OpenView {
         store: &mut F,
         output: &mut K,
     ) -> Result<(), Stop>
-        ensures does { Does (sync_effects self.now) (world_of (F.state store.old) (K.state output.old)) (world_of (F.state store.new) (K.state output.new)) result }
+        ensures does { Does (view_effects self.now) (world_of (F.state store.old) (K.state output.old)) (world_of (F.state store.new) (K.state output.new)) result }
         ensures no_read { IfErr result (λ e. e ≢ Stop.ReadFault) }
         ensures blames { Blames (world_of (F.state store.old) (K.state output.old)) (world_of (F.state store.new) (K.state output.new)) result }
     {
@@ -208,7 +229,57 @@ impl OpenView {
         Ok(())
     }
 
-    // A sync.
+    // Saves the relations and databases that were named.
+    fn save_named<F: Folders>(&self, alloc: Global, store: &mut F) -> Result<(), Stop>
+        ensures does { (o : _) → Does (saving self.now.session) (world_of (F.state store.old) o) (world_of (F.state store.new) o) result }
+        ensures no_read { IfErr result (λ e. e ≢ Stop.ReadFault) }
+        ensures blames { StoreBlames (F.state store.old) (F.state store.new) result }
+    {
+        let session = &self.session;
+        save_changed(
+            alloc,
+            store,
+            session.catalogue(),
+            session.changed_databases(),
+            session.changed_relations(),
+        )
+    }
+
+    // Saves the sources that were named, and then syncs the view's files.
+    #[tactic(auto, using(effects::proofs::Following::following, crate::proofs::IdleLemmas::sink_no_read, effects::proofs::EffectLemmas::partly_more, effects::proofs::EffectLemmas::partly_later, effects::proofs::EffectLemmas::performed_append))]
+    fn write_changed<F: Folders, K: Sink>(
+        &self,
+        alloc: Global,
+        store: &mut F,
+        output: &mut K,
+    ) -> Result<(), Stop>
+        ensures does { Does (sync_effects self.now) (world_of (F.state store.old) (K.state output.old)) (world_of (F.state store.new) (K.state output.new)) result }
+        ensures no_read { IfErr result (λ e. e ≢ Stop.ReadFault) }
+        ensures blames { Blames (world_of (F.state store.old) (K.state output.old)) (world_of (F.state store.new) (K.state output.new)) result }
+    {
+        self.save_named(alloc, store)?;
+        self.write_named(alloc, store, output)?;
+        Ok(())
+    }
+
+    // Refuses an open group at the end of the input, and syncs.
+    #[tactic(auto, using(effects::proofs::Following::following, crate::proofs::IdleLemmas::sink_no_read, effects::proofs::EffectLemmas::partly_more, effects::proofs::EffectLemmas::partly_later, effects::proofs::EffectLemmas::performed_append))]
+    fn end_input<F: Folders, K: Sink>(
+        &mut self,
+        alloc: Global,
+        store: &mut F,
+        output: &mut K,
+    ) -> Result<(), Stop>
+        ensures does { Does (finish self.old).effects (world_of (F.state store.old) (K.state output.old)) (world_of (F.state store.new) (K.state output.new)) result }
+        ensures view { OnOk result (self.new ≡ end_view self.old) }
+        ensures no_read { IfErr result (λ e. e ≢ Stop.ReadFault) }
+        ensures blames { Blames (world_of (F.state store.old) (K.state output.old)) (world_of (F.state store.new) (K.state output.new)) result }
+    {
+        self.end_group(alloc, output)?;
+        self.write_changed(alloc, store, output)
+    }
+
+    // A sync, where no group is open.
     #[tactic(auto, using(effects::proofs::Following::following, crate::proofs::IdleLemmas::sink_no_read))]
     fn sync<F: Folders, K: Sink>(
         &mut self,
@@ -216,29 +287,26 @@ impl OpenView {
         store: &mut F,
         output: &mut K,
     ) -> Result<(), Stop>
+        requires { self.old.session.held ≡ None }
         ensures does { Does (syncing self.old).effects (world_of (F.state store.old) (K.state output.old)) (world_of (F.state store.new) (K.state output.new)) result }
         ensures view { OnOk result (self.new ≡ (syncing self.old).view) }
         ensures no_read { IfErr result (λ e. e ≢ Stop.ReadFault) }
         ensures blames { Blames (world_of (F.state store.old) (K.state output.old)) (world_of (F.state store.new) (K.state output.new)) result }
     {
         let synced = labels_of(alloc, self.session.tables())?;
-        self.write_named(alloc, store, output)?;
+        self.write_changed(alloc, store, output)?;
         self.session.clear_changed();
         self.synced = synced;
         Ok(())
     }
 
-    // Answers a change.
+    // Answers a change where no group is open.
     #[tactic(auto, using(effects::proofs::Following::following, crate::proofs::IdleLemmas::sink_no_read, crate::proofs::AnswerLemmas::accepted_view, crate::proofs::AnswerLemmas::refused_view))]
-    fn change<K: Sink>(
-        &mut self,
-        alloc: Global,
-        output: &mut K,
-        change: &Change,
-    ) -> Result<(), Stop>
-        requires { IsTrue (is_well_formed change.now) }
-        ensures does { (s : _) → Does (by_fault self.old change.now (fault self.old.session.catalogue change.now)).effects (world_of s (K.state output.old)) (world_of s (K.state output.new)) result }
-        ensures view { OnOk result (self.new ≡ (by_fault self.old change.now (fault self.old.session.catalogue change.now)).view) }
+    fn apply<K: Sink>(&mut self, alloc: Global, output: &mut K, change: &Change) -> Result<(), Stop>
+        requires well_formed { IsTrue (is_well_formed change.now) }
+        requires idle { self.old.session.held ≡ None }
+        ensures does { (s : _) → Does (by_fault self.old change.now (fault (working self.old.session) change.now)).effects (world_of s (K.state output.old)) (world_of s (K.state output.new)) result }
+        ensures view { OnOk result (self.new ≡ (by_fault self.old change.now (fault (working self.old.session) change.now)).view) }
         ensures blames { SinkBlames (K.state output.old) (K.state output.new) result }
     {
         match self.session.apply(alloc, change) {
@@ -250,7 +318,27 @@ impl OpenView {
         }
     }
 
-    // Answers a line that is no sync.
+    // Answers a change.
+    #[tactic(auto, using(crate::proofs::ViewLemmas::none_open))]
+    fn change<K: Sink>(
+        &mut self,
+        alloc: Global,
+        output: &mut K,
+        change: &Change,
+    ) -> Result<(), Stop>
+        requires { IsTrue (is_well_formed change.now) }
+        ensures does { (s : _) → Does (by_fault self.old change.now (fault (working self.old.session) change.now)).effects (world_of s (K.state output.old)) (world_of s (K.state output.new)) result }
+        ensures view { OnOk result (self.new ≡ (by_fault self.old change.now (fault (working self.old.session) change.now)).view) }
+        ensures blames { SinkBlames (K.state output.old) (K.state output.new) result }
+    {
+        if self.in_group() {
+            self.hold(alloc, output, change)
+        } else {
+            self.apply(alloc, output, change)
+        }
+    }
+
+    // Answers a line that begins with no word that stands alone.
     #[tactic(auto, using(effects::proofs::Following::following, crate::proofs::IdleLemmas::sink_no_read, crate::proofs::AnswerLemmas::unread_view))]
     fn change_line<K: Sink>(&mut self, alloc: Global, output: &mut K, row: &Row) -> Result<(), Stop>
         ensures does { (s : _) → Does (by_change self.old row.now (change_of row.now)).effects (world_of s (K.state output.old)) (world_of s (K.state output.new)) result }
@@ -266,30 +354,8 @@ impl OpenView {
         }
     }
 
-    // Answers a line whose first field is `sync`.
-    #[tactic(auto, using(effects::proofs::Following::following, crate::proofs::IdleLemmas::sink_no_read, crate::proofs::AnswerLemmas::one_sync_does, crate::proofs::AnswerLemmas::no_sync_does, crate::proofs::AnswerLemmas::one_sync_view, crate::proofs::AnswerLemmas::no_sync_view))]
-    fn sync_line<F: Folders, K: Sink>(
-        &mut self,
-        alloc: Global,
-        store: &mut F,
-        output: &mut K,
-        row: &Row,
-    ) -> Result<(), Stop>
-        ensures does { Does (by_sync self.old row.now).effects (world_of (F.state store.old) (K.state output.old)) (world_of (F.state store.new) (K.state output.new)) result }
-        ensures view { OnOk result (self.new ≡ (by_sync self.old row.now).view) }
-        ensures no_read { IfErr result (λ e. e ≢ Stop.ReadFault) }
-        ensures blames { Blames (world_of (F.state store.old) (K.state output.old)) (world_of (F.state store.new) (K.state output.new)) result }
-    {
-        let got = row.cells().len();
-        if got == 1 {
-            return self.sync(alloc, store, output);
-        }
-        let fields = line_fields(alloc, row, ChangeFault::FieldCount { got })?;
-        self.refuse(alloc, output, &fields)
-    }
-
     // Answers the row of a line.
-    #[tactic(auto, using(effects::proofs::Following::following, crate::proofs::IdleLemmas::sink_no_read, crate::proofs::AnswerLemmas::syncs_does))]
+    #[tactic(auto, using(effects::proofs::Following::following, crate::proofs::IdleLemmas::sink_no_read, crate::proofs::AnswerLemmas::words_does))]
     fn row<F: Folders, K: Sink>(
         &mut self,
         alloc: Global,
@@ -302,10 +368,9 @@ impl OpenView {
         ensures no_read { IfErr result (λ e. e ≢ Stop.ReadFault) }
         ensures blames { Blames (world_of (F.state store.old) (K.state output.old)) (world_of (F.state store.new) (K.state output.new)) result }
     {
-        if is_sync(row) {
-            self.sync_line(alloc, store, output, row)
-        } else {
-            self.change_line(alloc, output, row)
+        match word_of(row) {
+            Some(word) => self.word_line(alloc, store, output, row, word),
+            None => self.change_line(alloc, output, row),
         }
     }
 
@@ -384,7 +449,7 @@ impl Machine for OpenView {
         output: &mut K,
         _steps: &mut Steps<L>,
     ) -> Result<Verdict, Stop> {
-        self.write_named(alloc, store, output)?;
+        self.end_input(alloc, store, output)?;
         if self.some_refused {
             Ok(Verdict::SomeRefused)
         } else {

@@ -1,10 +1,8 @@
-use Rattle.std.proofs.Common.{◌≡◌, ◌≢◌, length, ap, arith}
-use Rattle.ss_text.specs.Texts.{Row}
-use Rattle.ss_top.proofs.AnswerLemmas.{no_sync_does}
+use Rattle.std.proofs.Common.{sym, ◌∙◌}
 use Rattle.ss_top.proofs.view.OpenView.sync_line.Goals as goal
 
-pub returns-clause-does : goal.returns-clause-does
-returns-clause-does g c =
-    let long : length c.cells-got.result.now ≡ length c.args.row.now = ap (λ (row : Row). length row) c.cells-got.ensures in
-    let apart : length c.args.row.now ≢ 1 = λ e. absurd (omega (arith, e, long)) in
-    no_sync_does _ _ _ c.args.self.now c.args.row.now c.in_ok-fields.fields apart (rw long at c.in_ok-fields.ensures) (c.refuse.ensures.does _)
+pub returns-then-in_group-clause-does : goal.returns-then-in_group-clause-does
+returns-then-in_group-clause-does g c = rw (sym c.in_group.ensures ∙ c.if-in_group.true) (c.refuse_inside.ensures.does _)
+
+pub returns-else-in_group-clause-does : goal.returns-else-in_group-clause-does
+returns-else-in_group-clause-does g c = rw (sym c.in_group.ensures ∙ c.if-in_group.false) c.sync.ensures.does
