@@ -1,0 +1,4 @@
+pub mod ListLemmas
+pub mod FlatLaw
+pub mod InsideLemmas
+pub mod Asked

@@ -1,0 +1,21 @@
+use Rattle.std.proofs.Common.{◌≡◌}
+use Rattle.schema_model.specs.Catalogue.{with_row}
+use Rattle.schema_model.specs.States.{plain_relation}
+use Rattle.schema_model.proofs.Asks.{insert_has}
+use Rattle.schema_delta.proofs.Asked.{there, insert_fits}
+use Rattle.schema_delta.proofs.FlatLaw.{changed_law}
+use Rattle.schema_delta.proofs.attributes.inserted.Goals as goal
+
+pub relation_of-relation-requires : goal.relation_of-relation-requires
+relation_of-relation-requires g c = there c.args.catalogue.now.databases c.args.db.now c.args.rel.now (insert_has c.args.catalogue.now.databases c.args.db.now c.args.rel.now c.args.row.now c.requires).at
+
+pub part_change-requires-clause-fits : goal.part_change-requires-clause-fits
+part_change-requires-clause-fits g c =
+    let r = plain_relation c.relation_of-relation.result.now in
+    rw c.in_ok-copy.ensures (insert_fits c.args.catalogue.now.databases c.args.db.now c.args.rel.now r c.relation_of-relation.ensures.found c.args.row.now c.requires)
+
+pub returns-clause-moved : goal.returns-clause-moved
+returns-clause-moved g c =
+    let r = plain_relation c.relation_of-relation.result.now in
+    let moved = rw c.in_ok-copy.ensures at c.in_ok-delta.ensures.moved in
+    changed_law c.args.spec.now c.args.catalogue.now.databases c.relation_of-relation.ensures.sound c.args.db.now c.args.rel.now r (with_row c.args.row.now) c.in_ok-delta.delta c.relation_of-relation.ensures.found moved

@@ -1,0 +1,14 @@
+use Rattle.std.proofs.Common.{◌≡◌}
+use Rattle.schema_model.specs.States.{plain_database}
+use Rattle.schema_model.proofs.Asks.{drop_database_has}
+use Rattle.schema_delta.proofs.FlatLaw.{database_dropped_law}
+use Rattle.schema_delta.proofs.databases.database_dropped.Goals as goal
+
+pub database_of-database-requires : goal.database_of-database-requires
+database_of-database-requires c = drop_database_has c.args.catalogue.now.databases c.args.db.now c.requires
+
+pub returns : goal.returns
+returns c =
+    let d = plain_database c.database_of-database.result.now in
+    rw (c.in_ok-delta.ensures, c.in_ok-gone.ensures, c.name.ensures)
+    (database_dropped_law c.args.spec.now c.args.catalogue.now.databases c.database_of-database.ensures.sound c.args.db.now d c.database_of-database.ensures.found)

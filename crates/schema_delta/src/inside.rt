@@ -1,0 +1,78 @@
+//! What a relation contributes, without the names of its database and its own.
+ghost use Rattle.std.specs.Prelude.{◌≡◌, ◌∷◌, [], IfOk, map};
+ghost use Rattle.schema_delta.specs.Flat.{inside, values_of, names_of};
+
+use crate::FlatSpec;
+use fold_op::{fold_rows, pick_rows};
+use ss_text::{NoMemory, Row, Text};
+use std::alloc::Global;
+use unite_op::rows_behind;
+use view_def::{Place, Range};
+
+/// What a relation with these attributes and rows contributes.
+pub(crate) fn inside_rows(
+    alloc: Global,
+    spec: &FlatSpec,
+    attributes: &Row,
+    rows: &[&Row],
+) -> Result<Vec<Row>, NoMemory>
+    ensures { IfOk result (λ flat. flat.items ≡ inside spec.now.range spec.now.wanted spec.now.folded (attributes.now, map (λ r. r.now) rows.now)) }
+{
+    match &spec.range {
+        Range::Databases | Range::Alias(..) => Ok(Vec::new(alloc)),
+        Range::Relations(..) => Ok(one_empty(alloc)?),
+        Range::Attributes(..) => Ok(attribute_rows(alloc, attributes)?),
+        Range::Tuples(..) if spec.folded => Ok(fold_rows(alloc, &spec.wanted, attributes, rows)?),
+        Range::Tuples(..) => Ok(pick_rows(alloc, &spec.wanted, attributes, rows)?),
+        Range::Values(_, _, place) => Ok(value_rows(alloc, place, attributes, rows)?),
+    }
+}
+
+// The name and the cell of the attribute that a place names, for every row.
+fn value_rows(
+    alloc: Global,
+    place: &Place,
+    attributes: &Row,
+    rows: &[&Row],
+) -> Result<Vec<Row>, NoMemory>
+    ensures { IfOk result (λ flat. flat.items ≡ values_of place.now (attributes.now, map (λ r. r.now) rows.now)) }
+{
+    match place {
+        Place::Fixed(name) => {
+            let name = one(alloc, name)?;
+            let cells = pick_rows(alloc, &name, attributes, rows)?;
+            Ok(rows_behind(alloc, &name, &cells)?)
+        }
+        Place::Var(_) => {
+            let none = Row::of(Vec::new(alloc));
+            Ok(fold_rows(alloc, &none, attributes, rows)?)
+        }
+    }
+}
+
+fn one_empty(alloc: Global) -> Result<Vec<Row>, NoMemory>
+    ensures { IfOk result (λ flat. flat.items ≡ [] ∷ []) }
+{
+    let mut flat = Vec::new(alloc);
+    flat.push(Row::of(Vec::new(alloc)))?;
+    Ok(flat)
+}
+
+fn attribute_rows(alloc: Global, attributes: &Row) -> Result<Vec<Row>, NoMemory>
+    ensures { IfOk result (λ flat. flat.items ≡ names_of attributes.now) }
+{
+    let mut flat = Vec::with_capacity(alloc, attributes.cells().len())?;
+    for name in attributes.cells() {
+        flat.push(one(alloc, name)?)?;
+    }
+    Ok(flat)
+}
+
+/// The row of one text.
+pub(crate) fn one(alloc: Global, text: &Text) -> Result<Row, NoMemory>
+    ensures { IfOk result (λ row. row ≡ text.now ∷ []) }
+{
+    let mut cells = Vec::new(alloc);
+    cells.push(text.copy()?)?;
+    Ok(Row::of(cells))
+}

@@ -1,0 +1,2 @@
+pub mod UniteLemmas
+mod TestNames

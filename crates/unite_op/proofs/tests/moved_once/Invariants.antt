@@ -1,0 +1,4 @@
+use Rattle.unite_op.proofs.tests.moved_once.Given as goal
+
+abbrev pub ghosts-moved : goal.ghosts-moved
+ghosts-moved a = record { name = a.blank.name; parts = a.blank.parts }
