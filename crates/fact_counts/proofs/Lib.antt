@@ -1,0 +1,12 @@
+pub mod Picked
+pub mod FactCells
+pub mod TouchedLines
+pub mod Present
+pub mod Clashes
+pub mod NetLines
+pub mod NetConflict
+pub mod NetIllegal
+pub mod CountLemmas
+pub mod Prepared
+pub mod StoredLemmas
+pub mod SameKeptLemmas

@@ -1,0 +1,37 @@
+//! What is kept of the facts of one table, and what a change comes to.
+ghost use Rattle.std.specs.Prelude.{[]};
+ghost use Rattle.fact_counts.specs.Moves.{Stands};
+
+use counts::Net;
+use indexmap::IndexMap;
+use ss_text::{Row, Text};
+use std::alloc::Global;
+
+/// How often the facts name each key and each column, and the value of each place that has one, with how often they have it.
+#[derive(Drop)]
+pub struct FactCounts {
+    pub keys: IndexMap<Row, u128>,
+    pub columns: IndexMap<Text, u128>,
+    pub cells: IndexMap<(Row, Text), (Text, u128)>,
+}
+
+impl FactCounts {
+    /// The counts of no facts.
+    pub fn new(alloc: Global) -> FactCounts
+        ensures { Stands result [] }
+    {
+        FactCounts {
+            keys: IndexMap::new(alloc),
+            columns: IndexMap::new(alloc),
+            cells: IndexMap::new(alloc),
+        }
+    }
+}
+
+/// What the moves of keys, of columns and of entries come to.
+#[derive(Drop)]
+pub struct Nets {
+    pub keys: Net<Row>,
+    pub columns: Net<Text>,
+    pub entries: Net<((Row, Text), Text)>,
+}

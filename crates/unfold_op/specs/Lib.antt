@@ -1,0 +1,3 @@
+pub mod FactMoves
+pub mod OneTables
+pub mod TableFields

@@ -1,0 +1,136 @@
+//! Facts without columns.
+ghost use Rattle.std.specs.Prelude.{◌≡◌, [], None, Some, IfOk, IfErr, MatchResult};
+ghost use Rattle.unfold_op.specs.OneTables.{KeepsFacts, CanKeep, BearsOne, CanPrepare, Gives, MayStop, Makes};
+
+use crate::one_table::{OneTable, TableReady};
+use flow_law::{Stop, TableLine};
+use operator_law::{Delta, Fresh, Kept, Operator};
+use ss_text::{NoMemory, Row, Steps};
+use std::alloc::Global;
+use std::marker::Model;
+use std::sync::ledger::Ledger;
+
+/// Keeps the facts of one table without a variable column, and gives the lines by which the table changes: each row is there once.
+#[derive(Drop)]
+pub struct Distinct {
+    table: OneTable,
+}
+
+impl Model for Distinct {
+    ghost use Rattle.std.specs.Prelude.{◌≡◌, None, Some};
+    ghost use Rattle.unfold_op.specs.OneTables.{OneTableValue};
+    ghost use Rattle.fact_counts.specs.contracts.facts.FactCounts as fact_counts;
+    ghost use Rattle.std.specs.Coded.{codes};
+
+    ghost Value = { OneTableValue };
+
+    ghost coded = { Prim.hlevel (codes, fact_counts.the_row.coded) };
+
+    ghost use Rattle.unfold_op.specs.TableFields.{seen, IsOneTable};
+
+    ghost view = { λ o. seen o.table };
+
+    ghost invariant = { λ o. IsOneTable o.table × (o.table.shape.spot ≡ None) };
+}
+
+impl Distinct {
+    /// No facts, of these constant columns.
+    pub fn new(alloc: Global, constants: Row) -> Distinct
+        ensures shape { result.shape ≡ record { label = None; constants = constants; spot = None } }
+        ensures keeps { KeepsFacts result [] }
+        ensures none { result.waiting ≡ None }
+    {
+        Distinct {
+            table: OneTable::new(alloc, constants, None),
+        }
+    }
+}
+
+impl Operator for Distinct {
+    ghost use Rattle.unfold_op.specs.OneTables.{table_value, KeepsFacts, CanPrepare, Gives};
+    ghost use Rattle.std.specs.Prelude.{◌≡◌};
+    ghost use Rattle.flow_law.specs.declared.refused.Stop.TheVariants.{NoMemory};
+
+    type Input = ();
+
+    type Change = Delta;
+
+    type Output = Vec<TableLine>;
+
+    ghost value = { λ o x. table_value o x };
+
+    ghost stands_for = { λ o i x. KeepsFacts o x };
+
+    ghost can_prepare = { λ o i g. CanPrepare o g };
+
+    ghost gives = { λ o i g lines. Gives o g lines.items };
+
+    ghost may_stop = { λ o i g stop. stop ≡ NoMemory };
+
+    ghost is_bound = { λ o i g n. Unit {0} };
+
+    fn prepare<L: Ledger>(
+        &self,
+        alloc: Global,
+        input: &(),
+        change: &Delta,
+        steps: &mut Steps<L>,
+    ) -> Result<Vec<TableLine>, Stop> {
+        match self.table.lines(alloc, change) {
+            Ok(lines) => Ok(lines),
+            Err(stop) => Err(stop),
+        }
+    }
+}
+
+impl Kept for Distinct {
+    ghost use Rattle.std.specs.Prelude.{◌≡◌};
+    ghost use Rattle.std.proofs.Common.{subst};
+    ghost use Rattle.flow_law.specs.declared.shape.Shape.{Shape};
+    ghost use Rattle.unfold_op.specs.OneTables.{KeepsFacts, CanKeep, BearsOne};
+
+    type Change = Delta;
+
+    type Ready = TableReady;
+
+    ghost keeps = { λ o x. KeepsFacts o x };
+
+    ghost can_keep = { λ o x. CanKeep o.shape x };
+
+    ghost alike = { λ a b. a.shape ≡ b.shape };
+
+    ghost waiting = { λ o. o.waiting };
+
+    ghost made_for = { λ r. r };
+
+    ghost can_reserve = { λ o g. BearsOne o.shape o.label o.total g };
+
+    fn reserve(&mut self, alloc: Global, change: &Delta) -> Result<TableReady, NoMemory> {
+        self.table.reserve(alloc, change)?;
+        Ok(TableReady::of(change))
+    }
+
+    fn commit(&mut self, ready: TableReady) {
+        self.table.commit();
+    }
+
+    ghost keeps_alike = { λ s t x a h. subst (λ (v : Shape). CanKeep v x) a h };
+}
+
+impl Fresh for Distinct {
+    ghost use Rattle.std.proofs.Common.{ap, ◌∙◌};
+    ghost use Rattle.flow_law.specs.declared.shape.Shape.{Shape};
+    ghost use Rattle.flow_law.specs.FactTables.{tables};
+    ghost use Rattle.unfold_op.specs.FactMoves.{facts_in};
+
+    fn fresh(&self, alloc: Global) -> Result<Distinct, NoMemory> {
+        let table = self.table.fresh(alloc)?;
+        Ok(Distinct { table })
+    }
+
+    ghost stands = { λ s x h. h };
+
+    ghost same_value = { λ s t x a. ap (λ (v : Shape). tables v (facts_in v x)) a };
+
+    ghost alike_on = { λ s t u a b. a ∙ b };
+}

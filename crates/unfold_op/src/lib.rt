@@ -1,0 +1,15 @@
+//! From facts that come and go to the lines by which their table changes.
+//!
+//! Its contract: `Distinct` and `Unfold` obey the law of operators for every change of the facts of one table. `Distinct`
+//! never refuses; `Unfold` refuses exactly what the definitions refuse. Neither knows any other table.
+#![tactic(auto)]
+
+mod delta;
+mod distinct;
+mod frame;
+mod one_table;
+mod unfold;
+
+pub use distinct::Distinct;
+pub use one_table::TableReady;
+pub use unfold::Unfold;
