@@ -1,0 +1,5 @@
+pub mod Walk
+pub mod Bilinear
+pub mod Sides
+pub mod Moved
+pub mod Crossed

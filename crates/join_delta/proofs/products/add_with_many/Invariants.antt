@@ -1,0 +1,7 @@
+use Rattle.std.proofs.Common.{◌≡◌, ◌++◌, take}
+use Rattle.std.specs.List.{flat_map}
+use Rattle.join_delta.specs.Partners.{crossed_with}
+use Rattle.join_delta.proofs.products.add_with_many.Given as goal
+
+abbrev pub invariant-loop-m : goal.invariant-loop-m
+invariant-loop-m l = l.out.items ≡ l.initial.out.items ++ flat_map (crossed_with l.many_first l.many.key.now l.side.key.now l.many.moves.now) (take l.m-index l.side.moves.now)

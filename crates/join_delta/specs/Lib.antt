@@ -1,0 +1,7 @@
+pub mod Joined
+pub mod Partners
+pub mod Groups
+pub mod Walks
+pub mod Ready
+pub mod Joins
+pub mod JoinFields

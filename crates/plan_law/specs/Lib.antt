@@ -1,0 +1,11 @@
+pub mod Kinds
+pub mod Flat
+pub mod Columns
+pub mod Links
+pub mod Net
+pub mod Chain
+pub mod PlanRows
+pub mod PlanMoves
+pub mod Touched
+pub mod Marks
+pub mod Laws
