@@ -5,7 +5,9 @@ ghost use Rattle.outside.specs.Counts.{Rose, risen};
 use crate::listing::{Wanted, list_at};
 use crate::paths::{file_path, folder_path, left_in};
 use crate::reading::read_at;
-use crate::writing::{Writing, make_folder_at, remove_folder_at, remove_where_there};
+use crate::writing::{
+    Writing, make_folder_at, remove_folder_at, remove_what_is_left, remove_where_there,
+};
 use outside::{Folders, StoreFault};
 use ss_text::Text;
 use std::alloc::Global;
@@ -13,13 +15,15 @@ use std::io::{Error, ErrorKind};
 use std::rt::Files;
 
 /// Folders below the current one. A listing that meets a name which is not UTF-8, and a file of 2^32 bytes or
-/// more, are failures. A file is written beside its place, and takes it when it is whole.
+/// more, are failures. A file is written beside its place, and takes it when it is whole. The first write takes away
+/// what earlier ones that were cut off left below `sources`.
 #[derive(Drop)]
 pub struct HostFolders<R: Files + AllocGlobal + Clone + Drop> {
     rt: R,
     read_faults: u64,
     write_faults: u64,
     writes: u64,
+    is_clean: bool,
 }
 
 impl<R: Files + AllocGlobal + Clone + Drop> HostFolders<R> {
@@ -30,6 +34,7 @@ impl<R: Files + AllocGlobal + Clone + Drop> HostFolders<R> {
             read_faults: 0,
             write_faults: 0,
             writes: 0,
+            is_clean: false,
         }
     }
 }
@@ -107,6 +112,10 @@ impl<R: Files + AllocGlobal + Clone + Drop> Folders for HostFolders<R> {
         file: &Text,
         bytes: &[u8],
     ) -> Result<(), StoreFault> {
+        if !self.is_clean {
+            self.is_clean = true;
+            let _ = remove_what_is_left(&self.rt);
+        }
         let writing = match Writing::of(&self.rt, folder, file) {
             Ok(writing) => writing,
             Err(error) => return Err(fault_of(&error, &mut self.write_faults)),

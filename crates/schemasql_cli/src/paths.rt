@@ -73,3 +73,11 @@ pub(crate) fn beside(alloc: Global, target: &str) -> Result<String, Error> {
 pub(crate) fn left_in(alloc: Global, folder: &str) -> Result<String, Error> {
     Ok(format!(in alloc; "{folder}/{UNDER_WAY}")?)
 }
+
+/// The path in the folder of a database under which a write was under way.
+pub(crate) fn left_in_database(alloc: Global, name: &[u8]) -> Result<String, Error> {
+    match str::from_utf8(name) {
+        Ok(name) => Ok(format!(in alloc; "sources/{name}/{UNDER_WAY}")?),
+        Err(_) => Err(Error::from(ErrorKind::InvalidFilename)),
+    }
+}

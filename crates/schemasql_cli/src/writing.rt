@@ -1,6 +1,8 @@
 //! Writes that take the place of a file whole, and what is removed.
 use crate::listing::is_empty;
-use crate::paths::{beside, file_path, folder_path, followed, is_link, is_missing};
+use crate::paths::{
+    beside, file_path, folder_path, followed, is_link, is_missing, left_in_database,
+};
 use ss_text::Text;
 use std::fs::{self, File, OpenFile, Permissions};
 use std::io::{Error, ErrorKind, Write};
@@ -87,6 +89,18 @@ pub(crate) fn remove_where_there<R: Files>(rt: &R, path: &str) -> Result<bool, E
         Err(error) if is_missing(&error) => Ok(false),
         Err(error) => Err(error),
     }
+}
+
+/// Takes away what writes that were cut off left in the folders of the sources. What cannot be taken away stays.
+pub(crate) fn remove_what_is_left<R: Files + AllocGlobal + Clone + Drop>(
+    rt: &R,
+) -> Result<(), Error> {
+    for entry in fs::read_dir(rt, "sources")? {
+        let entry = entry?;
+        let left = left_in_database(rt.alloc(), entry.file_name().as_bytes())?;
+        let _ = fs::remove_file(rt, left.as_str());
+    }
+    Ok(())
 }
 
 /// Makes a folder and those above it, where it is missing, and answers whether it was.
