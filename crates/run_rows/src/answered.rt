@@ -1,4 +1,5 @@
 //! Lines that `maintain` answers.
+use crate::offices::{A, A_TO_B, A_TO_C, SELF_JOIN};
 use crate::place::texts;
 use crate::row::{Row, Want, difference_over};
 use outside::{StoreFault, SureSource};
@@ -9,18 +10,7 @@ const CHANGED: [(Row, &str); 6] = [
     (
         Row {
             words: &["maintain", "AtoB"],
-            files: &[
-                (
-                    "defs",
-                    "AtoB.ssql",
-                    "create view AtoB::salInfo(category, D) as select A.category, A.salFloor from univ-A::salInfo A, A.dept D",
-                ),
-                (
-                    "sources/univ-A",
-                    "salInfo.csv",
-                    "category,dept,salFloor\nProf,cs,72000\nProf,math,65000\nAssoc,cs,60000\n",
-                ),
-            ],
+            files: &[A_TO_B, A],
             want: Want {
                 status: 0,
                 printed: "synced\t1\ncolumn+\tsalInfo\tphysics\ncell\tsalInfo\tphysics\t70000\tProf\ndone\t2\nsynced\t1\n",
@@ -36,18 +26,7 @@ const CHANGED: [(Row, &str); 6] = [
     (
         Row {
             words: &["maintain", "AtoB"],
-            files: &[
-                (
-                    "defs",
-                    "AtoB.ssql",
-                    "create view AtoB::salInfo(category, D) as select A.category, A.salFloor from univ-A::salInfo A, A.dept D",
-                ),
-                (
-                    "sources/univ-A",
-                    "salInfo.csv",
-                    "category,dept,salFloor\nProf,cs,72000\nProf,math,65000\nAssoc,cs,60000\n",
-                ),
-            ],
+            files: &[A_TO_B, A],
             want: Want {
                 status: 1,
                 printed: "synced\t1\nrefused\tconflict\tsalInfo\tcs\t72000\t99\tProf\ncell\tsalInfo\tcs\t\tProf\ndone\t1\ncell\tsalInfo\tcs\t99\tProf\ndone\t1\nsynced\t1\n",
@@ -63,18 +42,7 @@ const CHANGED: [(Row, &str); 6] = [
     (
         Row {
             words: &["maintain", "AtoB"],
-            files: &[
-                (
-                    "defs",
-                    "AtoB.ssql",
-                    "create view AtoB::salInfo(category, D) as select A.category, A.salFloor from univ-A::salInfo A, A.dept D",
-                ),
-                (
-                    "sources/univ-A",
-                    "salInfo.csv",
-                    "category,dept,salFloor\nProf,cs,72000\nProf,math,65000\nAssoc,cs,60000\n",
-                ),
-            ],
+            files: &[A_TO_B, A],
             want: Want {
                 status: 0,
                 printed: "synced\t1\ncolumn-\tsalInfo\tmath\ndone\t1\nsynced\t1\n",
@@ -87,18 +55,7 @@ const CHANGED: [(Row, &str); 6] = [
     (
         Row {
             words: &["maintain", "AtoC"],
-            files: &[
-                (
-                    "defs",
-                    "AtoC.ssql",
-                    "create view AtoC::D(category, salFloor) as select A.category, A.salFloor from univ-A::salInfo A, A.dept D",
-                ),
-                (
-                    "sources/univ-A",
-                    "salInfo.csv",
-                    "category,dept,salFloor\nProf,cs,72000\nProf,math,65000\nAssoc,cs,60000\n",
-                ),
-            ],
+            files: &[A_TO_C, A],
             want: Want {
                 status: 1,
                 printed: "synced\t2\nrefused\tillegal-label\ta/b\nsynced\t0\n",
@@ -114,18 +71,7 @@ const CHANGED: [(Row, &str); 6] = [
     (
         Row {
             words: &["maintain", "AtoB"],
-            files: &[
-                (
-                    "defs",
-                    "AtoB.ssql",
-                    "create view AtoB::salInfo(category, D) as select A.category, A.salFloor from univ-A::salInfo A, A.dept D",
-                ),
-                (
-                    "sources/univ-A",
-                    "salInfo.csv",
-                    "category,dept,salFloor\nProf,cs,72000\nProf,math,65000\nAssoc,cs,60000\n",
-                ),
-            ],
+            files: &[A_TO_B, A],
             want: Want {
                 status: 1,
                 printed: "synced\t1\nrefused\tillegal-label\tsalInfo\tcategory\nsynced\t0\n",
@@ -142,11 +88,7 @@ const CHANGED: [(Row, &str); 6] = [
         Row {
             words: &["maintain", "AtoB"],
             files: &[
-                (
-                    "defs",
-                    "AtoB.ssql",
-                    "create view AtoB::salInfo(category, D) as select A.category, A.salFloor from univ-A::salInfo A, A.dept D",
-                ),
+                A_TO_B,
                 (
                     "sources/univ-A",
                     "salInfo.csv",
@@ -172,18 +114,7 @@ const READ: [(Row, &str); 7] = [
     (
         Row {
             words: &["maintain", "AtoB"],
-            files: &[
-                (
-                    "defs",
-                    "AtoB.ssql",
-                    "create view AtoB::salInfo(category, D) as select A.category, A.salFloor from univ-A::salInfo A, A.dept D",
-                ),
-                (
-                    "sources/univ-A",
-                    "salInfo.csv",
-                    "category,dept,salFloor\nProf,cs,72000\nProf,math,65000\nAssoc,cs,60000\n",
-                ),
-            ],
+            files: &[A_TO_B, A],
             want: Want {
                 status: 0,
                 printed: "synced\t1\nrow+\tsalInfo\tLect\ncell\tsalInfo\tcs\ta\\tb\\nc\\\\d\tLect\ndone\t2\nsynced\t1\n",
@@ -199,18 +130,7 @@ const READ: [(Row, &str); 7] = [
     (
         Row {
             words: &["maintain", "AtoB"],
-            files: &[
-                (
-                    "defs",
-                    "AtoB.ssql",
-                    "create view AtoB::salInfo(category, D) as select A.category, A.salFloor from univ-A::salInfo A, A.dept D",
-                ),
-                (
-                    "sources/univ-A",
-                    "salInfo.csv",
-                    "category,dept,salFloor\nProf,cs,72000\nProf,math,65000\nAssoc,cs,60000\n",
-                ),
-            ],
+            files: &[A_TO_B, A],
             want: Want {
                 status: 1,
                 printed: "synced\t1\nrefused\tbad-escape\t22\nsynced\t0\n",
@@ -226,18 +146,7 @@ const READ: [(Row, &str); 7] = [
     (
         Row {
             words: &["maintain", "AtoB"],
-            files: &[
-                (
-                    "defs",
-                    "AtoB.ssql",
-                    "create view AtoB::salInfo(category, D) as select A.category, A.salFloor from univ-A::salInfo A, A.dept D",
-                ),
-                (
-                    "sources/univ-A",
-                    "salInfo.csv",
-                    "category,dept,salFloor\nProf,cs,72000\nProf,math,65000\nAssoc,cs,60000\n",
-                ),
-            ],
+            files: &[A_TO_B, A],
             want: Want {
                 status: 0,
                 printed: "synced\t1\nsynced\t0\n",
@@ -253,14 +162,7 @@ const READ: [(Row, &str); 7] = [
     (
         Row {
             words: &["maintain", "J"],
-            files: &[
-                (
-                    "defs",
-                    "J.ssql",
-                    "create view J::p(x, y) as select T.a, U.b from d::r T, d::r U where T.b = U.a",
-                ),
-                ("sources/d", "r.csv", "a,b\n"),
-            ],
+            files: &[SELF_JOIN, ("sources/d", "r.csv", "a,b\n")],
             want: Want {
                 status: 0,
                 printed: "synced\t1\nrow+\tp\t1\t1\ndone\t1\ndone\t0\ndone\t0\nrow-\tp\t1\t1\ndone\t1\nsynced\t1\n",
@@ -273,18 +175,7 @@ const READ: [(Row, &str); 7] = [
     (
         Row {
             words: &["maintain", "AtoB"],
-            files: &[
-                (
-                    "defs",
-                    "AtoB.ssql",
-                    "create view AtoB::salInfo(category, D) as select A.category, A.salFloor from univ-A::salInfo A, A.dept D",
-                ),
-                (
-                    "sources/univ-A",
-                    "salInfo.csv",
-                    "category,dept,salFloor\nProf,cs,72000\nProf,math,65000\nAssoc,cs,60000\n",
-                ),
-            ],
+            files: &[A_TO_B, A],
             want: Want {
                 status: 1,
                 printed: "synced\t1\nrefused\tarity-differs\tuniv-A\tsalInfo\t3\t2\nsynced\t0\n",
@@ -300,18 +191,7 @@ const READ: [(Row, &str); 7] = [
     (
         Row {
             words: &["maintain", "AtoB"],
-            files: &[
-                (
-                    "defs",
-                    "AtoB.ssql",
-                    "create view AtoB::salInfo(category, D) as select A.category, A.salFloor from univ-A::salInfo A, A.dept D",
-                ),
-                (
-                    "sources/univ-A",
-                    "salInfo.csv",
-                    "category,dept,salFloor\nProf,cs,72000\nProf,math,65000\nAssoc,cs,60000\n",
-                ),
-            ],
+            files: &[A_TO_B, A],
             want: Want {
                 status: 1,
                 printed: "synced\t1\nrefused\tno-row\tuniv-A\tsalInfo\nsynced\t0\n",
@@ -327,18 +207,7 @@ const READ: [(Row, &str); 7] = [
     (
         Row {
             words: &["maintain", "AtoB"],
-            files: &[
-                (
-                    "defs",
-                    "AtoB.ssql",
-                    "create view AtoB::salInfo(category, D) as select A.category, A.salFloor from univ-A::salInfo A, A.dept D",
-                ),
-                (
-                    "sources/univ-A",
-                    "salInfo.csv",
-                    "category,dept,salFloor\nProf,cs,72000\nProf,math,65000\nAssoc,cs,60000\n",
-                ),
-            ],
+            files: &[A_TO_B, A],
             want: Want {
                 status: 1,
                 printed: "synced\t1\nrefused\tfield-count\tsync\t2\nsynced\t0\n",

@@ -1,4 +1,5 @@
 //! Definitions that are checked, folders that are verified, and more views.
+use crate::offices::{A, A_TO_B, ALL, B};
 use crate::row::{Row, Want, difference};
 use outside::StoreFault;
 use std::alloc::Global;
@@ -179,11 +180,7 @@ const REFUSED_HEADERS: [Row; 6] = [
 const CHECKED: [Row; 6] = [
     Row {
         words: &["check", "AtoB"],
-        files: &[(
-            "defs",
-            "AtoB.ssql",
-            "create view AtoB::salInfo(category, D) as select A.category, A.salFloor from univ-A::salInfo A, A.dept D",
-        )],
+        files: &[A_TO_B],
         want: Want {
             status: 0,
             printed: "CREATE VIEW AtoB::salInfo(category, D) AS SELECT A.category, A.salFloor FROM univ-A::salInfo A, A.dept D\n",
@@ -268,16 +265,8 @@ const VERIFIED: [Row; 5] = [
     Row {
         words: &["verify", "AtoB"],
         files: &[
-            (
-                "defs",
-                "AtoB.ssql",
-                "create view AtoB::salInfo(category, D) as select A.category, A.salFloor from univ-A::salInfo A, A.dept D",
-            ),
-            (
-                "sources/univ-A",
-                "salInfo.csv",
-                "category,dept,salFloor\nProf,cs,72000\nProf,math,65000\nAssoc,cs,60000\n",
-            ),
+            A_TO_B,
+            A,
             (
                 "views/AtoB",
                 "salInfo.csv",
@@ -296,19 +285,7 @@ const VERIFIED: [Row; 5] = [
     },
     Row {
         words: &["verify", "AtoB"],
-        files: &[
-            (
-                "defs",
-                "AtoB.ssql",
-                "create view AtoB::salInfo(category, D) as select A.category, A.salFloor from univ-A::salInfo A, A.dept D",
-            ),
-            (
-                "sources/univ-A",
-                "salInfo.csv",
-                "category,dept,salFloor\nProf,cs,72000\nProf,math,65000\nAssoc,cs,60000\n",
-            ),
-            ("views/AtoB", "salInfo.csv", "category\n"),
-        ],
+        files: &[A_TO_B, A, ("views/AtoB", "salInfo.csv", "category\n")],
         want: Want {
             status: 5,
             printed: "differs\tsalInfo.csv\t9\t47\n",
@@ -318,18 +295,7 @@ const VERIFIED: [Row; 5] = [
     },
     Row {
         words: &["verify", "AtoB"],
-        files: &[
-            (
-                "defs",
-                "AtoB.ssql",
-                "create view AtoB::salInfo(category, D) as select A.category, A.salFloor from univ-A::salInfo A, A.dept D",
-            ),
-            (
-                "sources/univ-A",
-                "salInfo.csv",
-                "category,dept,salFloor\nProf,cs,72000\nProf,math,65000\nAssoc,cs,60000\n",
-            ),
-        ],
+        files: &[A_TO_B, A],
         want: Want {
             status: 5,
             printed: "differs\tsalInfo.csv\t-\t47\n",
@@ -340,16 +306,8 @@ const VERIFIED: [Row; 5] = [
     Row {
         words: &["verify", "AtoB"],
         files: &[
-            (
-                "defs",
-                "AtoB.ssql",
-                "create view AtoB::salInfo(category, D) as select A.category, A.salFloor from univ-A::salInfo A, A.dept D",
-            ),
-            (
-                "sources/univ-A",
-                "salInfo.csv",
-                "category,dept,salFloor\nProf,cs,72000\nProf,math,65000\nAssoc,cs,60000\n",
-            ),
+            A_TO_B,
+            A,
             ("views/AtoB", "other.csv", "xy\n"),
             (
                 "views/AtoB",
@@ -373,11 +331,7 @@ const VERIFIED: [Row; 5] = [
     Row {
         words: &["verify", "AtoB"],
         files: &[
-            (
-                "defs",
-                "AtoB.ssql",
-                "create view AtoB::salInfo(category, D) as select A.category, A.salFloor from univ-A::salInfo A, A.dept D",
-            ),
+            A_TO_B,
             (
                 "sources/univ-A",
                 "salInfo.csv",
@@ -405,11 +359,7 @@ const VERIFIED: [Row; 5] = [
 const WORDS: [Row; 3] = [
     Row {
         words: &[],
-        files: &[(
-            "sources/univ-A",
-            "salInfo.csv",
-            "category,dept,salFloor\nProf,cs,72000\nProf,math,65000\nAssoc,cs,60000\n",
-        )],
+        files: &[A],
         want: Want {
             status: 2,
             printed: "usage: schemasql check|show|maintain|verify|apply NAME, or schemasql load N SEED\n",
@@ -419,11 +369,7 @@ const WORDS: [Row; 3] = [
     },
     Row {
         words: &["show"],
-        files: &[(
-            "sources/univ-A",
-            "salInfo.csv",
-            "category,dept,salFloor\nProf,cs,72000\nProf,math,65000\nAssoc,cs,60000\n",
-        )],
+        files: &[A],
         want: Want {
             status: 2,
             printed: "usage: schemasql check|show|maintain|verify|apply NAME, or schemasql load N SEED\n",
@@ -433,15 +379,85 @@ const WORDS: [Row; 3] = [
     },
     Row {
         words: &["show", "nosuch"],
-        files: &[(
-            "sources/univ-A",
-            "salInfo.csv",
-            "category,dept,salFloor\nProf,cs,72000\nProf,math,65000\nAssoc,cs,60000\n",
-        )],
+        files: &[A],
         want: Want {
             status: 3,
             printed: "refused\tno-definition\tnosuch\n",
             folder: "views/nosuch",
+            held: &[],
+        },
+    },
+];
+
+// Runs of changes that a number and a seed tell, and numbers that are not lawful.
+const LOADED: [Row; 7] = [
+    Row {
+        words: &["load", "1000", "7"],
+        files: &[],
+        want: Want {
+            status: 0,
+            printed: "load\t1000\t7\taccepted\t900\trefused\t100\tlines\t1009\trows\t100\tcolumns\t8\tbytes\t3254\n",
+            folder: "views/t",
+            held: &[],
+        },
+    },
+    Row {
+        words: &["load", "20", "0"],
+        files: &[],
+        want: Want {
+            status: 0,
+            printed: "load\t20\t0\taccepted\t18\trefused\t2\tlines\t29\trows\t2\tcolumns\t8\tbytes\t69\n",
+            folder: "views/t",
+            held: &[],
+        },
+    },
+    Row {
+        words: &["load", "0", "1"],
+        files: &[],
+        want: Want {
+            status: 2,
+            printed: "usage: schemasql check|show|maintain|verify|apply NAME, or schemasql load N SEED\n",
+            folder: "views/t",
+            held: &[],
+        },
+    },
+    Row {
+        words: &["load", "01", "1"],
+        files: &[],
+        want: Want {
+            status: 2,
+            printed: "usage: schemasql check|show|maintain|verify|apply NAME, or schemasql load N SEED\n",
+            folder: "views/t",
+            held: &[],
+        },
+    },
+    Row {
+        words: &["load", "200001", "1"],
+        files: &[],
+        want: Want {
+            status: 2,
+            printed: "usage: schemasql check|show|maintain|verify|apply NAME, or schemasql load N SEED\n",
+            folder: "views/t",
+            held: &[],
+        },
+    },
+    Row {
+        words: &["load", "1", "1000000"],
+        files: &[],
+        want: Want {
+            status: 2,
+            printed: "usage: schemasql check|show|maintain|verify|apply NAME, or schemasql load N SEED\n",
+            folder: "views/t",
+            held: &[],
+        },
+    },
+    Row {
+        words: &["load", "1"],
+        files: &[],
+        want: Want {
+            status: 2,
+            printed: "usage: schemasql check|show|maintain|verify|apply NAME, or schemasql load N SEED\n",
+            folder: "views/t",
             held: &[],
         },
     },
@@ -457,11 +473,7 @@ const SHOWN: [Row; 7] = [
                 "BtoA.ssql",
                 "create view BtoA::salInfo(category, dept, salFloor) as select T.category, D, T.\"D\" from univ-B::salInfo -> D, univ-B::salInfo T where D <> 'category'",
             ),
-            (
-                "sources/univ-B",
-                "salInfo.csv",
-                "category,cs,math\nAssoc,60000,\nProf,72000,65000\n",
-            ),
+            B,
         ],
         want: Want {
             status: 0,
@@ -473,11 +485,7 @@ const SHOWN: [Row; 7] = [
     Row {
         words: &["show", "AtoB"],
         files: &[
-            (
-                "defs",
-                "AtoB.ssql",
-                "create view AtoB::salInfo(category, D) as select A.category, A.salFloor from univ-A::salInfo A, A.dept D",
-            ),
+            A_TO_B,
             (
                 "sources/univ-A",
                 "salInfo.csv",
@@ -499,11 +507,7 @@ const SHOWN: [Row; 7] = [
                 "P.ssql",
                 "create view P::t(D, category) as select A.salFloor, A.category from univ-A::salInfo A, A.dept D",
             ),
-            (
-                "sources/univ-A",
-                "salInfo.csv",
-                "category,dept,salFloor\nProf,cs,72000\nProf,math,65000\nAssoc,cs,60000\n",
-            ),
+            A,
         ],
         want: Want {
             status: 0,
@@ -517,23 +521,7 @@ const SHOWN: [Row; 7] = [
     },
     Row {
         words: &["show", "All"],
-        files: &[
-            (
-                "defs",
-                "All.ssql",
-                "create view All::t(db, category) as select X, T.category from -> X, X::salInfo T",
-            ),
-            (
-                "sources/univ-A",
-                "salInfo.csv",
-                "category,dept,salFloor\nProf,cs,72000\nProf,math,65000\nAssoc,cs,60000\n",
-            ),
-            (
-                "sources/univ-B",
-                "salInfo.csv",
-                "category,cs,math\nAssoc,60000,\nProf,72000,65000\n",
-            ),
-        ],
+        files: &[ALL, A, B],
         want: Want {
             status: 0,
             printed: "synced\t1\n",
@@ -547,11 +535,7 @@ const SHOWN: [Row; 7] = [
     Row {
         words: &["show", "AtoB"],
         files: &[
-            (
-                "defs",
-                "AtoB.ssql",
-                "create view AtoB::salInfo(category, D) as select A.category, A.salFloor from univ-A::salInfo A, A.dept D",
-            ),
+            A_TO_B,
             (
                 "sources/univ-A",
                 "salInfo.csv",
@@ -573,11 +557,7 @@ const SHOWN: [Row; 7] = [
                 "V.ssql",
                 "create view V::t(a) as select T.a, \"T\".\"b\" from d::r T",
             ),
-            (
-                "sources/univ-A",
-                "salInfo.csv",
-                "category,dept,salFloor\nProf,cs,72000\nProf,math,65000\nAssoc,cs,60000\n",
-            ),
+            A,
         ],
         want: Want {
             status: 3,
@@ -594,11 +574,7 @@ const SHOWN: [Row; 7] = [
                 "V.ssql",
                 "create view V::t(a) as select A.x from d::r A, d::r B, d::r C, d::r D, d::r E",
             ),
-            (
-                "sources/univ-A",
-                "salInfo.csv",
-                "category,dept,salFloor\nProf,cs,72000\nProf,math,65000\nAssoc,cs,60000\n",
-            ),
+            A,
         ],
         want: Want {
             status: 3,
@@ -645,6 +621,12 @@ fn folders_are_verified(rt: HostRuntime) -> Result<(), StoreFault> {
 #[test]
 fn words_are_refused(rt: HostRuntime) -> Result<(), StoreFault> {
     assert_eq!(rt; first_difference(rt.alloc(), &WORDS)?, None);
+    Ok(())
+}
+
+#[test]
+fn runs_of_changes_are_summed_up(rt: HostRuntime) -> Result<(), StoreFault> {
+    assert_eq!(rt; first_difference(rt.alloc(), &LOADED)?, None);
     Ok(())
 }
 

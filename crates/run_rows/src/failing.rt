@@ -1,4 +1,5 @@
 //! Runs of which one call fails: the first, the second, and so on, until none does.
+use crate::offices::A_TO_C;
 use crate::place::{File, failing_folders, holds, run_over, texts};
 use crate::row::{Want, unwanted};
 use outside::{MemFolders, MemSink, StoreFault, SureSource};
@@ -7,11 +8,7 @@ use std::alloc::Global;
 const SOURCE: &str = "category,dept,salFloor\nProf,cs,72000\nProf,math,65000\nAssoc,cs,60000\n";
 
 const FILES: [File; 4] = [
-    (
-        "defs",
-        "AtoC.ssql",
-        "create view AtoC::D(category, salFloor) as select A.category, A.salFloor from univ-A::salInfo A, A.dept D",
-    ),
+    A_TO_C,
     ("sources/univ-A", "salInfo.csv", SOURCE),
     ("views/AtoC", "notes.txt", "keep\n"),
     ("views/AtoC", "old.csv", "x\n"),

@@ -1,5 +1,5 @@
-//! Worked rows of the whole program, over folders and streams in memory, and one run of `show` and one of `maintain`
-//! with each of their calls failing in turn.
+//! Worked rows of the whole program, over folders and streams in memory, and runs of each command with
+//! each of their calls failing in turn.
 //!
 //! It has tests alone. What they want comes from outside, never from the program.
 #![tactic(auto)]
@@ -7,13 +7,19 @@
 #[cfg(test)]
 mod answered;
 #[cfg(test)]
+mod applied;
+#[cfg(test)]
 mod commands;
 #[cfg(test)]
 mod failing;
 #[cfg(test)]
+mod grouped;
+#[cfg(test)]
 mod maintained;
 #[cfg(test)]
 mod maintained_failing;
+#[cfg(test)]
+mod offices;
 #[cfg(test)]
 mod place;
 #[cfg(test)]
@@ -21,4 +27,8 @@ mod row;
 #[cfg(test)]
 mod rows;
 #[cfg(test)]
+mod saved;
+#[cfg(test)]
 mod schemas;
+#[cfg(test)]
+mod sweeps;

@@ -1,27 +1,15 @@
 //! Runs of `maintain`: answers in order, an input that is cut anywhere, and a call that fails.
-use crate::place::{File, texts};
+use crate::offices::{A, A_NAMES, A_TO_B};
+use crate::place::texts;
 use crate::row::{Row, Want, difference_over};
 use outside::{MemSource, StoreFault, SureSource};
 use ss_text::{NoMemory, Text};
 use std::alloc::Global;
 
-const SOURCE: File = (
-    "sources/univ-A",
-    "salInfo.csv",
-    "category,dept,salFloor\nProf,cs,72000\nProf,math,65000\nAssoc,cs,60000\n",
-);
-
 // Constant columns alone, where rows come and go, and an attribute comes that the view does not show.
 const NAMES: Row = Row {
     words: &["maintain", "Q"],
-    files: &[
-        (
-            "defs",
-            "Q.ssql",
-            "create view Q::names(category) as select A.category from univ-A::salInfo A",
-        ),
-        SOURCE,
-    ],
+    files: &[A_NAMES, A],
     want: Want {
         status: 0,
         printed: "synced\t1\nrow+\tnames\tLect\ndone\t1\ndone\t0\nrow-\tnames\tProf\ndone\t1\ndone\t0\nsynced\t1\n",
@@ -36,14 +24,7 @@ const NAME_CHANGES: &str =
 // Two changes, and then a read that fails: the file is as the opening left it.
 const UNREAD_END: Row = Row {
     words: &["maintain", "AtoB"],
-    files: &[
-        (
-            "defs",
-            "AtoB.ssql",
-            "create view AtoB::salInfo(category, D) as select A.category, A.salFloor from univ-A::salInfo A, A.dept D",
-        ),
-        SOURCE,
-    ],
+    files: &[A_TO_B, A],
     want: Want {
         status: 6,
         printed: "synced\t1\ncolumn+\tsalInfo\tphysics\ncell\tsalInfo\tphysics\t70000\tProf\ndone\t2\ncolumn-\tsalInfo\tmath\ndone\t1\n",

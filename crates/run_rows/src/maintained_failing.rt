@@ -1,6 +1,7 @@
 //! Runs of `maintain` of which one call fails: the first, the second, and so on, until none does.
 ghost use Rattle.std.specs.Prelude.{◌<◌, All};
 
+use crate::offices::A_TO_C;
 use crate::place::{File, failing_folders, holds, run_over, texts};
 use crate::row::{Want, unwanted};
 use outside::{MemFolders, MemSink, MemSource, StoreFault};
@@ -8,14 +9,13 @@ use std::alloc::Global;
 
 const SOURCE: &str = "category,dept,salFloor\nProf,cs,72000\nProf,math,65000\nAssoc,cs,60000\n";
 
-const FILES: [File; 2] = [
-    (
-        "defs",
-        "AtoC.ssql",
-        "create view AtoC::D(category, salFloor) as select A.category, A.salFloor from univ-A::salInfo A, A.dept D",
-    ),
-    ("sources/univ-A", "salInfo.csv", SOURCE),
-];
+// The sources behind the first change, and the half of them that a write which fails leaves.
+const MORE_SOURCE: &str =
+    "category,dept,salFloor\nProf,cs,72000\nProf,math,65000\nAssoc,cs,60000\nLect,math,1\n";
+
+const HALF_SOURCE: &str = "category,dept,salFloor\nProf,cs,72000\nPro";
+
+const FILES: [File; 2] = [A_TO_C, ("sources/univ-A", "salInfo.csv", SOURCE)];
 // A change, a sync, and a table that comes and goes before the next one.
 const LINES: [&str; 4] = [
     "insert\tuniv-A\tsalInfo\tLect\tmath\t1\n",
@@ -45,6 +45,9 @@ const DELETED: &str =
 const ENDED: &str =
     "synced\t2\nrow+\tmath\tLect\t1\ndone\t1\nsynced\t1\ntable+\tbio\nrow+\tbio\tLect\t2\ndone\t2\ntable-\tbio\ndone\t1\nsynced\t0\n";
 
+// A call that fails, what the sources then hold, and what else is left.
+type Failing = (u8, &'static str, Want);
+
 // Where no call fails, and where a call that reads the folders does.
 const DONE: Want = Want {
     status: 0,
@@ -60,19 +63,21 @@ const UNREAD: Want = Want {
     held: &[],
 };
 
-const READS: [(u8, Want); 6] = [
-    (1, UNREAD),
-    (2, UNREAD),
-    (3, UNREAD),
-    (4, UNREAD),
-    (5, UNREAD),
-    (6, DONE),
+const READS: [Failing; 6] = [
+    (1, SOURCE, UNREAD),
+    (2, SOURCE, UNREAD),
+    (3, SOURCE, UNREAD),
+    (4, SOURCE, UNREAD),
+    (5, SOURCE, UNREAD),
+    (6, MORE_SOURCE, DONE),
 ];
 
-// Where a call that writes fails: two files of the opening, one at the sync line, and the removal at the end.
-const WRITES: [(u8, Want); 5] = [
+// Where a call that writes fails: two files of the opening, the sources and a file at the sync line, and the sources
+// and a removal at the end.
+const WRITES: [Failing; 7] = [
     (
         1,
+        SOURCE,
         Want {
             status: 7,
             printed: "",
@@ -82,6 +87,7 @@ const WRITES: [(u8, Want); 5] = [
     ),
     (
         2,
+        SOURCE,
         Want {
             status: 7,
             printed: "",
@@ -91,6 +97,17 @@ const WRITES: [(u8, Want); 5] = [
     ),
     (
         3,
+        HALF_SOURCE,
+        Want {
+            status: 7,
+            printed: CHANGED,
+            folder: "views/AtoC",
+            held: &[("cs.csv", CS), ("math.csv", MATH)],
+        },
+    ),
+    (
+        4,
+        MORE_SOURCE,
         Want {
             status: 7,
             printed: CHANGED,
@@ -99,7 +116,8 @@ const WRITES: [(u8, Want); 5] = [
         },
     ),
     (
-        4,
+        5,
+        HALF_SOURCE,
         Want {
             status: 7,
             printed: DELETED,
@@ -107,13 +125,24 @@ const WRITES: [(u8, Want); 5] = [
             held: &[("cs.csv", CS), ("math.csv", MORE_MATH)],
         },
     ),
-    (5, DONE),
+    (
+        6,
+        MORE_SOURCE,
+        Want {
+            status: 7,
+            printed: DELETED,
+            folder: "views/AtoC",
+            held: &[("cs.csv", CS), ("math.csv", MORE_MATH)],
+        },
+    ),
+    (7, MORE_SOURCE, DONE),
 ];
 
 // Where a read of the input fails: each line comes by a read of its own, and then the end.
-const INPUTS: [(u8, Want); 6] = [
+const INPUTS: [Failing; 6] = [
     (
         1,
+        SOURCE,
         Want {
             status: 6,
             printed: OPENED,
@@ -123,6 +152,7 @@ const INPUTS: [(u8, Want); 6] = [
     ),
     (
         2,
+        SOURCE,
         Want {
             status: 6,
             printed: CHANGED,
@@ -132,6 +162,7 @@ const INPUTS: [(u8, Want); 6] = [
     ),
     (
         3,
+        MORE_SOURCE,
         Want {
             status: 6,
             printed: SYNCED,
@@ -140,6 +171,7 @@ const INPUTS: [(u8, Want); 6] = [
     ),
     (
         4,
+        MORE_SOURCE,
         Want {
             status: 6,
             printed: INSERTED,
@@ -148,13 +180,14 @@ const INPUTS: [(u8, Want); 6] = [
     ),
     (
         5,
+        MORE_SOURCE,
         Want {
             status: 6,
             printed: DELETED,
             ..DONE
         },
     ),
-    (6, DONE),
+    (6, MORE_SOURCE, DONE),
 ];
 
 // What a run over these folders and this input left that is not wanted.
@@ -162,6 +195,7 @@ fn difference(
     alloc: Global,
     store: &mut MemFolders,
     fails: Vec<u64>,
+    source: &str,
     want: &Want,
 ) -> Result<&'static str, StoreFault>
     requires { All (λ k. k < 18446744073709551615) fails.items }
@@ -170,35 +204,44 @@ fn difference(
     let mut input = MemSource::of(texts(alloc, &LINES)?, fails);
     let mut output = MemSink::of(alloc, 7, Vec::new(alloc));
     let status = run_over(alloc, &words, store, &mut input, &mut output);
-    if !holds(alloc, store, "sources/univ-A", &[("salInfo.csv", SOURCE)])? {
+    if !holds(alloc, store, "sources/univ-A", &[("salInfo.csv", source)])? {
         return Ok("the sources");
     }
     unwanted(alloc, store, status, output.bytes(), want)
 }
 
-fn failing_read(alloc: Global, call: u8, want: &Want) -> Result<&'static str, StoreFault> {
+fn failing_read(alloc: Global, failing: &Failing) -> Result<&'static str, StoreFault> {
+    let (call, source, want) = failing;
     let mut store = failing_folders(
         alloc,
         &FILES,
-        vec![in alloc; u64::from(call)]?,
+        vec![in alloc; u64::from(*call)]?,
         Vec::new(alloc),
     )?;
-    difference(alloc, &mut store, Vec::new(alloc), want)
+    difference(alloc, &mut store, Vec::new(alloc), source, want)
 }
 
-fn failing_write(alloc: Global, call: u8, want: &Want) -> Result<&'static str, StoreFault> {
+fn failing_write(alloc: Global, failing: &Failing) -> Result<&'static str, StoreFault> {
+    let (call, source, want) = failing;
     let mut store = failing_folders(
         alloc,
         &FILES,
         Vec::new(alloc),
-        vec![in alloc; u64::from(call)]?,
+        vec![in alloc; u64::from(*call)]?,
     )?;
-    difference(alloc, &mut store, Vec::new(alloc), want)
+    difference(alloc, &mut store, Vec::new(alloc), source, want)
 }
 
-fn failing_input(alloc: Global, call: u8, want: &Want) -> Result<&'static str, StoreFault> {
+fn failing_input(alloc: Global, failing: &Failing) -> Result<&'static str, StoreFault> {
+    let (call, source, want) = failing;
     let mut store = failing_folders(alloc, &FILES, Vec::new(alloc), Vec::new(alloc))?;
-    difference(alloc, &mut store, vec![in alloc; u64::from(call)]?, want)
+    difference(
+        alloc,
+        &mut store,
+        vec![in alloc; u64::from(*call)]?,
+        source,
+        want,
+    )
 }
 
 // How a run ends of which a call that prints fails: its status, or 100 where its output is no front of the whole.
@@ -217,11 +260,12 @@ fn failing_print(alloc: Global, call: u8) -> Result<u8, StoreFault> {
 
 #[test]
 fn each_read_fails(rt: HostRuntime) -> Result<(), StoreFault> {
-    for (call, want) in &READS {
+    for failing in &READS {
         assert_eq!(rt;
-            failing_read(rt.alloc(), *call, want)?,
+            failing_read(rt.alloc(), failing)?,
             "nothing",
-            "at {call}"
+            "at {}",
+            failing.0
         );
     }
     Ok(())
@@ -229,11 +273,12 @@ fn each_read_fails(rt: HostRuntime) -> Result<(), StoreFault> {
 
 #[test]
 fn each_write_fails(rt: HostRuntime) -> Result<(), StoreFault> {
-    for (call, want) in &WRITES {
+    for failing in &WRITES {
         assert_eq!(rt;
-            failing_write(rt.alloc(), *call, want)?,
+            failing_write(rt.alloc(), failing)?,
             "nothing",
-            "at {call}"
+            "at {}",
+            failing.0
         );
     }
     Ok(())
@@ -241,11 +286,12 @@ fn each_write_fails(rt: HostRuntime) -> Result<(), StoreFault> {
 
 #[test]
 fn each_read_of_the_input_fails(rt: HostRuntime) -> Result<(), StoreFault> {
-    for (call, want) in &INPUTS {
+    for failing in &INPUTS {
         assert_eq!(rt;
-            failing_input(rt.alloc(), *call, want)?,
+            failing_input(rt.alloc(), failing)?,
             "nothing",
-            "at {call}"
+            "at {}",
+            failing.0
         );
     }
     Ok(())

@@ -5,6 +5,7 @@ use ss_top::Status;
 use std::alloc::Global;
 
 /// What a run is given.
+#[derive(Clone, Copy)]
 pub struct Row {
     pub words: &'static [&'static str],
     pub files: &'static [File],

@@ -1,4 +1,5 @@
 //! The worked rows.
+use crate::offices::{A, A_TO_B, A_TO_C, B_TO_A, C_TO_A};
 use crate::place::File;
 use crate::row::{Row, Want, difference};
 use outside::StoreFault;
@@ -7,24 +8,6 @@ const PAY: File = (
     "defs",
     "P.ssql",
     "create view P::names(category, pay) as select A.category, A.salFloor from univ-A::salInfo A",
-);
-
-const A_TO_B: File = (
-    "defs",
-    "AtoB.ssql",
-    "create view AtoB::salInfo(category, D) as select A.category, A.salFloor from univ-A::salInfo A, A.dept D",
-);
-
-const A_TO_C: File = (
-    "defs",
-    "AtoC.ssql",
-    "create view AtoC::D(category, salFloor) as select A.category, A.salFloor from univ-A::salInfo A, A.dept D",
-);
-
-const A: File = (
-    "sources/univ-A",
-    "salInfo.csv",
-    "category,dept,salFloor\nProf,cs,72000\nProf,math,65000\nAssoc,cs,60000\n",
 );
 
 const PAYS: &str = "category,pay\nAssoc,60000\nProf,65000\nProf,72000\n";
@@ -59,14 +42,7 @@ const SHOWN: [Row; 10] = [
     },
     Row {
         words: &["show", "BtoA"],
-        files: &[
-            (
-                "defs",
-                "BtoA.ssql",
-                "create view BtoA::salInfo(category, dept, salFloor) as select T.category, D, T.D from univ-B::salInfo -> D, univ-B::salInfo T where D <> 'category'",
-            ),
-            ("sources/univ-B", "salInfo.csv", COLUMNS),
-        ],
+        files: &[B_TO_A, ("sources/univ-B", "salInfo.csv", COLUMNS)],
         want: Want {
             status: 0,
             printed: "synced\t1\n",
@@ -90,11 +66,7 @@ const SHOWN: [Row; 10] = [
     Row {
         words: &["show", "CtoA"],
         files: &[
-            (
-                "defs",
-                "CtoA.ssql",
-                "create view CtoA::salInfo(category, dept, salFloor) as select T.category, R, T.salFloor from univ-C -> R, univ-C::R T",
-            ),
+            C_TO_A,
             ("sources/univ-C", "cs.csv", CS),
             ("sources/univ-C", "math.csv", MATH),
         ],

@@ -1,5 +1,6 @@
 //! Changes of attributes, relations and databases that `maintain` answers.
 use crate::answered::first_difference;
+use crate::offices::{A, A_TO_B, ALL, B, B_TO_A, C_CS, C_MATH, C_TO_A, SELF_JOIN};
 use crate::row::{Row, Want};
 use outside::StoreFault;
 
@@ -8,23 +9,7 @@ const SCHEMAS: [(Row, &str); 11] = [
     (
         Row {
             words: &["maintain", "CtoA"],
-            files: &[
-                (
-                    "defs",
-                    "CtoA.ssql",
-                    "create view CtoA::salInfo(category, dept, salFloor) as select T.category, R, T.salFloor from univ-C -> R, univ-C::R T",
-                ),
-                (
-                    "sources/univ-C",
-                    "cs.csv",
-                    "category,salFloor\nAssoc,60000\nProf,72000\n",
-                ),
-                (
-                    "sources/univ-C",
-                    "math.csv",
-                    "category,salFloor\nProf,65000\n",
-                ),
-            ],
+            files: &[C_TO_A, C_CS, C_MATH],
             want: Want {
                 status: 0,
                 printed: "synced\t1\nrow-\tsalInfo\tProf\tmath\t65000\nrow+\tsalInfo\tProf\tmaths\t65000\ndone\t2\nsynced\t1\n",
@@ -40,18 +25,7 @@ const SCHEMAS: [(Row, &str); 11] = [
     (
         Row {
             words: &["maintain", "AtoB"],
-            files: &[
-                (
-                    "defs",
-                    "AtoB.ssql",
-                    "create view AtoB::salInfo(category, D) as select A.category, A.salFloor from univ-A::salInfo A, A.dept D",
-                ),
-                (
-                    "sources/univ-A",
-                    "salInfo.csv",
-                    "category,dept,salFloor\nProf,cs,72000\nProf,math,65000\nAssoc,cs,60000\n",
-                ),
-            ],
+            files: &[A_TO_B, A],
             want: Want {
                 status: 0,
                 printed: "synced\t1\nrow-\tsalInfo\tAssoc\nrow-\tsalInfo\tProf\ncolumn-\tsalInfo\tcs\ncolumn-\tsalInfo\tmath\ndone\t4\ncolumn+\tsalInfo\tcs\ncolumn+\tsalInfo\tmath\nrow+\tsalInfo\tAssoc\nrow+\tsalInfo\tProf\ncell\tsalInfo\tcs\t60000\tAssoc\ncell\tsalInfo\tcs\t72000\tProf\ncell\tsalInfo\tmath\t65000\tProf\ndone\t7\nsynced\t1\n",
@@ -67,14 +41,7 @@ const SCHEMAS: [(Row, &str); 11] = [
     (
         Row {
             words: &["maintain", "J"],
-            files: &[
-                (
-                    "defs",
-                    "J.ssql",
-                    "create view J::p(x, y) as select T.a, U.b from d::r T, d::r U where T.b = U.a",
-                ),
-                ("sources/d", "r.csv", "a,b\n1,2\n2,3\n"),
-            ],
+            files: &[SELF_JOIN, ("sources/d", "r.csv", "a,b\n1,2\n2,3\n")],
             want: Want {
                 status: 1,
                 printed: "synced\t1\nrow-\tp\t1\t3\ndone\t1\nrefused\tlast-attribute\td\tr\tb\nsynced\t1\n",
@@ -87,18 +54,7 @@ const SCHEMAS: [(Row, &str); 11] = [
     (
         Row {
             words: &["maintain", "BtoA"],
-            files: &[
-                (
-                    "defs",
-                    "BtoA.ssql",
-                    "create view BtoA::salInfo(category, dept, salFloor) as select T.category, D, T.D from univ-B::salInfo -> D, univ-B::salInfo T where D <> 'category'",
-                ),
-                (
-                    "sources/univ-B",
-                    "salInfo.csv",
-                    "category,cs,math\nAssoc,60000,\nProf,72000,65000\n",
-                ),
-            ],
+            files: &[B_TO_A, B],
             want: Want {
                 status: 0,
                 printed: "synced\t1\nrow-\tsalInfo\tAssoc\tcs\t60000\nrow-\tsalInfo\tProf\tcs\t72000\ndone\t2\nrow+\tsalInfo\tLect\tmath\t7\ndone\t1\nsynced\t1\n",
@@ -114,18 +70,7 @@ const SCHEMAS: [(Row, &str); 11] = [
     (
         Row {
             words: &["maintain", "AtoB"],
-            files: &[
-                (
-                    "defs",
-                    "AtoB.ssql",
-                    "create view AtoB::salInfo(category, D) as select A.category, A.salFloor from univ-A::salInfo A, A.dept D",
-                ),
-                (
-                    "sources/univ-A",
-                    "salInfo.csv",
-                    "category,dept,salFloor\nProf,cs,72000\nProf,math,65000\nAssoc,cs,60000\n",
-                ),
-            ],
+            files: &[A_TO_B, A],
             want: Want {
                 status: 1,
                 printed: "synced\t1\nrefused\tdatabase-there\tuniv-A\nrefused\tillegal-name\t.x\nrefused\tno-database\tno\nrefused\tdatabase-there\tuniv-A\nrefused\tno-database\tno\nrefused\tillegal-name\ta/b\nrefused\tfield-count\tcreate-database\t1\nrefused\tfield-count\tdrop-database\t3\nrefused\tfield-count\trename-database\t2\nsynced\t0\n",
@@ -141,18 +86,7 @@ const SCHEMAS: [(Row, &str); 11] = [
     (
         Row {
             words: &["maintain", "AtoB"],
-            files: &[
-                (
-                    "defs",
-                    "AtoB.ssql",
-                    "create view AtoB::salInfo(category, D) as select A.category, A.salFloor from univ-A::salInfo A, A.dept D",
-                ),
-                (
-                    "sources/univ-A",
-                    "salInfo.csv",
-                    "category,dept,salFloor\nProf,cs,72000\nProf,math,65000\nAssoc,cs,60000\n",
-                ),
-            ],
+            files: &[A_TO_B, A],
             want: Want {
                 status: 0,
                 printed: "synced\t1\nrow-\tsalInfo\tAssoc\nrow-\tsalInfo\tProf\ncolumn-\tsalInfo\tcs\ncolumn-\tsalInfo\tmath\ndone\t4\ndone\t0\ndone\t0\ncolumn+\tsalInfo\tcs\nrow+\tsalInfo\tProf\ncell\tsalInfo\tcs\t1\tProf\ndone\t3\nsynced\t1\n",
@@ -165,23 +99,7 @@ const SCHEMAS: [(Row, &str); 11] = [
     (
         Row {
             words: &["maintain", "All"],
-            files: &[
-                (
-                    "defs",
-                    "All.ssql",
-                    "create view All::t(db, category) as select X, T.category from -> X, X::salInfo T",
-                ),
-                (
-                    "sources/univ-A",
-                    "salInfo.csv",
-                    "category,dept,salFloor\nProf,cs,72000\nProf,math,65000\nAssoc,cs,60000\n",
-                ),
-                (
-                    "sources/univ-B",
-                    "salInfo.csv",
-                    "category,cs,math\nAssoc,60000,\nProf,72000,65000\n",
-                ),
-            ],
+            files: &[ALL, A, B],
             want: Want {
                 status: 0,
                 printed: "synced\t1\nrow-\tt\tuniv-A\tAssoc\nrow-\tt\tuniv-A\tProf\nrow+\tt\tu\tAssoc\nrow+\tt\tu\tProf\ndone\t4\nsynced\t1\n",
@@ -197,18 +115,7 @@ const SCHEMAS: [(Row, &str); 11] = [
     (
         Row {
             words: &["maintain", "BtoA"],
-            files: &[
-                (
-                    "defs",
-                    "BtoA.ssql",
-                    "create view BtoA::salInfo(category, dept, salFloor) as select T.category, D, T.D from univ-B::salInfo -> D, univ-B::salInfo T where D <> 'category'",
-                ),
-                (
-                    "sources/univ-B",
-                    "salInfo.csv",
-                    "category,cs,math\nAssoc,60000,\nProf,72000,65000\n",
-                ),
-            ],
+            files: &[B_TO_A, B],
             want: Want {
                 status: 0,
                 printed: "synced\t1\nrow+\tsalInfo\tAssoc\tphys\t50\nrow+\tsalInfo\tProf\tphys\t50\ndone\t2\nsynced\t1\n",
@@ -230,16 +137,8 @@ const SCHEMAS: [(Row, &str); 11] = [
                     "CtoC.ssql",
                     "create view CtoC::R(category, salFloor) as select T.category, T.salFloor from univ-C -> R, univ-C::R T",
                 ),
-                (
-                    "sources/univ-C",
-                    "cs.csv",
-                    "category,salFloor\nAssoc,60000\nProf,72000\n",
-                ),
-                (
-                    "sources/univ-C",
-                    "math.csv",
-                    "category,salFloor\nProf,65000\n",
-                ),
+                C_CS,
+                C_MATH,
             ],
             want: Want {
                 status: 0,
@@ -253,14 +152,7 @@ const SCHEMAS: [(Row, &str); 11] = [
     (
         Row {
             words: &["maintain", "J"],
-            files: &[
-                (
-                    "defs",
-                    "J.ssql",
-                    "create view J::p(x, y) as select T.a, U.b from d::r T, d::r U where T.b = U.a",
-                ),
-                ("sources/d", "r.csv", "a,b\n1,2\n2,3\n"),
-            ],
+            files: &[SELF_JOIN, ("sources/d", "r.csv", "a,b\n1,2\n2,3\n")],
             want: Want {
                 status: 0,
                 printed: "synced\t1\nrow-\tp\t1\t3\ndone\t1\nrow+\tp\t1\t3\ndone\t1\nsynced\t1\n",
@@ -273,18 +165,7 @@ const SCHEMAS: [(Row, &str); 11] = [
     (
         Row {
             words: &["maintain", "AtoB"],
-            files: &[
-                (
-                    "defs",
-                    "AtoB.ssql",
-                    "create view AtoB::salInfo(category, D) as select A.category, A.salFloor from univ-A::salInfo A, A.dept D",
-                ),
-                (
-                    "sources/univ-A",
-                    "salInfo.csv",
-                    "category,dept,salFloor\nProf,cs,72000\nProf,math,65000\nAssoc,cs,60000\n",
-                ),
-            ],
+            files: &[A_TO_B, A],
             want: Want {
                 status: 1,
                 printed: "synced\t1\nrefused\tfield-count\tdrop-attribute\t3\nrefused\tno-database\tuniv-X\nrefused\tillegal-name\t.x\nrefused\tno-relation\tuniv-A\tpay\nrefused\trelation-there\tuniv-A\tsalInfo\nrefused\tno-attribute\tuniv-A\tsalInfo\tzip\nrefused\tattribute-there\tuniv-A\tsalInfo\tdept\nrefused\tattribute-there\tuniv-A\tx\ta\nrefused\tarity-differs\tuniv-A\tsalInfo\t3\t2\nrefused\tno-row\tuniv-A\tsalInfo\nsynced\t0\n",

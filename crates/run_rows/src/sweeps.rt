@@ -1,0 +1,229 @@
+//! Sweeps: of a run the first call of one kind fails, then the second, and so on, until the run ends as it does where
+//! none fails. What it prints before is a front of what it prints then, and a second run over the same folders makes
+//! good what it left.
+ghost use Rattle.std.specs.Prelude.{◌<◌, All};
+
+use crate::offices::{A, A_TO_B, A_TO_C, B, B_TO_A};
+use crate::place::{File, failing_folders, run_over, texts};
+use outside::{MemFolders, MemSink, MemSource, StoreFault, SureSink, SureSource};
+use ss_top::Status;
+use std::alloc::Global;
+
+// A run, how it ends and what it prints where no call fails, and what the second run does, whether it then is verified.
+struct Swept {
+    words: &'static [&'static str],
+    files: &'static [File],
+    pieces: &'static [&'static str],
+    status: u8,
+    printed: &'static str,
+    verify: &'static [&'static str],
+}
+
+const COLUMNS: File = (
+    "views/AtoB",
+    "salInfo.csv",
+    "category,cs,math\nAssoc,60000,\nProf,72000,65000\n",
+);
+
+const RUNS: [Swept; 7] = [
+    Swept {
+        words: &["show", "AtoC"],
+        files: &[A_TO_C, A, ("views/AtoC", "old.csv", "x\n")],
+        pieces: &[],
+        status: 0,
+        printed: "synced\t3\n",
+        verify: &["verify", "AtoC"],
+    },
+    // A row, a sync, and a table that comes and goes before the next one.
+    Swept {
+        words: &["maintain", "AtoC"],
+        files: &[A_TO_C, A],
+        pieces: &[
+            "insert\tuniv-A\tsalInfo\tLect\tmath\t1\nsync\n",
+            "insert\tuniv-A\tsalInfo\tLect\tbio\t2\ndelete\tuniv-A\tsalInfo\tLect\tbio\t2\n",
+        ],
+        status: 0,
+        printed: "synced\t2\nrow+\tmath\tLect\t1\ndone\t1\nsynced\t1\ntable+\tbio\nrow+\tbio\tLect\t2\ndone\t2\ntable-\tbio\ndone\t1\nsynced\t0\n",
+        verify: &["verify", "AtoC"],
+    },
+    // Rows, a sync, attributes and relations, a group, and databases.
+    Swept {
+        words: &["maintain", "AtoB"],
+        files: &[A_TO_B, A, B],
+        pieces: &[
+            "insert\tuniv-A\tsalInfo\tProf\tphysics\t70000\nsync\n",
+            "begin\ndelete\tuniv-A\tsalInfo\tProf\tcs\t72000\n",
+            "insert\tuniv-A\tsalInfo\tProf\tcs\t99\ncommit\n",
+            "create-database\tz\ncreate-relation\tz\tr\ta\nadd-attribute\tuniv-A\tsalInfo\tx\ty\n",
+            "sync\nrename-relation\tuniv-B\tsalInfo\tpay\ndrop-database\tz\n",
+        ],
+        status: 0,
+        printed: "synced\t1\ncolumn+\tsalInfo\tphysics\ncell\tsalInfo\tphysics\t70000\tProf\ndone\t2\nsynced\t1\nbegun\nheld\nheld\ncell\tsalInfo\tcs\t99\tProf\ndone\t1\ndone\t0\ndone\t0\ndone\t0\nsynced\t1\ndone\t0\ndone\t0\nsynced\t0\n",
+        verify: &["verify", "AtoB"],
+    },
+    // A view whose tables follow the attributes, and a refused line.
+    Swept {
+        words: &["maintain", "BtoA"],
+        files: &[B_TO_A, B],
+        pieces: &[
+            "rename-attribute\tuniv-B\tsalInfo\tcs\tinformatics\n",
+            "insert\tuniv-B\tsalInfo\tDean\n",
+        ],
+        status: 1,
+        printed: "synced\t1\nrow-\tsalInfo\tAssoc\tcs\t60000\nrow-\tsalInfo\tProf\tcs\t72000\nrow+\tsalInfo\tAssoc\tinformatics\t60000\nrow+\tsalInfo\tProf\tinformatics\t72000\ndone\t4\nrefused\tarity-differs\tuniv-B\tsalInfo\t3\t1\nsynced\t1\n",
+        verify: &["verify", "BtoA"],
+    },
+    Swept {
+        words: &["apply", "AtoB"],
+        files: &[A_TO_B, COLUMNS],
+        pieces: &[
+            "column+\tsalInfo\tphysics\n",
+            "cell\tsalInfo\tphysics\t70000\tProf\ntable+\tpay\n",
+        ],
+        status: 0,
+        printed: "applied\t3\nsynced\t2\n",
+        verify: &["apply", "AtoB"],
+    },
+    Swept {
+        words: &["verify", "AtoB"],
+        files: &[A_TO_B, A, COLUMNS],
+        pieces: &[],
+        status: 0,
+        printed: "same\t1\n",
+        verify: &["verify", "AtoB"],
+    },
+    Swept {
+        words: &["check", "AtoB"],
+        files: &[A_TO_B],
+        pieces: &[],
+        status: 0,
+        printed: "CREATE VIEW AtoB::salInfo(category, D) AS SELECT A.category, A.salFloor FROM univ-A::salInfo A, A.dept D\n",
+        verify: &["check", "AtoB"],
+    },
+];
+
+// Which calls fail: those that read the folders or change them, those that read the input, and those that print.
+#[derive(Clone, Copy)]
+enum Calls {
+    Reads,
+    Writes,
+    Input,
+    Prints,
+}
+
+const KINDS: [Calls; 4] = [Calls::Reads, Calls::Writes, Calls::Input, Calls::Prints];
+
+// How a run ended: as it does where no call fails, stopped by one and made good, or otherwise.
+enum End {
+    Done,
+    Stopped,
+    Unwanted(&'static str),
+}
+
+// A run over these folders that does not read an input: its status, and whether it prints a refusal.
+fn ends(
+    alloc: Global,
+    store: &mut MemFolders,
+    words: &[&str],
+) -> Result<(Status, bool), StoreFault> {
+    let words = texts(alloc, words)?;
+    let mut input = SureSource::of(Vec::new(alloc));
+    let mut output = SureSink::of(alloc, 1000);
+    let status = run_over(alloc, &words, store, &mut input, &mut output);
+    Ok((status, output.bytes().starts_with(b"refused")))
+}
+
+// Runs again over what a stopped run left, and verifies it. A half file that is a source or a table may be refused.
+fn made_good(alloc: Global, run: &Swept, store: &mut MemFolders) -> Result<End, StoreFault> {
+    match ends(alloc, store, run.words)? {
+        (Status::BadCatalogue, true) => return Ok(End::Stopped),
+        (Status::Done, _) => {}
+        _ => return Ok(End::Unwanted("the second run")),
+    }
+    match ends(alloc, store, run.verify)? {
+        (Status::Done, _) => Ok(End::Stopped),
+        _ => Ok(End::Unwanted("what the second run left")),
+    }
+}
+
+// Runs with calls that fail, at most one of each kind.
+fn end_of(
+    alloc: Global,
+    run: &Swept,
+    store: &mut MemFolders,
+    input: &mut MemSource,
+    output: &mut MemSink,
+) -> Result<End, StoreFault> {
+    let words = texts(alloc, run.words)?;
+    let status = run_over(alloc, &words, store, input, output);
+    let printed = run.printed.as_bytes();
+    if status.number() == run.status && output.bytes() == printed {
+        return Ok(End::Done);
+    }
+    if status != Status::ReadFault && status != Status::WriteFault {
+        return Ok(End::Unwanted("the status"));
+    }
+    if !printed.starts_with(output.bytes()) {
+        return Ok(End::Unwanted("the output"));
+    }
+    made_good(alloc, run, store)
+}
+
+// Runs with the call of this number failing.
+fn failing(alloc: Global, run: &Swept, calls: Calls, call: u8) -> Result<End, StoreFault> {
+    let fails = vec![in alloc; u64::from(call)]?;
+    let none = Vec::new(alloc);
+    let pieces = texts(alloc, run.pieces)?;
+    match calls {
+        Calls::Reads => {
+            let mut store = failing_folders(alloc, run.files, fails, none)?;
+            let mut input = MemSource::of(pieces, Vec::new(alloc));
+            let mut output = MemSink::of(alloc, 9, Vec::new(alloc));
+            end_of(alloc, run, &mut store, &mut input, &mut output)
+        }
+        Calls::Writes => {
+            let mut store = failing_folders(alloc, run.files, none, fails)?;
+            let mut input = MemSource::of(pieces, Vec::new(alloc));
+            let mut output = MemSink::of(alloc, 9, Vec::new(alloc));
+            end_of(alloc, run, &mut store, &mut input, &mut output)
+        }
+        Calls::Input => {
+            let mut store = failing_folders(alloc, run.files, none, Vec::new(alloc))?;
+            let mut input = MemSource::of(pieces, fails);
+            let mut output = MemSink::of(alloc, 9, Vec::new(alloc));
+            end_of(alloc, run, &mut store, &mut input, &mut output)
+        }
+        Calls::Prints => {
+            let mut store = failing_folders(alloc, run.files, none, Vec::new(alloc))?;
+            let mut input = MemSource::of(pieces, Vec::new(alloc));
+            let mut output = MemSink::of(alloc, 9, fails);
+            end_of(alloc, run, &mut store, &mut input, &mut output)
+        }
+    }
+}
+
+// The first call at which what is left is not what is wanted.
+fn first_unwanted(
+    alloc: Global,
+    run: &Swept,
+    calls: Calls,
+) -> Result<Option<(u8, &'static str)>, StoreFault> {
+    for call in 1..u8::MAX {
+        match failing(alloc, run, calls, call)? {
+            End::Done => return Ok(None),
+            End::Stopped => {}
+            End::Unwanted(what) => return Ok(Some((call, what))),
+        }
+    }
+    Ok(Some((u8::MAX, "no end")))
+}
+
+#[test]
+fn each_call_fails(rt: HostRuntime) -> Result<(), StoreFault> {
+    for (place, run) in RUNS.iter().enumerate() {
+        for calls in KINDS {
+            assert_eq!(rt; first_unwanted(rt.alloc(), run, calls)?, None, "at {place}");
+        }
+    }
+    Ok(())
+}
