@@ -10,9 +10,10 @@ $(PROGRAM): $(SOURCES)
 	(cd crates/schemasql_cli && rt run) > build.log 2>&1; test -x $@ || (cat build.log; exit 1)
 	rm -f build.log
 
-# Shows the three offices' data in one another's form.
+# Shows the three offices' data in one another's form, and the sales of some months in one table.
 demo: $(PROGRAM)
 	examples/offices/run $(PROGRAM)
+	examples/months/run $(PROGRAM)
 
 # The one test command: the gate.
 test:
@@ -22,8 +23,10 @@ test:
 check:
 	rt all check
 
-# The program on each end-to-end case.
+# The program on the command lines of README.md and the man page, killed in the middle of syncs, and on each end-to-end case.
 cases: $(PROGRAM)
+	cases/tour
+	cases/killed
 	cases/run
 
 # How long the program takes.
@@ -32,6 +35,7 @@ bench: $(PROGRAM)
 
 install: $(PROGRAM)
 	install -D $(PROGRAM) $(DESTDIR)$(PREFIX)/bin/schemasql
+	install -D -m 644 man/schemasql.1 $(DESTDIR)$(PREFIX)/share/man/man1/schemasql.1
 
 clean:
 	rm -rf crates/*/out build.log
