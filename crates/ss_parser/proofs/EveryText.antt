@@ -8,7 +8,7 @@ use Rattle.view_def.specs.declared.written.RawTerm.TheVariants as term
 use Rattle.view_def.specs.declared.written.RawRange.{RawRange}
 use Rattle.view_def.specs.declared.written.RawRange.TheVariants as range
 use Rattle.view_def.specs.RawConditions.{Raw, NotRaw, CompareRaw}
-use Rattle.view_def.specs.Tree.{Tree}
+use Rattle.view_def.specs.Tree.{ViewTree}
 use Rattle.ss_lexer.specs.declared.token.Kind.{Kind}
 use Rattle.ss_lexer.specs.declared.token.Kind.TheVariants as kind
 use Rattle.ss_lexer.specs.declared.token.TokenFault.TheVariants as token_fault

@@ -8,7 +8,7 @@ use Rattle.view_def.specs.declared.written.RawTerm.TheVariants as term
 use Rattle.view_def.specs.declared.written.RawRange.{RawRange}
 use Rattle.view_def.specs.declared.written.RawRange.TheVariants as range
 use Rattle.view_def.specs.RawConditions.{Raw, AnyRaw, AllRaw, NotRaw, CompareRaw, raws}
-use Rattle.view_def.specs.Tree.{Tree}
+use Rattle.view_def.specs.Tree.{ViewTree}
 use Rattle.view_def.specs.Print.{is_any, is_joined}
 use Rattle.ss_lexer.specs.Lexemes.{Lexeme, Ident, Key, Quoted, Literal, Mark, Finish, Bad_byte, Open_quote, Piece, pieces}
 use Rattle.ss_lexer.proofs.RealLexemes.{IsReal, AllReal, all_real}
@@ -270,6 +270,6 @@ view_keeps =
     gives_keeps (tree_with h select decls c) GoodTree (record { view_db = k.view_db; label = k.label; columns = k.columns; select = l; decls = m; condition = f })))))
 
 -- what is read from a text is good
-pub good_tree : (bytes : List ℕ) (t : Tree) → IsRead bytes t → GoodTree t
+pub good_tree : (bytes : List ℕ) (t : ViewTree) → IsRead bytes t → GoodTree t
 unfolding AreView
 good_tree bytes t r = (view_keeps (pieces bytes) t [] r (all_real bytes)).0

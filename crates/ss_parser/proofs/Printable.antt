@@ -10,7 +10,7 @@ use Rattle.view_def.specs.declared.written.RawRange.{RawRange}
 use Rattle.view_def.specs.declared.written.RawRange.TheVariants as range
 use Rattle.view_def.specs.declared.written.RawDecl.{RawDecl}
 use Rattle.view_def.specs.RawConditions.{Raw, AnyRaw, AllRaw, NotRaw, CompareRaw, Raws, none, more}
-use Rattle.view_def.specs.Tree.{Tree}
+use Rattle.view_def.specs.Tree.{ViewTree}
 use Rattle.view_def.specs.Print.{is_any, is_joined}
 use Rattle.ss_lexer.specs.Lexemes.{keywords}
 use Rattle.ss_lexer.proofs.Chunks.{IsWord}
@@ -69,7 +69,7 @@ abbrev mutual
   Members needed none n = Unit {0}
   Members needed (more c cs) n = Inside (needed c) (Bare c) n × Members needed cs n
 
-pub record GoodTree (t : Tree) : Type 0 where
+pub record GoodTree (t : ViewTree) : Type 0 where
   pub view_db : GoodName t.view_db
   pub label : GoodName t.label
   pub columns : SomeEach GoodName t.columns

@@ -3,7 +3,7 @@ use Rattle.std.proofs.Common.{◌≡◌, ◌≢◌, ℕ, zero, suc, ◌+◌, ◌
 use Rattle.std.specs.Prelude.{slice_get, option_map}
 use Rattle.std.proofs.lemmas.Bool.{cases_lt}
 use Rattle.std.proofs.Math.Seq.{take-append_seam, take-append-add}
-use Rattle.view_def.specs.Tree.{Tree}
+use Rattle.view_def.specs.Tree.{ViewTree}
 use Rattle.ss_lexer.specs.Lexemes.{Lexeme, Ident, Key, Quoted, Literal, Mark, Finish, Bad_byte, Open_quote, Piece, pieces}
 use Rattle.ss_parser.specs.Phrases.{next}
 use Rattle.ss_parser.specs.Views.{view}
@@ -23,7 +23,7 @@ unfolding up
 up_is levels zero = omega arith
 up_is levels (suc d) = omega (arith, up_is levels d)
 
-up_reads : (levels d : ℕ) (ts : List Piece) (t : Tree) (rest : List Piece) → (view levels).reads ts t rest → (view (up levels d)).reads ts t rest
+up_reads : (levels d : ℕ) (ts : List Piece) (t : ViewTree) (rest : List Piece) → (view levels).reads ts t rest → (view (up levels d)).reads ts t rest
 unfolding up
 up_reads levels zero ts t rest r = r
 up_reads levels (suc d) ts t rest r = (view_wider (up levels d)).reads ts t rest (up_reads levels d ts t rest r)
@@ -34,7 +34,7 @@ up_stops levels zero ts rest s = s
 up_stops levels (suc d) ts rest s = (view_wider (up levels d)).stops ts rest (up_stops levels d ts rest s)
 
 -- what is a view is one where more may be open
-pub more_levels : (m n : ℕ) → m ≤ n → (ts : List Piece) (t : Tree) (rest : List Piece) → (view m).reads ts t rest → (view n).reads ts t rest
+pub more_levels : (m n : ℕ) → m ≤ n → (ts : List Piece) (t : ViewTree) (rest : List Piece) → (view m).reads ts t rest → (view n).reads ts t rest
 more_levels m n le ts t rest r =
     let e : up m (n - m) ≡ n = omega (arith, up_is m (n - m)) in
     subst (λ k. (view k).reads ts t rest) e (up_reads m (n - m) ts t rest r)
@@ -45,7 +45,7 @@ more_stops m n le ts rest s =
     subst (λ k. (view k).stops false ts rest) e (up_stops m (n - m) ts rest s)
 
 -- one tree only is read
-pub one_tree : (bytes : List ℕ) (t u : Tree) → IsRead bytes t → IsRead bytes u → t ≡ u
+pub one_tree : (bytes : List ℕ) (t u : ViewTree) → IsRead bytes t → IsRead bytes u → t ≡ u
 unfolding AreView
 one_tree bytes t u r s = ((view_laws 64).one _ t u [] [] r s).0
 
@@ -117,11 +117,11 @@ got (x ∷ done) rest p e = got done rest p e
 
 -- what is read, and what is refused, of a text
 module _ (bytes : List ℕ) (ps : List Piece) (is : ps ≡ pieces bytes) where
-  pub is_read : (t : Tree) → (view 64).reads ps t [] → IsRead bytes t
+  pub is_read : (t : ViewTree) → (view 64).reads ps t [] → IsRead bytes t
   unfolding AreView
   is_read t r = subst (λ m. (view 64).reads m t []) is r
 
-  pub not_read : (deep : Bool) (rest : List Piece) (t : Tree) → (view 64).stops deep ps rest → IsRead bytes t → ⊥
+  pub not_read : (deep : Bool) (rest : List Piece) (t : ViewTree) → (view 64).stops deep ps rest → IsRead bytes t → ⊥
   unfolding AreView
   not_read deep rest t s r = (view_laws 64).not_both deep (pieces bytes) t [] rest r (subst (λ m. (view 64).stops deep m rest) is s)
 
@@ -222,7 +222,7 @@ pub one_refusal : (bytes : List ℕ) (f g : ParseFault) → f ≢ fault.NoMemory
 one_refusal bytes f g nf ng hf hg = one_refusal_at (pieces bytes) f g (at_pieces bytes f nf hf) (at_pieces bytes g ng hg)
 
 -- a text that is read is not refused
-pub read_not_refused : (bytes : List ℕ) (t : Tree) (f : ParseFault) → f ≢ fault.NoMemory → IsRead bytes t → IsRefused bytes f → ⊥
+pub read_not_refused : (bytes : List ℕ) (t : ViewTree) (f : ParseFault) → f ≢ fault.NoMemory → IsRead bytes t → IsRefused bytes f → ⊥
 read_not_refused bytes t f nf r h =
     let at = at_pieces bytes f nf h in
     at.3.not_with (pieces bytes, t, refl, r)

@@ -12,7 +12,7 @@ use Rattle.view_def.specs.declared.written.RawRange.{RawRange}
 use Rattle.view_def.specs.declared.written.RawRange.TheVariants as range
 use Rattle.view_def.specs.declared.written.RawDecl.{RawDecl}
 use Rattle.view_def.specs.RawConditions.{Raw, AnyRaw, AllRaw, NotRaw, CompareRaw, Raws, none, more, raws}
-use Rattle.view_def.specs.Tree.{Tree}
+use Rattle.view_def.specs.Tree.{ViewTree}
 use Rattle.view_def.specs.Print.{in_quotes, name_text, term_text, declaration_text, operator_text, comparison_text, is_any, is_joined, in_parentheses, condition_text, member_texts, filter_text, print}
 use Rattle.ss_lexer.specs.declared.token.Kind.TheVariants as kind
 use Rattle.ss_lexer.specs.Tokens.{answer}
@@ -572,11 +572,11 @@ built_is_printed : (db label cs ts ds e : Text) → built_text db label cs ts ds
 unfolding built_text printed_text
 built_is_printed db label cs ts ds e = simp append_assoc
 
-print_is : (t : Tree) → print t ≡ printed_text (name_text t.view_db) (name_text t.label) (columns_text t.columns) (join_by term_text (codes ", ") t.select) (join_by declaration_text (codes ", ") t.decls) (filter_text t.condition)
+print_is : (t : ViewTree) → print t ≡ printed_text (name_text t.view_db) (name_text t.label) (columns_text t.columns) (join_by term_text (codes ", ") t.select) (join_by declaration_text (codes ", ") t.decls) (filter_text t.condition)
 unfolding print printed_text
 print_is t = refl
 
-view_prints_all : (t : Tree) → GoodTree t → PrintsAll (view 64) t (print t) (Key (codes "create"))
+view_prints_all : (t : ViewTree) → GoodTree t → PrintsAll (view 64) t (print t) (Key (codes "create"))
 unfolding built_text
 view_prints_all t g =
     let h = head_of t.view_db t.label t.columns in
@@ -596,7 +596,7 @@ view_prints_all t g =
     (ending_fits t.condition) (λ _. ending_breaks t.condition)) (λ pc k. rw k refl) (λ _. refl)) (λ _ _. refl) (λ k. absurd (cc)))
 
 -- what is read from a text, printed, is read again
-pub round_trip : (bytes : List ℕ) (t : Tree) → IsRead bytes t → IsRead (print t) t
+pub round_trip : (bytes : List ℕ) (t : ViewTree) → IsRead bytes t → IsRead (print t) t
 unfolding AreView
 round_trip bytes t r =
     let a = view_prints_all t (good_tree bytes t r) in

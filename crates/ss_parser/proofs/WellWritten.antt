@@ -2,7 +2,7 @@
 use Rattle.std.proofs.Common.{◌≡◌, ◌≤◌, ℕ, suc, Bool, true, false, List, [], ◌∷◌, length, Option, Some, None, refl, sym, ◌∙◌, ap, subst, arith}
 use Rattle.std.specs.Prelude.{◌&&◌, IfSome}
 use Rattle.view_def.specs.RawConditions.{Raw, AnyRaw, AllRaw, NotRaw, CompareRaw, Raws, none, more}
-use Rattle.view_def.specs.Tree.{Tree}
+use Rattle.view_def.specs.Tree.{ViewTree}
 use Rattle.view_def.specs.Print.{is_any, is_joined}
 use Rattle.view_def.specs.Written.{has_two, is_well_joined, are_well_joined, is_well_joined_filter, IsWritten}
 use Rattle.ss_parser.specs.Refused.{IsRead}
@@ -41,7 +41,7 @@ filter_joined : (o : Option Raw) → IfSome o (λ c. Bare c 64) → is_well_join
 filter_joined None h = refl
 filter_joined (Some c) h = bare_joined c 64 h
 
-pub read_is_written : (bytes : List ℕ) (t : Tree) → IsRead bytes t → IsWritten t
+pub read_is_written : (bytes : List ℕ) (t : ViewTree) → IsRead bytes t → IsWritten t
 read_is_written bytes t r =
     let good = good_tree bytes t r in
     record {

@@ -1,7 +1,7 @@
 -- What a view text is read as, and where it is refused.
 use Rattle.std.specs.Prelude.{◌≡◌, ◌≢◌, ◌⊎◌, ℕ, suc, List, [], take, slice_get, Some, Result, Ok, Err, IsTrue, ⊤}
 use Rattle.view_def.specs.declared.written.ViewText.{ViewText}
-use Rattle.view_def.specs.Tree.{Tree, tree_of}
+use Rattle.view_def.specs.Tree.{ViewTree, tree_of}
 use Rattle.ss_lexer.specs.Lexemes.{Lexeme, Bad_byte, Open_quote, Piece, pieces}
 use Rattle.ss_parser.specs.declared.fault.ParseFault.{ParseFault}
 use Rattle.ss_parser.specs.declared.fault.ParseFault.TheVariants as fault
@@ -9,16 +9,16 @@ use Rattle.ss_parser.specs.Conditions.{opens}
 use Rattle.ss_parser.specs.Views.{view}
 
 -- these pieces are a view with this tree, with at most so many of NOT and "(" open at once
-unfoldable pub AreView : ℕ → List Piece → Tree → Type 0
+unfoldable pub AreView : ℕ → List Piece → ViewTree → Type 0
 AreView levels ps t = (view levels).reads ps t []
 
 -- the bytes are a view text with this tree
-abbrev pub IsRead : List ℕ → Tree → Type 0
+abbrev pub IsRead : List ℕ → ViewTree → Type 0
 IsRead bytes t = AreView 64 (pieces bytes) t
 
 -- some view begins with the first k of these pieces
 abbrev pub Begin : ℕ → List Piece → ℕ → Type 0
-Begin levels ps k = (us : List Piece) × (t : Tree) × (take k us ≡ take k ps) × AreView levels us t
+Begin levels ps k = (us : List Piece) × (t : ViewTree) × (take k us ≡ take k ps) × AreView levels us t
 
 -- the pieces before the place k begin some view, and with the one there they begin none
 pub record FirstBad (ps : List Piece) (k : ℕ) : Type 0 where
@@ -50,10 +50,10 @@ IsRefused bytes fault.NoMemory = ⊤
 IsRefused bytes f = IsRefusedAt (pieces bytes) f
 
 -- what is answered where a view is read: its tree, or want of memory
-abbrev pub IsReadAs : Tree → Result ViewText ParseFault → Type 0
+abbrev pub IsReadAs : ViewTree → Result ViewText ParseFault → Type 0
 IsReadAs t (Ok v) = tree_of v ≡ t
 IsReadAs t (Err f) = f ≡ fault.NoMemory
 
 -- the bytes are a view text, or are refused at some place
 abbrev pub HasReading : List ℕ → Type 0
-HasReading bytes = ((t : Tree) × IsRead bytes t) ⊎ ((f : ParseFault) × (f ≢ fault.NoMemory) × IsRefused bytes f)
+HasReading bytes = ((t : ViewTree) × IsRead bytes t) ⊎ ((f : ParseFault) × (f ≢ fault.NoMemory) × IsRefused bytes f)

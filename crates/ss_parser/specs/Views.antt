@@ -4,7 +4,7 @@ use Rattle.view_def.specs.declared.written.Name.{Name}
 use Rattle.view_def.specs.declared.written.RawTerm.{RawTerm}
 use Rattle.view_def.specs.declared.written.RawDecl.{RawDecl}
 use Rattle.view_def.specs.RawConditions.{Raw}
-use Rattle.view_def.specs.Tree.{Tree}
+use Rattle.view_def.specs.Tree.{ViewTree}
 use Rattle.ss_lexer.specs.Lexemes.{Lexeme, Finish, Piece}
 use Rattle.ss_parser.specs.Phrases.{Phrase, gives, ◌>>=◌, by_next}
 use Rattle.ss_parser.specs.Terms.{just, key, sign, is_key, is_sign, name, some, a_term}
@@ -96,12 +96,12 @@ unfiltered = do
 abbrev pub ending : ℕ → Phrase Piece (Option Raw)
 ending levels = by_next (is_key (codes "where")) (filtered levels) unfiltered
 
-abbrev pub tree_with : Head → List RawTerm → List RawDecl → Option Raw → Tree
+abbrev pub tree_with : Head → List RawTerm → List RawDecl → Option Raw → ViewTree
 tree_with h select decls c =
     record { view_db = h.view_db; label = h.label; columns = h.columns; select = select; decls = decls; condition = c }
 
 -- a view, with at most so many of NOT and "(" open at once in its condition
-abbrev pub view : ℕ → Phrase Piece Tree
+abbrev pub view : ℕ → Phrase Piece ViewTree
 view levels = do
   h ← header
   select ← selection

@@ -5,7 +5,7 @@ ghost use Rattle.ss_parser.specs.Phrases.{by_next, limit, passes, next};
 ghost use Rattle.ss_parser.specs.Conditions.{comparison as comparison_phrase, any_of as any_raw, all_of as all_raw, all as all_phrase, any as any_phrase, negation as negation_phrase, group as group_phrase, starts_term, opens as opens_test, nested as nested_phrase, unit as unit_phrase};
 ghost use Rattle.ss_parser.specs.Parses.{Parses};
 
-use crate::fault::Stop;
+use crate::fault::ParseStop;
 use crate::keyword::Keyword;
 use crate::reader::Reader;
 use std::alloc::Global;
@@ -14,7 +14,7 @@ use view_def::RawCond;
 impl Reader<'_> {
     /// Members of which some is to hold, inside which at most so many may be open at once.
     #[cycle(condition)]
-    pub(crate) fn any(&mut self, alloc: Global, levels: u8) -> Result<RawCond, Stop>
+    pub(crate) fn any(&mut self, alloc: Global, levels: u8) -> Result<RawCond, ParseStop>
         ensures { Parses raw_of (any_phrase (unit_phrase levels)) self.old self.new result }
     {
         let mut members = Vec::new(alloc);
@@ -29,7 +29,7 @@ impl Reader<'_> {
 
     // Members each of which is to hold.
     #[cycle(condition)]
-    fn all(&mut self, alloc: Global, levels: u8) -> Result<RawCond, Stop>
+    fn all(&mut self, alloc: Global, levels: u8) -> Result<RawCond, ParseStop>
         ensures { Parses raw_of (all_phrase (unit_phrase levels)) self.old self.new result }
     {
         let mut members = Vec::new(alloc);
@@ -44,7 +44,7 @@ impl Reader<'_> {
 
     // One member.
     #[cycle(condition)]
-    fn unit(&mut self, alloc: Global, levels: u8) -> Result<RawCond, Stop>
+    fn unit(&mut self, alloc: Global, levels: u8) -> Result<RawCond, ParseStop>
         ensures { Parses raw_of (unit_phrase levels) self.old self.new result }
     {
         if levels == 0 {
@@ -56,7 +56,7 @@ impl Reader<'_> {
 
     // One that may hold others.
     #[cycle(condition)]
-    fn nested(&mut self, alloc: Global, levels: u8) -> Result<RawCond, Stop>
+    fn nested(&mut self, alloc: Global, levels: u8) -> Result<RawCond, ParseStop>
         ensures { Parses raw_of (nested_phrase (unit_phrase levels)) self.old self.new result }
     {
         if self.is_term() {
@@ -70,7 +70,7 @@ impl Reader<'_> {
 
     // One that is not to hold.
     #[cycle(condition)]
-    fn negation(&mut self, alloc: Global, levels: u8) -> Result<RawCond, Stop>
+    fn negation(&mut self, alloc: Global, levels: u8) -> Result<RawCond, ParseStop>
         ensures { Parses raw_of (negation_phrase (unit_phrase levels)) self.old self.new result }
     {
         self.key(Keyword::Not)?;
@@ -80,7 +80,7 @@ impl Reader<'_> {
 
     // One in parentheses.
     #[cycle(condition)]
-    fn group(&mut self, alloc: Global, levels: u8) -> Result<RawCond, Stop>
+    fn group(&mut self, alloc: Global, levels: u8) -> Result<RawCond, ParseStop>
         ensures { Parses raw_of (group_phrase (unit_phrase levels)) self.old self.new result }
     {
         self.sign(b"(")?;
@@ -90,15 +90,15 @@ impl Reader<'_> {
     }
 
     // One that may hold no other.
-    fn innermost(&mut self, alloc: Global) -> Result<RawCond, Stop>
+    fn innermost(&mut self, alloc: Global) -> Result<RawCond, ParseStop>
         ensures { Parses raw_of (by_next starts_term comparison_phrase (limit opens_test)) self.old self.new result }
     {
         if self.is_term() {
             self.comparison(alloc)
         } else if self.opens() {
-            Err(Stop::TooDeep)
+            Err(ParseStop::TooDeep)
         } else {
-            Err(Stop::Unexpected)
+            Err(ParseStop::Unexpected)
         }
     }
 
@@ -110,7 +110,7 @@ impl Reader<'_> {
     }
 
     // Two terms and an operator.
-    fn comparison(&mut self, alloc: Global) -> Result<RawCond, Stop>
+    fn comparison(&mut self, alloc: Global) -> Result<RawCond, ParseStop>
         ensures { Parses raw_of comparison_phrase self.old self.new result }
     {
         let left = self.term(alloc)?;

@@ -4,7 +4,7 @@ ghost use Rattle.ss_parser.specs.Terms.{some};
 ghost use Rattle.ss_parser.specs.Declarations.{var as var_phrase, arrow_var as arrow_var_phrase, column_var as column_var_phrase, cell_var as cell_var_phrase, in_relation as in_relation_phrase, in_database as in_database_phrase, behind_name as behind_name_phrase, named as named_phrase, decl};
 ghost use Rattle.ss_parser.specs.Parses.{Parses};
 
-use crate::fault::Stop;
+use crate::fault::ParseStop;
 use crate::reader::Reader;
 use ss_text::Text;
 use std::alloc::Global;
@@ -12,7 +12,7 @@ use view_def::{Name, RawDecl, RawRange};
 
 impl Reader<'_> {
     /// Declarations between commas.
-    pub(crate) fn declarations(&mut self, alloc: Global) -> Result<Vec<RawDecl>, Stop>
+    pub(crate) fn declarations(&mut self, alloc: Global) -> Result<Vec<RawDecl>, ParseStop>
         ensures { Parses vec_items (some decl) self.old self.new result }
     {
         let mut all = Vec::new(alloc);
@@ -26,7 +26,7 @@ impl Reader<'_> {
     }
 
     // A declaration.
-    fn declaration(&mut self, alloc: Global) -> Result<RawDecl, Stop>
+    fn declaration(&mut self, alloc: Global) -> Result<RawDecl, ParseStop>
         ensures { Parses (λ d. d) decl self.old self.new result }
     {
         if self.is_sign(b"->") {
@@ -37,7 +37,7 @@ impl Reader<'_> {
     }
 
     // One that begins with a name.
-    fn named(&mut self, alloc: Global) -> Result<RawDecl, Stop>
+    fn named(&mut self, alloc: Global) -> Result<RawDecl, ParseStop>
         ensures { Parses (λ d. d) named_phrase self.old self.new result }
     {
         let name = self.name(alloc)?;
@@ -49,7 +49,7 @@ impl Reader<'_> {
     }
 
     // What goes on a name that no arrow follows: a quoted one is no tuple variable.
-    fn behind_name(&mut self, alloc: Global, name: Name) -> Result<RawDecl, Stop>
+    fn behind_name(&mut self, alloc: Global, name: Name) -> Result<RawDecl, ParseStop>
         ensures { Parses (λ d. d) (behind_name_phrase name.quoted name) self.old self.new result }
     {
         if !name.quoted && self.is_sign(b".") {
@@ -60,7 +60,7 @@ impl Reader<'_> {
     }
 
     // A relation of a database, and what goes on it.
-    fn in_database(&mut self, alloc: Global, database: Name) -> Result<RawDecl, Stop>
+    fn in_database(&mut self, alloc: Global, database: Name) -> Result<RawDecl, ParseStop>
         ensures { Parses (λ d. d) (in_database_phrase database) self.old self.new result }
     {
         self.sign(b"::")?;
@@ -74,7 +74,7 @@ impl Reader<'_> {
         alloc: Global,
         database: Name,
         relation: Name,
-    ) -> Result<RawDecl, Stop>
+    ) -> Result<RawDecl, ParseStop>
         ensures { Parses (λ d. d) (in_relation_phrase database relation) self.old self.new result }
     {
         if self.is_sign(b"->") {
@@ -87,7 +87,12 @@ impl Reader<'_> {
     }
 
     // A variable over the values of a column.
-    fn column_var(&mut self, alloc: Global, database: Name, relation: Name) -> Result<RawDecl, Stop>
+    fn column_var(
+        &mut self,
+        alloc: Global,
+        database: Name,
+        relation: Name,
+    ) -> Result<RawDecl, ParseStop>
         ensures { Parses (λ d. d) (column_var_phrase database relation) self.old self.new result }
     {
         self.sign(b".")?;
@@ -96,7 +101,7 @@ impl Reader<'_> {
     }
 
     // A variable for a cell of a tuple variable.
-    fn cell_var(&mut self, alloc: Global, tuple: Text) -> Result<RawDecl, Stop>
+    fn cell_var(&mut self, alloc: Global, tuple: Text) -> Result<RawDecl, ParseStop>
         ensures { Parses (λ d. d) (cell_var_phrase tuple) self.old self.new result }
     {
         self.sign(b".")?;
@@ -105,7 +110,7 @@ impl Reader<'_> {
     }
 
     // An arrow, and a variable over a range.
-    fn arrow_var(&mut self, alloc: Global, range: RawRange) -> Result<RawDecl, Stop>
+    fn arrow_var(&mut self, alloc: Global, range: RawRange) -> Result<RawDecl, ParseStop>
         ensures { Parses (λ d. d) (arrow_var_phrase range) self.old self.new result }
     {
         self.sign(b"->")?;
@@ -113,7 +118,7 @@ impl Reader<'_> {
     }
 
     // A variable over a range.
-    fn var(&mut self, alloc: Global, range: RawRange) -> Result<RawDecl, Stop>
+    fn var(&mut self, alloc: Global, range: RawRange) -> Result<RawDecl, ParseStop>
         ensures { Parses (λ d. d) (var_phrase range) self.old self.new result }
     {
         let var = self.ident(alloc)?;

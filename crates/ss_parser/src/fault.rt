@@ -30,7 +30,7 @@ impl From<NoMemory> for ParseFault {
 
 /// Why nothing is read from here on.
 #[derive(Clone, Copy, Debug, PartialEq, Eq)]
-pub(crate) enum Stop {
+pub(crate) enum ParseStop {
     /// The next token goes on no view, or is none.
     Unexpected,
     /// The next token would open one too many.
@@ -38,35 +38,35 @@ pub(crate) enum Stop {
     NoMemory,
 }
 
-impl From<NoMemory> for Stop {
+impl From<NoMemory> for ParseStop {
     ghost use Rattle.std.specs.Prelude.{◌≡◌};
-    ghost use Rattle.ss_parser.specs.declared.fault.Stop.TheVariants as stop;
+    ghost use Rattle.ss_parser.specs.declared.fault.ParseStop.TheVariants as stop;
 
     ghost from_gives = { λ _ e. e ≡ stop.NoMemory };
 
-    fn from(_: NoMemory) -> Stop {
-        Stop::NoMemory
+    fn from(_: NoMemory) -> ParseStop {
+        ParseStop::NoMemory
     }
 }
 
-impl From<AllocError> for Stop {
+impl From<AllocError> for ParseStop {
     ghost use Rattle.std.specs.Prelude.{◌≡◌};
-    ghost use Rattle.ss_parser.specs.declared.fault.Stop.TheVariants as stop;
+    ghost use Rattle.ss_parser.specs.declared.fault.ParseStop.TheVariants as stop;
 
     ghost from_gives = { λ _ e. e ≡ stop.NoMemory };
 
-    fn from(_: AllocError) -> Stop {
-        Stop::NoMemory
+    fn from(_: AllocError) -> ParseStop {
+        ParseStop::NoMemory
     }
 }
 
-impl<T: Drop> From<AllocFailed<T>> for Stop {
+impl<T: Drop> From<AllocFailed<T>> for ParseStop {
     ghost use Rattle.std.specs.Prelude.{◌≡◌};
-    ghost use Rattle.ss_parser.specs.declared.fault.Stop.TheVariants as stop;
+    ghost use Rattle.ss_parser.specs.declared.fault.ParseStop.TheVariants as stop;
 
     ghost from_gives = { λ _ e. e ≡ stop.NoMemory };
 
-    fn from(_: AllocFailed<T>) -> Stop {
-        Stop::NoMemory
+    fn from(_: AllocFailed<T>) -> ParseStop {
+        ParseStop::NoMemory
     }
 }

@@ -11,8 +11,6 @@ mod keyword;
 mod operator;
 mod reader;
 mod term;
-#[cfg(test)]
-mod tests;
 mod unquote;
 mod view;
 

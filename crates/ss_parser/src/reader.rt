@@ -14,7 +14,7 @@ ghost use Rattle.ss_parser.specs.Parses.{Parses, ParsesAll, Passes};
 ghost use Rattle.ss_parser.specs.Ahead.{is_end};
 
 use crate::ParseFault;
-use crate::fault::Stop;
+use crate::fault::ParseStop;
 use crate::keyword::{Keyword, is_keyword};
 use crate::operator::operator_of;
 use crate::unquote::unquoted;
@@ -131,22 +131,22 @@ impl<'a> Reader<'a> {
     }
 
     /// Passes over this sign.
-    pub(crate) fn sign(&mut self, sign: &[u8]) -> Result<(), Stop>
+    pub(crate) fn sign(&mut self, sign: &[u8]) -> Result<(), ParseStop>
         ensures { Parses (λ _. tt) (sign_phrase sign.now) self.old self.new result }
     {
         if !self.is_sign(sign) {
-            return Err(Stop::Unexpected);
+            return Err(ParseStop::Unexpected);
         }
         self.advance();
         Ok(())
     }
 
     /// Passes over this keyword.
-    pub(crate) fn key(&mut self, key: Keyword) -> Result<(), Stop>
+    pub(crate) fn key(&mut self, key: Keyword) -> Result<(), ParseStop>
         ensures { Parses (λ _. tt) (key_phrase (spelling key)) self.old self.new result }
     {
         if !self.is_key(key) {
-            return Err(Stop::Unexpected);
+            return Err(ParseStop::Unexpected);
         }
         self.advance();
         Ok(())
@@ -179,29 +179,29 @@ impl<'a> Reader<'a> {
     }
 
     /// Sees that nothing is left.
-    pub(crate) fn finish(&self) -> Result<(), Stop>
+    pub(crate) fn finish(&self) -> Result<(), ParseStop>
         ensures { ParsesAll (λ _. tt) finish_phrase self.now self.now result }
     {
         match self.ahead {
             Ok(token) if token.kind == Kind::Finish => Ok(()),
-            _ => Err(Stop::Unexpected),
+            _ => Err(ParseStop::Unexpected),
         }
     }
 
     /// An identifier.
-    pub(crate) fn ident(&mut self, alloc: Global) -> Result<Text, Stop>
+    pub(crate) fn ident(&mut self, alloc: Global) -> Result<Text, ParseStop>
         ensures { Parses (λ t. t) ident_phrase self.old self.new result }
     {
         let text = match self.ahead {
             Ok(token) if self.is_ident() => Text::of(alloc, text_of(self.bytes, token))?,
-            _ => return Err(Stop::Unexpected),
+            _ => return Err(ParseStop::Unexpected),
         };
         self.advance();
         Ok(text)
     }
 
     /// A name.
-    pub(crate) fn name(&mut self, alloc: Global) -> Result<Name, Stop>
+    pub(crate) fn name(&mut self, alloc: Global) -> Result<Name, ParseStop>
         ensures { Parses (λ n. n) name_phrase self.old self.new result }
     {
         let ahead = self.ahead;
@@ -214,14 +214,14 @@ impl<'a> Reader<'a> {
                 text: Text::of(alloc, text_of(self.bytes, token))?,
                 quoted: false,
             },
-            _ => return Err(Stop::Unexpected),
+            _ => return Err(ParseStop::Unexpected),
         };
         self.advance();
         Ok(name)
     }
 
     /// A literal.
-    pub(crate) fn literal(&mut self, alloc: Global) -> Result<RawTerm, Stop>
+    pub(crate) fn literal(&mut self, alloc: Global) -> Result<RawTerm, ParseStop>
         ensures { Parses (λ t. t) literal_phrase self.old self.new result }
     {
         let ahead = self.ahead;
@@ -230,14 +230,14 @@ impl<'a> Reader<'a> {
                 unquoted(alloc, b'\'', text_of(self.bytes, token))?
             }
             Ok(token) if token.kind == Kind::Num => Text::of(alloc, text_of(self.bytes, token))?,
-            _ => return Err(Stop::Unexpected),
+            _ => return Err(ParseStop::Unexpected),
         };
         self.advance();
         Ok(RawTerm::Literal(text))
     }
 
     /// An operator.
-    pub(crate) fn operator(&mut self) -> Result<Op, Stop>
+    pub(crate) fn operator(&mut self) -> Result<Op, ParseStop>
         ensures { Parses (λ o. o) operator_phrase self.old self.new result }
     {
         let ahead = self.ahead;
@@ -250,7 +250,7 @@ impl<'a> Reader<'a> {
                 self.advance();
                 Ok(op)
             }
-            None => Err(Stop::Unexpected),
+            None => Err(ParseStop::Unexpected),
         }
     }
 }

@@ -3,7 +3,7 @@ ghost use Rattle.std.specs.Prelude.{vec_items};
 ghost use Rattle.ss_parser.specs.Terms.{a_term, dotted as dotted_phrase, ident_term as ident_term_phrase, name as name_phrase, some};
 ghost use Rattle.ss_parser.specs.Parses.{Parses};
 
-use crate::fault::Stop;
+use crate::fault::ParseStop;
 use crate::reader::Reader;
 use ss_text::Text;
 use std::alloc::Global;
@@ -11,7 +11,7 @@ use view_def::{Name, RawTerm};
 
 impl Reader<'_> {
     /// A term.
-    pub(crate) fn term(&mut self, alloc: Global) -> Result<RawTerm, Stop>
+    pub(crate) fn term(&mut self, alloc: Global) -> Result<RawTerm, ParseStop>
         ensures { Parses (λ t. t) a_term self.old self.new result }
     {
         if self.is_ident() {
@@ -22,7 +22,7 @@ impl Reader<'_> {
     }
 
     // An identifier, or an attribute of one.
-    fn ident_term(&mut self, alloc: Global) -> Result<RawTerm, Stop>
+    fn ident_term(&mut self, alloc: Global) -> Result<RawTerm, ParseStop>
         ensures { Parses (λ t. t) ident_term_phrase self.old self.new result }
     {
         let ident = self.ident(alloc)?;
@@ -34,7 +34,7 @@ impl Reader<'_> {
     }
 
     // An attribute of an identifier.
-    fn dotted(&mut self, alloc: Global, ident: Text) -> Result<RawTerm, Stop>
+    fn dotted(&mut self, alloc: Global, ident: Text) -> Result<RawTerm, ParseStop>
         ensures { Parses (λ t. t) (dotted_phrase ident) self.old self.new result }
     {
         self.sign(b".")?;
@@ -43,7 +43,7 @@ impl Reader<'_> {
     }
 
     /// Terms between commas.
-    pub(crate) fn terms(&mut self, alloc: Global) -> Result<Vec<RawTerm>, Stop>
+    pub(crate) fn terms(&mut self, alloc: Global) -> Result<Vec<RawTerm>, ParseStop>
         ensures { Parses vec_items (some a_term) self.old self.new result }
     {
         let mut all = Vec::new(alloc);
@@ -57,7 +57,7 @@ impl Reader<'_> {
     }
 
     /// Names between commas.
-    pub(crate) fn names(&mut self, alloc: Global) -> Result<Vec<Name>, Stop>
+    pub(crate) fn names(&mut self, alloc: Global) -> Result<Vec<Name>, ParseStop>
         ensures { Parses vec_items (some name_phrase) self.old self.new result }
     {
         let mut all = Vec::new(alloc);

@@ -1,7 +1,7 @@
 //! A whole view.
 ghost use Rattle.std.specs.Prelude.{◌≡◌, vec_items, option_map, IfOk, IfErr};
 ghost use Rattle.view_def.specs.RawConditions.{raw_of};
-ghost use Rattle.view_def.specs.Tree.{Tree, tree_of};
+ghost use Rattle.view_def.specs.Tree.{ViewTree, tree_of};
 ghost use Rattle.view_def.specs.Written.{IsWritten};
 ghost use Rattle.view_def.specs.Print.{print};
 ghost use Rattle.ss_parser.specs.Views.{columns as columns_phrase, target as target_phrase, header as header_phrase, selection, declarations as declarations_phrase, end as end_phrase, filtered, ending as ending_phrase, view as view_phrase};
@@ -10,7 +10,7 @@ ghost use Rattle.ss_parser.specs.Refused.{IsRead, IsRefused, IsReadAs};
 ghost use Rattle.ss_parser.specs.Parses.{Parses, ParsesAll};
 
 use crate::ParseFault;
-use crate::fault::Stop;
+use crate::fault::ParseStop;
 use crate::keyword::Keyword;
 use crate::reader::Reader;
 use std::alloc::Global;
@@ -24,7 +24,7 @@ pub fn parse(alloc: Global, bytes: &[u8]) -> Result<ViewText, ParseFault>
     ensures read { IfOk result (λ v. IsRead bytes.now (tree_of v)) }
     ensures written { IfOk result (λ v. IsWritten (tree_of v)) }
     ensures refused { IfErr result (λ e. IsRefused bytes.now e) }
-    ensures whole { (t : Tree) → IsRead bytes.now t → IsReadAs t result }
+    ensures whole { (t : ViewTree) → IsRead bytes.now t → IsReadAs t result }
 
     // The canonical text of what is read is read as the same.
     ensures printed { IfOk result (λ v. IsRead (print (tree_of v)) (tree_of v)) }
@@ -32,9 +32,9 @@ pub fn parse(alloc: Global, bytes: &[u8]) -> Result<ViewText, ParseFault>
     let mut reader = Reader::of(alloc, bytes)?;
     match reader.view(alloc) {
         Ok(view) => Ok(view),
-        Err(Stop::Unexpected) => Err(reader.fault()),
-        Err(Stop::TooDeep) => Err(ParseFault::TooDeep { at: reader.place() }),
-        Err(Stop::NoMemory) => Err(ParseFault::NoMemory),
+        Err(ParseStop::Unexpected) => Err(reader.fault()),
+        Err(ParseStop::TooDeep) => Err(ParseFault::TooDeep { at: reader.place() }),
+        Err(ParseStop::NoMemory) => Err(ParseFault::NoMemory),
     }
 }
 
@@ -48,7 +48,7 @@ struct Header {
 
 impl Reader<'_> {
     // A view, up to the end of the text.
-    fn view(&mut self, alloc: Global) -> Result<ViewText, Stop>
+    fn view(&mut self, alloc: Global) -> Result<ViewText, ParseStop>
         ensures { ParsesAll tree_of (view_phrase 64) self.old self.new result }
     {
         let header = self.header(alloc)?;
@@ -71,7 +71,7 @@ impl Reader<'_> {
     }
 
     // CREATE VIEW, the target and its columns, and AS.
-    fn header(&mut self, alloc: Global) -> Result<Header, Stop>
+    fn header(&mut self, alloc: Global) -> Result<Header, ParseStop>
         ensures { Parses head_in header_phrase self.old self.new result }
     {
         self.key(Keyword::Create)?;
@@ -82,7 +82,7 @@ impl Reader<'_> {
     }
 
     // The target and its columns.
-    fn target(&mut self, alloc: Global) -> Result<Header, Stop>
+    fn target(&mut self, alloc: Global) -> Result<Header, ParseStop>
         ensures { Parses head_in target_phrase self.old self.new result }
     {
         let view_db = self.name(alloc)?;
@@ -97,7 +97,7 @@ impl Reader<'_> {
     }
 
     // Names in parentheses.
-    fn columns(&mut self, alloc: Global) -> Result<Vec<Name>, Stop>
+    fn columns(&mut self, alloc: Global) -> Result<Vec<Name>, ParseStop>
         ensures { Parses vec_items columns_phrase self.old self.new result }
     {
         self.sign(b"(")?;
@@ -107,7 +107,7 @@ impl Reader<'_> {
     }
 
     // SELECT, and terms.
-    fn select_part(&mut self, alloc: Global) -> Result<Vec<RawTerm>, Stop>
+    fn select_part(&mut self, alloc: Global) -> Result<Vec<RawTerm>, ParseStop>
         ensures { Parses vec_items selection self.old self.new result }
     {
         self.key(Keyword::Select)?;
@@ -115,7 +115,7 @@ impl Reader<'_> {
     }
 
     // FROM, and declarations.
-    fn from_part(&mut self, alloc: Global) -> Result<Vec<RawDecl>, Stop>
+    fn from_part(&mut self, alloc: Global) -> Result<Vec<RawDecl>, ParseStop>
         ensures { Parses vec_items declarations_phrase self.old self.new result }
     {
         self.key(Keyword::From)?;
@@ -123,7 +123,7 @@ impl Reader<'_> {
     }
 
     // A condition or none, and the end.
-    fn ending(&mut self, alloc: Global) -> Result<Option<RawCond>, Stop>
+    fn ending(&mut self, alloc: Global) -> Result<Option<RawCond>, ParseStop>
         ensures { ParsesAll (option_map raw_of) (ending_phrase 64) self.old self.new result }
     {
         if self.is_key(Keyword::Where) {
@@ -135,7 +135,7 @@ impl Reader<'_> {
     }
 
     // WHERE, a condition, and the end.
-    fn where_part(&mut self, alloc: Global) -> Result<Option<RawCond>, Stop>
+    fn where_part(&mut self, alloc: Global) -> Result<Option<RawCond>, ParseStop>
         ensures { ParsesAll (option_map raw_of) (filtered 64) self.old self.new result }
     {
         self.key(Keyword::Where)?;
@@ -145,7 +145,7 @@ impl Reader<'_> {
     }
 
     // A semicolon or none, and the end.
-    fn end(&mut self) -> Result<(), Stop>
+    fn end(&mut self) -> Result<(), ParseStop>
         ensures { ParsesAll (λ _. tt) end_phrase self.old self.new result }
     {
         self.takes_sign(b";");

@@ -60,14 +60,14 @@ module _ (these those : List Fold) (same : SameOthers these those) where
   two_folds_same x [] = refl
   two_folds_same x (f ∷ fs) = ap (λ b. where_true b (TwoFolds x)) (same f)
 
-  pub range_fault_same : (ds : List RawDecl) (sight : ℕ) (r : RawRange) → range_fault ds sight these r ≡ range_fault ds sight those r
-  range_fault_same ds sight raw.Databases = refl
-  range_fault_same ds sight (raw.Relations db) = refl
-  range_fault_same ds sight (raw.Attributes db rel) = refl
-  range_fault_same ds sight (raw.Tuples db rel) = refl
-  range_fault_same ds sight (raw.Values db rel a) = refl
-  range_fault_same ds sight (raw.Alias x a) =
-      ap (λ (f : Option TypeFault). tuple_fault ds sight x or_else name_fault ds sight a or_else f) (two_folds_same x (fold_of ds x a))
+  pub range_fault_same : (ds : List RawDecl) (visible : ℕ) (r : RawRange) → range_fault ds visible these r ≡ range_fault ds visible those r
+  range_fault_same ds visible raw.Databases = refl
+  range_fault_same ds visible (raw.Relations db) = refl
+  range_fault_same ds visible (raw.Attributes db rel) = refl
+  range_fault_same ds visible (raw.Tuples db rel) = refl
+  range_fault_same ds visible (raw.Values db rel a) = refl
+  range_fault_same ds visible (raw.Alias x a) =
+      ap (λ (f : Option TypeFault). tuple_fault ds visible x or_else name_fault ds visible a or_else f) (two_folds_same x (fold_of ds x a))
 
   pub declaration_same : (ds before : List RawDecl) (d : RawDecl) → declaration_after ds these before d ≡ declaration_after ds those before d
   declaration_same ds before d =

@@ -21,7 +21,7 @@ use Rattle.var_typing.specs.declared.folds.Fold.{Fold}
 use Rattle.var_typing.specs.Declarations.{range_fault, typed_range}
 use Rattle.var_typing.specs.Folds.{attribute_fault, two_folds, fold_of}
 use Rattle.var_typing.specs.Refusals.{where_true, ◌or_else◌}
-use Rattle.var_typing.specs.Scope.{declared_at, lists_tuples, is_tuple, variable_named, variable_or, place_named, sight_fault, name_fault, tuple_at_fault, tuple_fault, variable_at}
+use Rattle.var_typing.specs.Scope.{declared_at, lists_tuples, is_tuple, variable_named, variable_or, place_named, visible_fault, name_fault, tuple_at_fault, tuple_fault, variable_at}
 use Rattle.var_typing.specs.Terms.{lone_fault, term_fault, typed_term}
 use Rattle.var_typing.proofs.WalkLemmas.{none_left, none_right, not_true}
 
@@ -75,7 +75,7 @@ module _ (ds before rest : List RawDecl) (whole : ds ≡ before ++ rest) where
         turned true h = refl
         turned false h = absurd (cc)
 
-  named_over : (x : Text) (v : Option ℕ) → sight_fault ds (length before) x v ≡ None → has_text (ranges_of ds before) (variable_or x v) ≡ true
+  named_over : (x : Text) (v : Option ℕ) → visible_fault ds (length before) x v ≡ None → has_text (ranges_of ds before) (variable_or x v) ≡ true
   named_over x None h = refl
   named_over x (Some k) h =
       let seen = none_left (where_true (nat_le (length before) k) (NotDeclared x)) (where_true (is_tuple ds k) (WrongKind x)) h in

@@ -67,20 +67,20 @@ no_other_at fs x k (place.Fixed a) h t = subst (λ (l : List Fold). NoOther l) (
 no_other_at fs x k (place.Var v) h t = no_other_last fs (record { tuple = k; variable = v }) h (not_true _ (TwoFolds x) t)
 
 module _ (ds : List RawDecl) where
-  attribute_folds : (sight : ℕ) (fs : List Fold) (x : Text) (a : Name) → NoOther fs → attribute_fault ds sight fs x a ≡ None → NoOther (fs ++ fold_of ds x a)
-  attribute_folds sight fs x a h t =
-      no_other_at fs x (variable_at ds x) (place_named ds a) h (none_right (name_fault ds sight a) _ (none_right (tuple_fault ds sight x) _ t))
+  attribute_folds : (visible : ℕ) (fs : List Fold) (x : Text) (a : Name) → NoOther fs → attribute_fault ds visible fs x a ≡ None → NoOther (fs ++ fold_of ds x a)
+  attribute_folds visible fs x a h t =
+      no_other_at fs x (variable_at ds x) (place_named ds a) h (none_right (name_fault ds visible a) _ (none_right (tuple_fault ds visible x) _ t))
 
   same_folds : (fs : List Fold) → NoOther fs → NoOther (fs ++ [])
   same_folds fs h = subst (λ (l : List Fold). NoOther l) (sym (append-nil fs)) h
 
-  range_step : (sight : ℕ) (fs : List Fold) (r : RawRange) → NoOther fs → range_fault ds sight fs r ≡ None → NoOther (fs ++ declarations.range_folds ds r)
-  range_step sight fs raw.Databases h t = same_folds fs h
-  range_step sight fs (raw.Relations db) h t = same_folds fs h
-  range_step sight fs (raw.Attributes db rel) h t = same_folds fs h
-  range_step sight fs (raw.Tuples db rel) h t = same_folds fs h
-  range_step sight fs (raw.Values db rel a) h t = same_folds fs h
-  range_step sight fs (raw.Alias x a) h t = attribute_folds sight fs x a h t
+  range_step : (visible : ℕ) (fs : List Fold) (r : RawRange) → NoOther fs → range_fault ds visible fs r ≡ None → NoOther (fs ++ declarations.range_folds ds r)
+  range_step visible fs raw.Databases h t = same_folds fs h
+  range_step visible fs (raw.Relations db) h t = same_folds fs h
+  range_step visible fs (raw.Attributes db rel) h t = same_folds fs h
+  range_step visible fs (raw.Tuples db rel) h t = same_folds fs h
+  range_step visible fs (raw.Values db rel a) h t = same_folds fs h
+  range_step visible fs (raw.Alias x a) h t = attribute_folds visible fs x a h t
 
   declaration_step : (before : List RawDecl) (d : RawDecl) → declaration_fault ds before d ≡ None → NoOther (alias_folds ds before) → NoOther (alias_folds ds (before ++ d ∷ []))
   declaration_step before d t h =

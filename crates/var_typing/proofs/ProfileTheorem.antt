@@ -7,7 +7,7 @@ use Rattle.view_def.specs.Profile.{IsViewOfProfile, is_term_over, is_well_joined
 use Rattle.view_def.specs.Query.{Query}
 use Rattle.view_def.specs.RawConditions.{Raw}
 use Rattle.view_def.specs.Terms.{terms_of_filter, terms_of_view}
-use Rattle.view_def.specs.Tree.{Tree}
+use Rattle.view_def.specs.Tree.{ViewTree}
 use Rattle.view_def.specs.Written as written
 use Rattle.view_def.specs.Written.{IsWritten}
 use Rattle.view_def.specs.declared.typed.Term.{Term}
@@ -37,7 +37,7 @@ filter_joined ds None = refl
 filter_joined ds (Some c) = joined ds c
 
 -- the terms of the typed view are those of the walk
-among_terms : (t : Tree) (x : Term) → Among x (terms_of_view (query_from t)) → Among x (map (typed_term t.decls) (t.select ++ terms_in_filter t.condition))
+among_terms : (t : ViewTree) (x : Term) → Among x (terms_of_view (query_from t)) → Among x (map (typed_term t.decls) (t.select ++ terms_in_filter t.condition))
 among_terms t x h = subst (λ (l : List Term). Among x l) (sym (map-append (typed_term t.decls) t.select (terms_in_filter t.condition))) (cases (among_append x (q.keys ++ option_to_list q.value) (terms_of_filter q.condition) h))
   where
     q : Query
@@ -47,7 +47,7 @@ among_terms t x h = subst (λ (l : List Term). Among x l) (sym (map-append (type
     cases (inl i) = among_left x (map (typed_term t.decls) t.select) _ (among_split x (position is_variable (column_places t.decls t.columns)) (map (typed_term t.decls) t.select) i)
     cases (inr j) = among_right x (map (typed_term t.decls) t.select) _ (subst (λ (l : List Term). Among x l) (filter_terms t.decls t.condition) j)
 
-of_profile : (t : Tree) → fault_of t ≡ None → IsWritten t → IsViewOfProfile (query_from t)
+of_profile : (t : ViewTree) → fault_of t ≡ None → IsWritten t → IsViewOfProfile (query_from t)
 of_profile t h w =
     let ds = t.decls in
     let declared = none_left (declarations_fault ds) _ h in
@@ -83,7 +83,7 @@ of_profile t h w =
     }
 
 -- a written view that is typed is a view of the profile
-pub profile : (t : Tree) (q : Query) → typed t ≡ Ok q → IsWritten t → IsViewOfProfile q
+pub profile : (t : ViewTree) (q : Query) → typed t ≡ Ok q → IsWritten t → IsViewOfProfile q
 unfolding typed
 profile t q e w =
     let (none, is) = by_fault (fault_of t) e in
@@ -94,7 +94,7 @@ profile t q e w =
     by_fault (Some f) h = absurd (cc)
 
 -- also of a tree that no text spells: there is a constant column, and each has its key
-columns_of_view : (t : Tree) → fault_of t ≡ None → (1 ≤ length (query_from t).constants) × (length (query_from t).keys ≡ length (query_from t).constants)
+columns_of_view : (t : ViewTree) → fault_of t ≡ None → (1 ≤ length (query_from t).constants) × (length (query_from t).keys ≡ length (query_from t).constants)
 columns_of_view t h =
     let ds = t.decls in
     let later = none_right (declarations_fault ds) _ h in
@@ -106,7 +106,7 @@ columns_of_view t h =
     let as_many = count ∙ sym (length-map t.select (typed_term ds)) in
     (some_constant ds t.columns columns, keys_many ds t.columns columns (map (typed_term ds) t.select) as_many)
 
-pub has_columns : (t : Tree) (q : Query) → typed t ≡ Ok q → (1 ≤ length q.constants) × (length q.keys ≡ length q.constants)
+pub has_columns : (t : ViewTree) (q : Query) → typed t ≡ Ok q → (1 ≤ length q.constants) × (length q.keys ≡ length q.constants)
 unfolding typed
 has_columns t q e =
     let (none, is) = by_fault (fault_of t) e in

@@ -7,7 +7,7 @@ use Rattle.std.proofs.lemmas.List.{length-map}
 use Rattle.std.proofs.lemmas.List.Quantifiers.{position-Some}
 use Rattle.ss_text.specs.Texts.{Text}
 use Rattle.view_def.specs.Query.{Query}
-use Rattle.view_def.specs.Tree.{Tree}
+use Rattle.view_def.specs.Tree.{ViewTree}
 use Rattle.view_def.specs.Conditions.{Condition}
 use Rattle.view_def.specs.declared.typed.Place.{Place}
 use Rattle.view_def.specs.declared.typed.Place.TheVariants as place
@@ -29,11 +29,11 @@ use Rattle.var_typing.specs.Typed.{fault_of, answered, body_of, body_parts, quer
 use Rattle.var_typing.proofs.TermLemmas.{terms_same}
 use Rattle.var_typing.proofs.WalkLemmas.{after_none, at_some, none_right, not_true}
 
-refused : (t : Tree) (f : TypeFault) → fault_of t ≡ Some f → typed t ≡ Err f
+refused : (t : ViewTree) (f : TypeFault) → fault_of t ≡ Some f → typed t ≡ Err f
 unfolding typed
 refused t f h = ap (λ (g : Option TypeFault). answered g (query_from t)) h
 
-accepted : (t : Tree) → fault_of t ≡ None → typed t ≡ Ok (query_from t)
+accepted : (t : ViewTree) → fault_of t ≡ None → typed t ≡ Ok (query_from t)
 unfolding typed
 accepted t h = ap (λ (g : Option TypeFault). answered g (query_from t)) h
 
@@ -41,11 +41,11 @@ or_else-assoc : (f g h : Option TypeFault) → ((f or_else g) or_else h) ≡ (f 
 or_else-assoc None g h = refl
 or_else-assoc (Some f) g h = refl
 
-abbrev rest_terms : Tree → List Fold → Option TypeFault
+abbrev rest_terms : ViewTree → List Fold → Option TypeFault
 rest_terms t folds = terms_fault t.decls folds (t.select ++ terms_in_filter t.condition)
 
 -- a slice has the declarations of the tree
-module _ (t : Tree) (ds : List RawDecl) (e : ds ≡ t.decls) where
+module _ (t : ViewTree) (ds : List RawDecl) (e : ds ≡ t.decls) where
   pub declarations_refused : (f : TypeFault) → (f ≢ fault.NoMemory → declarations_fault ds ≡ Some f) → f ≢ fault.NoMemory → typed t ≡ Err f
   declarations_refused f h n = refused t f (at_some (declarations_fault t.decls) _ f (ap declarations_fault (sym e) ∙ h n))
 
@@ -78,14 +78,14 @@ module _ (t : Tree) (ds : List RawDecl) (e : ds ≡ t.decls) where
           ∙ ap (λ (x : Text × Place × Parts). query_with x ranges (body_parts b)) (sym hs))
 
 -- as many terms as columns
-pub counts : (t : Tree) → count_fault t ≡ None → length t.columns ≡ length t.select
+pub counts : (t : ViewTree) → count_fault t ≡ None → length t.columns ≡ length t.select
 counts t h = same_count (length t.columns) (length t.select) (not_true (not (nat_eq (length t.columns) (length t.select))) _ h)
   where
     same_count : (a b : ℕ) → not (nat_eq a b) ≡ false → a ≡ b
     same_count a b h = grind (arith, nat_tests)
 
 -- the place of the variable column is one of the terms
-pub spot_within : (t : Tree) (h : Header) (b : Body) → (header_fault t or_else count_fault t) ≡ None → header_parts h ≡ header_of t → body_parts b ≡ body_of t → ForSome h.columns.spot (λ k. k < length b.terms.items)
+pub spot_within : (t : ViewTree) (h : Header) (b : Body) → (header_fault t or_else count_fault t) ≡ None → header_parts h ≡ header_of t → body_parts b ≡ body_of t → ForSome h.columns.spot (λ k. k < length b.terms.items)
 spot_within t h b none hs bs k is =
     let at = position-Some is_variable (column_places t.decls t.columns) k (place.Fixed []) (ap (λ (x : Text × Place × Parts). x.2.1) (sym hs) ∙ is) in
     let places = length-map t.columns (place_named t.decls) in

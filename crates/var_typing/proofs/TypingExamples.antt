@@ -18,7 +18,7 @@ use Rattle.view_def.specs.declared.typed.Term.TheVariants as term
 use Rattle.view_def.specs.declared.typed.Range.TheVariants as range
 use Rattle.view_def.specs.RawConditions.{Raw, raws, AnyRaw, AllRaw, NotRaw, CompareRaw}
 use Rattle.view_def.specs.Conditions.{Compares}
-use Rattle.view_def.specs.Tree.{Tree}
+use Rattle.view_def.specs.Tree.{ViewTree}
 use Rattle.view_def.specs.Query.{Query}
 use Rattle.var_typing.specs.declared.fault.TypeFault.{TypeFault}
 use Rattle.var_typing.specs.declared.fault.TypeFault.TheVariants as fault
@@ -51,7 +51,7 @@ attributes x = decl (written.Attributes (n (codes "d")) (n (codes "r"))) x
 abbrev alias : Text → Text → Text → RawDecl
 alias t a x = decl (written.Alias t (n a)) x
 
-abbrev view : List Text → List RawTerm → List RawDecl → Option Raw → Tree
+abbrev view : List Text → List RawTerm → List RawDecl → Option Raw → ViewTree
 view columns select decls c = record {
   view_db = n (codes "V");
   label = n (codes "t");
@@ -89,7 +89,7 @@ values_to_columns : typed (view (a ∷ D ∷ []) (dot T a ∷ dot T b ∷ []) (r
 unfolding typed is_table_label is_utf8 chars encode
 values_to_columns = refl
 
-abbrev columns_to_values : Name → Tree
+abbrev columns_to_values : Name → ViewTree
 columns_to_values attribute =
     view (a ∷ b ∷ c ∷ []) (dot T a ∷ raw.Lone D ∷ raw.Dot T attribute ∷ []) (attributes D ∷ rows (codes "r") T ∷ []) (Some (CompareRaw (raw.Lone D) Ne (raw.Literal a)))
 
@@ -121,21 +121,21 @@ abbrev E : Text
 E = codes "E"
 
 -- a view over these declarations, of the column a alone
-abbrev over : List RawDecl → Tree
+abbrev over : List RawDecl → ViewTree
 over ds = view (a ∷ []) (dot T a ∷ []) ds None
 
 -- a view over one relation
-abbrev of_one : List Text → List RawTerm → Tree
+abbrev of_one : List Text → List RawTerm → ViewTree
 of_one columns select = view columns select (rows relation T ∷ []) None
 
 abbrev equal : RawTerm → RawTerm → Option Raw
 equal s t = Some (CompareRaw s Eq t)
 
-abbrev named : Name → Name → Tree
+abbrev named : Name → Name → ViewTree
 named db label = record (of_one (a ∷ []) (dot T a ∷ [])) { view_db = db; label = label }
 
 -- each refusal alone
-abbrev alone : List (Tree × TypeFault)
+abbrev alone : List (ViewTree × TypeFault)
 alone =
     (over (rows relation T ∷ rows (codes "s") T ∷ []), fault.DeclaredTwice T)
     ∷ (of_one (a ∷ []) (dot (codes "B") a ∷ []), fault.NotDeclared (codes "B"))
@@ -166,7 +166,7 @@ alone =
     ∷ []
 
 -- two causes, of which the first on the walk is answered
-abbrev two_causes : List (Tree × TypeFault)
+abbrev two_causes : List (ViewTree × TypeFault)
 two_causes =
     -- a variable is not declared before itself
     (over (rows T T ∷ []), fault.NotDeclared T)
@@ -202,11 +202,11 @@ two_causes =
     ∷ (view (a ∷ []) (dot T a ∷ []) (rows relation T ∷ []) (equal (raw.Lone E) (raw.Lone D)), fault.NotDeclared E)
     ∷ []
 
-refusals : map (λ (p : Tree × TypeFault). typed p.0) alone ≡ map (λ (p : Tree × TypeFault). Err p.1) alone
+refusals : map (λ (p : ViewTree × TypeFault). typed p.0) alone ≡ map (λ (p : ViewTree × TypeFault). Err p.1) alone
 unfolding typed is_table_label is_utf8 chars encode
 refusals = refl
 
-first_refusals : map (λ (p : Tree × TypeFault). typed p.0) two_causes ≡ map (λ (p : Tree × TypeFault). Err p.1) two_causes
+first_refusals : map (λ (p : ViewTree × TypeFault). typed p.0) two_causes ≡ map (λ (p : ViewTree × TypeFault). Err p.1) two_causes
 unfolding typed is_table_label is_utf8 chars encode
 first_refusals = refl
 

@@ -29,12 +29,12 @@ too_many before d = where_true (nat_le 8 (length before) || (ranges_over_rows d 
 
 -- the names of a range from left to right, where so many declarations are in sight and these folds stand before
 abbrev pub range_fault : List RawDecl → ℕ → List Fold → RawRange → Option TypeFault
-range_fault ds sight folds raw.Databases = None
-range_fault ds sight folds (raw.Relations db) = name_fault ds sight db
-range_fault ds sight folds (raw.Attributes db rel) = name_fault ds sight db or_else name_fault ds sight rel
-range_fault ds sight folds (raw.Tuples db rel) = name_fault ds sight db or_else name_fault ds sight rel
-range_fault ds sight folds (raw.Values db rel a) = name_fault ds sight db or_else name_fault ds sight rel or_else name_fault ds sight a
-range_fault ds sight folds (raw.Alias x a) = attribute_fault ds sight folds x a
+range_fault ds visible folds raw.Databases = None
+range_fault ds visible folds (raw.Relations db) = name_fault ds visible db
+range_fault ds visible folds (raw.Attributes db rel) = name_fault ds visible db or_else name_fault ds visible rel
+range_fault ds visible folds (raw.Tuples db rel) = name_fault ds visible db or_else name_fault ds visible rel
+range_fault ds visible folds (raw.Values db rel a) = name_fault ds visible db or_else name_fault ds visible rel or_else name_fault ds visible a
+range_fault ds visible folds (raw.Alias x a) = attribute_fault ds visible folds x a
 
 -- the variable of a declaration, where an earlier one has it too
 abbrev pub declared_twice : List RawDecl → RawDecl → Option TypeFault

@@ -41,4 +41,4 @@ two_folds before x (f ∷ fs) = where_true (has_other before f) (TwoFolds x)
 
 -- an attribute of a tuple variable, where so many declarations are in sight and these folds stand before
 abbrev pub attribute_fault : List RawDecl → ℕ → List Fold → Text → Name → Option TypeFault
-attribute_fault ds sight folds x a = tuple_fault ds sight x or_else name_fault ds sight a or_else two_folds folds x (fold_of ds x a)
+attribute_fault ds visible folds x a = tuple_fault ds visible x or_else name_fault ds visible a or_else two_folds folds x (fold_of ds x a)

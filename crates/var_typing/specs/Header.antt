@@ -7,7 +7,7 @@ use Rattle.view_def.specs.declared.written.Name.{Name}
 use Rattle.view_def.specs.declared.written.RawDecl.{RawDecl}
 use Rattle.view_def.specs.declared.typed.Place.{Place}
 use Rattle.view_def.specs.declared.typed.Place.TheVariants as place
-use Rattle.view_def.specs.Tree.{Tree}
+use Rattle.view_def.specs.Tree.{ViewTree}
 use Rattle.var_typing.specs.declared.fault.TypeFault.{TypeFault}
 use Rattle.var_typing.specs.declared.fault.TypeFault.TheVariants.{WrongKind, BadLabel, TwoVariableColumns, ColumnTwice, NoConstantColumn, CountDiffers}
 use Rattle.var_typing.specs.declared.header.Columns.{Columns}
@@ -66,10 +66,10 @@ columns_fault ds columns =
     in_turn (column_fault ds) [] columns or_else where_true (is_empty (constants_of (column_places ds columns))) NoConstantColumn
 
 -- as many terms as columns
-abbrev pub count_fault : Tree → Option TypeFault
+abbrev pub count_fault : ViewTree → Option TypeFault
 count_fault t = where_true (not (nat_eq (length t.columns) (length t.select))) (CountDiffers (length t.columns) (length t.select))
 
-abbrev pub header_fault : Tree → Option TypeFault
+abbrev pub header_fault : ViewTree → Option TypeFault
 header_fault t =
     database_fault t.view_db.text (variable_named t.decls t.view_db)
     or_else label_fault t.decls t.label.text (variable_named t.decls t.label)
@@ -91,7 +91,7 @@ with_column spot (place.Fixed t) parts = (parts.0 ++ t ∷ [], parts.1, parts.2)
 with_column spot (place.Var k) parts = (parts.0, Some spot, Some (place.Var k))
 
 -- the view database, the table label and the columns
-abbrev pub header_of : Tree → Text × Place × Parts
+abbrev pub header_of : ViewTree → Text × Place × Parts
 header_of t = (t.view_db.text, place_named t.decls t.label, parts_of (column_places t.decls t.columns))
 
 abbrev pub header_parts : Header → Text × Place × Parts

@@ -24,5 +24,5 @@ Answers view refusal value answer =
     MatchResult answer (λ x. (refusal ≡ None) × (view x ≡ value)) (λ f. f ≢ fault.NoMemory → refusal ≡ Some f)
 
 -- the same, where there is no value
-abbrev pub Passes : {A : Type 0} → Option TypeFault → Result A TypeFault → Type 0
-Passes refusal answer = MatchResult answer (λ x. refusal ≡ None) (λ f. f ≢ fault.NoMemory → refusal ≡ Some f)
+abbrev pub IsJudged : {A : Type 0} → Option TypeFault → Result A TypeFault → Type 0
+IsJudged refusal answer = MatchResult answer (λ x. refusal ≡ None) (λ f. f ≢ fault.NoMemory → refusal ≡ Some f)

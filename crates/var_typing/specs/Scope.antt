@@ -37,20 +37,20 @@ abbrev pub place_named : List RawDecl → Name → Place
 place_named ds n = variable_or n.text (variable_named ds n)
 
 -- a variable has to be in sight, that is, one of so many first declarations, and no tuple variable
-abbrev pub sight_fault : List RawDecl → ℕ → Text → Option ℕ → Option TypeFault
-sight_fault ds sight x None = None
-sight_fault ds sight x (Some k) = where_true (nat_le sight k) (NotDeclared x) or_else where_true (is_tuple ds k) (WrongKind x)
+abbrev pub visible_fault : List RawDecl → ℕ → Text → Option ℕ → Option TypeFault
+visible_fault ds visible x None = None
+visible_fault ds visible x (Some k) = where_true (nat_le visible k) (NotDeclared x) or_else where_true (is_tuple ds k) (WrongKind x)
 
 abbrev pub name_fault : List RawDecl → ℕ → Name → Option TypeFault
-name_fault ds sight n = sight_fault ds sight n.text (variable_named ds n)
+name_fault ds visible n = visible_fault ds visible n.text (variable_named ds n)
 
 -- an identifier before a point: it has to be a tuple variable in sight
 abbrev pub tuple_at_fault : List RawDecl → ℕ → Text → Option ℕ → Option TypeFault
-tuple_at_fault ds sight x None = Some (NotDeclared x)
-tuple_at_fault ds sight x (Some k) = where_true (nat_le sight k) (NotDeclared x) or_else where_true (not (is_tuple ds k)) (WrongKind x)
+tuple_at_fault ds visible x None = Some (NotDeclared x)
+tuple_at_fault ds visible x (Some k) = where_true (nat_le visible k) (NotDeclared x) or_else where_true (not (is_tuple ds k)) (WrongKind x)
 
 abbrev pub tuple_fault : List RawDecl → ℕ → Text → Option TypeFault
-tuple_fault ds sight x = tuple_at_fault ds sight x (declared_at ds x)
+tuple_fault ds visible x = tuple_at_fault ds visible x (declared_at ds x)
 
 -- the place of an identifier that is declared
 abbrev pub variable_at : List RawDecl → Text → ℕ

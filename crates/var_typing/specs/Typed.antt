@@ -5,7 +5,7 @@ use Rattle.view_def.specs.declared.typed.Place.{Place}
 use Rattle.view_def.specs.declared.typed.Range.{Range}
 use Rattle.view_def.specs.declared.typed.Term.{Term}
 use Rattle.view_def.specs.declared.written.RawDecl.{RawDecl}
-use Rattle.view_def.specs.Tree.{Tree}
+use Rattle.view_def.specs.Tree.{ViewTree}
 use Rattle.view_def.specs.Conditions.{Condition, condition_of}
 use Rattle.view_def.specs.Query.{Query}
 use Rattle.var_typing.specs.declared.fault.TypeFault.{TypeFault}
@@ -16,7 +16,7 @@ use Rattle.var_typing.specs.Header.{header_fault, count_fault, Parts, header_of}
 use Rattle.var_typing.specs.Terms.{terms_fault, terms_in_filter, typed_term, typed_condition}
 
 -- the first refusal on the walk: declarations, header, counts, terms
-abbrev pub fault_of : Tree → Option TypeFault
+abbrev pub fault_of : ViewTree → Option TypeFault
 fault_of t =
     declarations_fault t.decls
     or_else header_fault t
@@ -29,7 +29,7 @@ without None xs = xs
 without (Some k) xs = remove xs k
 
 -- the terms of SELECT, and the condition
-abbrev pub body_of : Tree → List Term × Option Condition
+abbrev pub body_of : ViewTree → List Term × Option Condition
 body_of t = (map (typed_term t.decls) t.select, option_map (typed_condition t.decls) t.condition)
 
 abbrev pub body_parts : Body → List Term × Option Condition
@@ -50,12 +50,12 @@ query_with (db, label, (constants, spot, column)) decls (terms, c) = record {
 }
 
 -- the view, where nothing is refused
-abbrev pub query_from : Tree → Query
+abbrev pub query_from : ViewTree → Query
 query_from t = query_with (header_of t) (map (λ (d : RawDecl). typed_range t.decls d.range) t.decls) (body_of t)
 
 abbrev pub answered : Option TypeFault → Query → Result Query TypeFault
 answered None q = Ok q
 answered (Some f) q = Err f
 
-unfoldable pub typed : Tree → Result Query TypeFault
+unfoldable pub typed : ViewTree → Result Query TypeFault
 typed t = answered (fault_of t) (query_from t)

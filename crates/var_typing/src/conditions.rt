@@ -20,7 +20,7 @@ pub(crate) fn type_filter(
     folds: &mut Vec<Fold>,
     filter: &Option<RawCond>,
 ) -> Result<Option<Cond>, TypeFault>
-    requires { scope.now.sight ≡ length scope.now.decls.now }
+    requires { scope.now.visible ≡ length scope.now.decls.now }
     ensures { let ds = scope.now.decls.now in let c = option_map raw_of filter.now in
         Answers (option_map condition_of) (terms_fault ds folds.old.items (terms_in_filter c))
         (option_map (typed_condition ds) c) result }
@@ -38,7 +38,7 @@ fn type_condition(
     folds: &mut Vec<Fold>,
     condition: &RawCond,
 ) -> Result<Cond, TypeFault>
-    requires { scope.now.sight ≡ length scope.now.decls.now }
+    requires { scope.now.visible ≡ length scope.now.decls.now }
     ensures answer { let ds = scope.now.decls.now in let c = raw_of condition.now in
         Answers condition_of (terms_fault ds folds.old.items (terms_in c)) (typed_condition ds c) result }
     ensures taken { let more = flat_map (term_folds scope.now.decls.now) (terms_in (raw_of condition.now)) in
@@ -62,7 +62,7 @@ fn type_members(
     folds: &mut Vec<Fold>,
     members: &[RawCond],
 ) -> Result<Vec<Cond>, TypeFault>
-    requires { scope.now.sight ≡ length scope.now.decls.now }
+    requires { scope.now.visible ≡ length scope.now.decls.now }
     ensures answer { let ds = scope.now.decls.now in let cs = raws (map raw_of members.now) in
         Answers (λ v. conditions_of (map condition_of v.items)) (terms_fault ds folds.old.items (terms_in_each cs))
         (typed_conditions ds cs) result }
@@ -96,7 +96,7 @@ fn type_comparison(
     op: Op,
     right: &RawTerm,
 ) -> Result<Cond, TypeFault>
-    requires { scope.now.sight ≡ length scope.now.decls.now }
+    requires { scope.now.visible ≡ length scope.now.decls.now }
     ensures answer { let ds = scope.now.decls.now in
         Answers condition_of (terms_fault ds folds.old.items (left.now ∷ right.now ∷ []))
         (Compares (typed_term ds left.now) op (typed_term ds right.now)) result }

@@ -3,7 +3,7 @@ ghost use Rattle.std.specs.Prelude.{◌≡◌, ◌<◌, ◌≤◌, ◌++◌, [],
 ghost use Rattle.view_def.specs.declared.written.RawDecl.{RawDecl};
 ghost use Rattle.var_typing.specs.Declarations.{ranges_over_rows, too_many, range_fault, declared_twice, range_folds, alias_folds, declaration_after, declarations_fault, typed_range};
 ghost use Rattle.var_typing.specs.Folds.{SameOthers};
-ghost use Rattle.var_typing.specs.Refusals.{Answers, Passes};
+ghost use Rattle.var_typing.specs.Refusals.{Answers, IsJudged};
 
 use crate::TypeFault;
 use crate::folds::Fold;
@@ -51,7 +51,7 @@ fn type_declaration(
     check_number(before, decl)?;
     let scope = Scope {
         decls,
-        sight: before.len(),
+        visible: before.len(),
     };
     let range = type_range(&scope, folds, &decl.range)?;
     check_new(before, decl)?;
@@ -68,7 +68,7 @@ fn ranges_over_rows(decl: &RawDecl) -> bool
 }
 
 fn check_number(before: &[RawDecl], decl: &RawDecl) -> Result<(), TypeFault>
-    ensures passes { Passes (too_many before.now decl.now) result }
+    ensures passes { IsJudged (too_many before.now decl.now) result }
     ensures few { OnOk result (length before.now < 8) }
 {
     if before.len() >= MOST
@@ -94,7 +94,7 @@ fn count_over_rows(decls: &[RawDecl]) -> usize
 }
 
 fn check_new(before: &[RawDecl], decl: &RawDecl) -> Result<(), TypeFault>
-    ensures { Passes (declared_twice before.now decl.now) result }
+    ensures { IsJudged (declared_twice before.now decl.now) result }
 {
     if declared_at(before, &decl.var).is_some() {
         return Err(TypeFault::DeclaredTwice {
@@ -110,7 +110,7 @@ fn type_range(
     range: &RawRange,
 ) -> Result<Range, TypeFault>
     ensures answer { let ds = scope.now.decls.now in
-        Answers (λ r. r) (range_fault ds scope.now.sight folds.old.items range.now) (typed_range ds range.now) result }
+        Answers (λ r. r) (range_fault ds scope.now.visible folds.old.items range.now) (typed_range ds range.now) result }
     ensures taken { OnOk result
         (SameOthers (folds.old.items ++ range_folds scope.now.decls.now range.now) folds.new.items) }
 {

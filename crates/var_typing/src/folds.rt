@@ -1,7 +1,7 @@
 //! Variables in attribute places: at most one for each tuple variable.
 ghost use Rattle.std.specs.Prelude.{◌≡◌, ◌++◌, [], ◌∷◌, OnOk};
 ghost use Rattle.var_typing.specs.Folds.{fold_at, is_other, is_same, has_other, two_folds, SameOthers};
-ghost use Rattle.var_typing.specs.Refusals.{Passes};
+ghost use Rattle.var_typing.specs.Refusals.{IsJudged};
 
 use crate::TypeFault;
 use ss_text::{NoMemory, Text};
@@ -36,7 +36,7 @@ pub(crate) fn take_fold(
     tuple: u32,
     attribute: &Place,
 ) -> Result<(), TypeFault>
-    ensures answer { Passes (two_folds folds.old.items identifier.now (fold_at tuple attribute.now)) result }
+    ensures answer { IsJudged (two_folds folds.old.items identifier.now (fold_at tuple attribute.now)) result }
     ensures taken { OnOk result
         (SameOthers (folds.old.items ++ fold_at tuple attribute.now) folds.new.items) }
 {

@@ -5,7 +5,7 @@ ghost use Rattle.view_def.specs.Tree.{tree_of};
 ghost use Rattle.var_typing.specs.Header.{name_label_fault, database_fault, label_fault, columns_fault, column_places, column_after, count_fault, header_fault, header_of, header_parts, column_parts, parts_of, with_column};
 ghost use Rattle.view_def.specs.declared.typed.Place.TheVariants as place;
 ghost use Rattle.var_typing.specs.declared.fault.TypeFault.TheVariants.{TwoVariableColumns, ColumnTwice};
-ghost use Rattle.var_typing.specs.Refusals.{where_true, ◌or_else◌, Answers, Passes};
+ghost use Rattle.var_typing.specs.Refusals.{where_true, ◌or_else◌, Answers, IsJudged};
 ghost use Rattle.var_typing.specs.Scope.{variable_named, place_named};
 
 use crate::TypeFault;
@@ -112,7 +112,7 @@ impl Columns {
     fn add(&mut self, scope: &Scope<'_>, spot: usize, name: &Name) -> Result<(), TypeFault>
         requires { length scope.now.decls.now ≤ 8 }
         ensures passes { let ds = scope.now.decls.now in let varies = is_some self.old.spot in
-            Passes (column_after ds self.old.constants.keys varies name.now.text (variable_named ds name.now)) result }
+            IsJudged (column_after ds self.old.constants.keys varies name.now.text (variable_named ds name.now)) result }
         ensures added { let column = place_named scope.now.decls.now name.now in
             OnOk result (column_parts self.new ≡ with_column spot column (column_parts self.old)) }
     {
@@ -126,7 +126,7 @@ impl Columns {
     }
 
     fn add_variable(&mut self, spot: usize, variable: u32, name: &Text) -> Result<(), TypeFault>
-        ensures passes { Passes (where_true (is_some self.old.spot) (TwoVariableColumns name.now)) result }
+        ensures passes { IsJudged (where_true (is_some self.old.spot) (TwoVariableColumns name.now)) result }
         ensures added { OnOk result
             (column_parts self.new ≡ with_column spot (place.Var variable) (column_parts self.old)) }
     {
@@ -140,7 +140,7 @@ impl Columns {
 }
 
 fn add_constant(constants: &mut IndexSet<Text>, name: &Text) -> Result<(), TypeFault>
-    ensures passes { Passes (where_true (is_in name.now constants.old.keys) (ColumnTwice name.now)) result }
+    ensures passes { IsJudged (where_true (is_in name.now constants.old.keys) (ColumnTwice name.now)) result }
     ensures added { OnOk result (constants.new.keys ≡ constants.old.keys ++ name.now ∷ []) }
 {
     let name = name.copy()?;
@@ -152,7 +152,7 @@ fn add_constant(constants: &mut IndexSet<Text>, name: &Text) -> Result<(), TypeF
 }
 
 fn check_count(view: &ViewText) -> Result<(), TypeFault>
-    ensures { Passes (count_fault (tree_of view.now)) result }
+    ensures { IsJudged (count_fault (tree_of view.now)) result }
 {
     let columns = view.columns.len();
     let terms = view.select.len();

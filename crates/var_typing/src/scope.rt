@@ -2,7 +2,7 @@
 ghost use Rattle.std.specs.Prelude.{◌≡◌, ◌<◌, ◌≤◌, ◌++◌, length, Some, IfSome, OnOk};
 ghost use Rattle.var_typing.specs.Folds.{fold_of, attribute_fault, SameOthers};
 ghost use Rattle.var_typing.specs.Refusals.{where_true, Answers};
-ghost use Rattle.var_typing.specs.Scope.{declared_at, is_tuple, variable_named, place_named, variable_at, sight_fault, name_fault, tuple_at_fault, tuple_fault};
+ghost use Rattle.var_typing.specs.Scope.{declared_at, is_tuple, variable_named, place_named, variable_at, visible_fault, name_fault, tuple_at_fault, tuple_fault};
 ghost use Rattle.var_typing.specs.declared.fault.TypeFault.TheVariants.{WrongKind};
 
 use crate::TypeFault;
@@ -22,8 +22,8 @@ pub(crate) fn declared_at(decls: &[RawDecl], identifier: &Text) -> Option<usize>
 #[derive(Clone, Copy)]
 pub(crate) struct Scope<'a> {
     pub decls: &'a [RawDecl],
-    pub sight: usize,
-    ghost few: { sight ≤ 8 },
+    pub visible: usize,
+    ghost few: { visible ≤ 8 },
 }
 
 impl Scope<'_> {
@@ -67,9 +67,9 @@ impl Scope<'_> {
 
     // The same, where it has to be in sight.
     fn text_variable_in_sight(&self, place: usize, identifier: &Text) -> Result<u32, TypeFault>
-        ensures { Answers (λ j. j) (sight_fault self.now.decls.now self.now.sight identifier.now (Some place)) place result }
+        ensures { Answers (λ j. j) (visible_fault self.now.decls.now self.now.visible identifier.now (Some place)) place result }
     {
-        if place >= self.sight {
+        if place >= self.visible {
             return Err(TypeFault::NotDeclared {
                 name: identifier.copy()?,
             });
@@ -80,7 +80,7 @@ impl Scope<'_> {
     /// What a name stands for.
     pub fn place(&self, name: &Name) -> Result<Place, TypeFault>
         ensures { let ds = self.now.decls.now in
-            Answers (λ p. p) (name_fault ds self.now.sight name.now) (place_named ds name.now) result }
+            Answers (λ p. p) (name_fault ds self.now.visible name.now) (place_named ds name.now) result }
     {
         match self.variable(name) {
             None => Ok(Place::Fixed(name.text.copy()?)),
@@ -90,9 +90,9 @@ impl Scope<'_> {
 
     // The variable `identifier` of the declaration at `place`, which has to be a tuple variable in sight.
     fn tuple_in_sight(&self, place: usize, identifier: &Text) -> Result<u32, TypeFault>
-        ensures { Answers (λ j. j) (tuple_at_fault self.now.decls.now self.now.sight identifier.now (Some place)) place result }
+        ensures { Answers (λ j. j) (tuple_at_fault self.now.decls.now self.now.visible identifier.now (Some place)) place result }
     {
-        if place >= self.sight {
+        if place >= self.visible {
             return Err(TypeFault::NotDeclared {
                 name: identifier.copy()?,
             });
@@ -108,7 +108,7 @@ impl Scope<'_> {
     // A tuple variable.
     fn tuple_variable(&self, identifier: &Text) -> Result<u32, TypeFault>
         ensures { let ds = self.now.decls.now in
-            Answers (λ j. j) (tuple_fault ds self.now.sight identifier.now) (variable_at ds identifier.now) result }
+            Answers (λ j. j) (tuple_fault ds self.now.visible identifier.now) (variable_at ds identifier.now) result }
     {
         match declared_at(self.decls, identifier) {
             None => Err(TypeFault::NotDeclared {
@@ -126,7 +126,7 @@ impl Scope<'_> {
         attribute: &Name,
     ) -> Result<(u32, Place), TypeFault>
         ensures answer { let ds = self.now.decls.now in
-            Answers (λ p. p) (attribute_fault ds self.now.sight folds.old.items identifier.now attribute.now)
+            Answers (λ p. p) (attribute_fault ds self.now.visible folds.old.items identifier.now attribute.now)
             (variable_at ds identifier.now, place_named ds attribute.now) result }
         ensures taken { OnOk result
             (SameOthers (folds.old.items ++ fold_of self.now.decls.now identifier.now attribute.now) folds.new.items) }

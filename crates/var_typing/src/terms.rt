@@ -14,7 +14,7 @@ use view_def::{RawTerm, Term};
 
 // An identifier alone.
 fn type_lone(scope: &Scope<'_>, identifier: &Text) -> Result<u32, TypeFault>
-    requires { scope.now.sight ≡ length scope.now.decls.now }
+    requires { scope.now.visible ≡ length scope.now.decls.now }
     ensures { let ds = scope.now.decls.now in
         Answers (λ k. k) (lone_fault ds identifier.now (declared_at ds identifier.now)) (variable_at ds identifier.now) result }
 {
@@ -32,7 +32,7 @@ pub(crate) fn type_term(
     folds: &mut Vec<Fold>,
     term: &RawTerm,
 ) -> Result<Term, TypeFault>
-    requires { scope.now.sight ≡ length scope.now.decls.now }
+    requires { scope.now.visible ≡ length scope.now.decls.now }
     ensures answer { let ds = scope.now.decls.now in
         Answers (λ t. t) (term_fault ds folds.old.items term.now) (typed_term ds term.now) result }
     ensures taken { OnOk result
@@ -55,7 +55,7 @@ pub(crate) fn type_terms(
     folds: &mut Vec<Fold>,
     terms: &[RawTerm],
 ) -> Result<Vec<Term>, TypeFault>
-    requires { scope.now.sight ≡ length scope.now.decls.now }
+    requires { scope.now.visible ≡ length scope.now.decls.now }
     ensures answer { let ds = scope.now.decls.now in
         Answers (λ v. v.items) (terms_fault ds folds.old.items terms.now) (map (typed_term ds) terms.now) result }
     ensures taken { let more = flat_map (term_folds scope.now.decls.now) terms.now in

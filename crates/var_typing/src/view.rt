@@ -47,7 +47,7 @@ pub fn type_view(alloc: Global, view: &ViewText) -> Result<View, TypeFault>
     let ranges = type_declarations(alloc, decls, &mut folds)?;
     let scope = Scope {
         decls,
-        sight: decls.len(),
+        visible: decls.len(),
     };
     let header = type_header(alloc, &scope, view)?;
     let body = type_body(alloc, &scope, &mut folds, view)?;
@@ -61,7 +61,7 @@ fn type_body(
     view: &ViewText,
 ) -> Result<Body, TypeFault>
     requires whole { scope.now.decls.now ≡ view.now.decls.items }
-    requires all { scope.now.sight ≡ length scope.now.decls.now }
+    requires all { scope.now.visible ≡ length scope.now.decls.now }
     ensures { let t = tree_of view.now in
         Answers body_parts (terms_fault t.decls folds.old.items (t.select ++ terms_in_filter t.condition)) (body_of t) result }
 {
@@ -114,50 +114,5 @@ fn split_terms(mut terms: Vec<Term>, spot: Option<usize>) -> (Vec<Term>, Option<
             let value = terms.remove(k);
             (terms, Some(value))
         }
-    }
-}
-
-#[cfg(test)]
-mod tests {
-    use super::*;
-    use std::test::Fail;
-    use view_def::{Name, RawTerm};
-
-    fn named(alloc: Global, text: &[u8]) -> Result<Name, NoMemory> {
-        let text = Text::of(alloc, text)?;
-        Ok(Name {
-            text,
-            quoted: false,
-        })
-    }
-
-    fn empty(alloc: Global, view_db: Name, label: Name) -> ViewText {
-        ViewText {
-            view_db,
-            label,
-            columns: Vec::new(alloc),
-            select: Vec::new(alloc),
-            decls: Vec::new(alloc),
-            filter: None,
-        }
-    }
-
-    fn literal(alloc: Global) -> Result<RawTerm, NoMemory> {
-        Ok(RawTerm::Literal(Text::of(alloc, b"x")?))
-    }
-
-    // A view of one column and a literal, without declarations.
-    #[test]
-    fn one_literal(rt: HostRuntime) -> Result<(), Fail> {
-        let alloc = rt.alloc();
-        let label = named(alloc, b"t")?;
-        let mut view = empty(alloc, named(alloc, b"V")?, label);
-        let refused = type_view(alloc, &view);
-        assert!(rt; matches!(refused, Err(TypeFault::NoConstantColumn)));
-        view.columns.push(named(alloc, b"a")?)?;
-        view.select.push(literal(alloc)?)?;
-        let typed = type_view(alloc, &view)?;
-        assert!(rt; matches!(typed.keys.as_slice(), [Term::Literal(_)]));
-        Ok(())
     }
 }

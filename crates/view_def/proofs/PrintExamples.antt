@@ -10,7 +10,7 @@ use Rattle.view_def.specs.declared.written.RawRange.{RawRange}
 use Rattle.view_def.specs.declared.written.RawRange.TheVariants as range
 use Rattle.view_def.specs.declared.written.RawDecl.{RawDecl}
 use Rattle.view_def.specs.RawConditions.{Raw, raws, AnyRaw, AllRaw, NotRaw, CompareRaw}
-use Rattle.view_def.specs.Tree.{Tree}
+use Rattle.view_def.specs.Tree.{ViewTree}
 use Rattle.view_def.specs.Print.{print, condition_text, name_text}
 
 abbrev bare : Text → Name
@@ -20,7 +20,7 @@ abbrev declared : RawRange → Text → RawDecl
 declared r x = record { range = r; var = x }
 
 -- values to columns
-abbrev AtoB : Tree
+abbrev AtoB : ViewTree
 AtoB = record {
   view_db = bare (codes "AtoB");
   label = bare (codes "salInfo");

@@ -11,7 +11,7 @@ use Rattle.view_def.specs.declared.written.RawRange.{RawRange}
 use Rattle.view_def.specs.declared.written.RawRange.TheVariants as range
 use Rattle.view_def.specs.declared.written.RawDecl.{RawDecl}
 use Rattle.view_def.specs.RawConditions.{Raw, Raws, AnyRaw, AllRaw, NotRaw, CompareRaw, none, more}
-use Rattle.view_def.specs.Tree.{Tree}
+use Rattle.view_def.specs.Tree.{ViewTree}
 
 -- a text between two quotes, each quote inside doubled
 abbrev pub in_quotes : ℕ → Text → Text
@@ -85,14 +85,14 @@ abbrev pub filter_text : Option Raw → Text
 filter_text None = []
 filter_text (Some c) = codes " WHERE " ++ condition_text c
 
-abbrev pub header_text : Tree → Text
+abbrev pub header_text : ViewTree → Text
 header_text v = path_text v.view_db v.label ++ codes "(" ++ join_by name_text (codes ", ") v.columns ++ codes ")"
 
-abbrev pub query_text : Tree → Text
+abbrev pub query_text : ViewTree → Text
 query_text v = codes "SELECT " ++ join_by term_text (codes ", ") v.select
     ++ codes " FROM " ++ join_by declaration_text (codes ", ") v.decls
     ++ filter_text v.condition
 
 -- the whole text, which ends with one line feed
-unfoldable pub print : Tree → Text
+unfoldable pub print : ViewTree → Text
 print v = codes "CREATE VIEW " ++ header_text v ++ codes " AS " ++ query_text v ++ codes "\n"

@@ -6,7 +6,7 @@ use Rattle.view_def.specs.declared.written.RawDecl.{RawDecl}
 use Rattle.view_def.specs.declared.written.ViewText.{ViewText}
 use Rattle.view_def.specs.RawConditions.{Raw, raw_of}
 
-pub record Tree : Type 0 where
+pub record ViewTree : Type 0 where
   pub view_db : Name
   pub label : Name
   pub columns : List Name
@@ -14,7 +14,7 @@ pub record Tree : Type 0 where
   pub decls : List RawDecl
   pub condition : Option Raw
 
-abbrev pub tree_of : ViewText → Tree
+abbrev pub tree_of : ViewText → ViewTree
 tree_of v = record {
   view_db = v.view_db;
   label = v.label;

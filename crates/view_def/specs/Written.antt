@@ -1,7 +1,7 @@
 -- What every definition that is spelled by some text has.
 use Rattle.std.specs.Prelude.{◌≡◌, ◌≤◌, Bool, true, false, ◌&&◌, length, Option, Some, None}
 use Rattle.view_def.specs.RawConditions.{Raw, Raws, AnyRaw, AllRaw, NotRaw, CompareRaw, none, more}
-use Rattle.view_def.specs.Tree.{Tree}
+use Rattle.view_def.specs.Tree.{ViewTree}
 
 abbrev pub has_two : Raws → Bool
 has_two (more c (more d cs)) = true
@@ -24,7 +24,7 @@ is_well_joined_filter None = true
 is_well_joined_filter (Some c) = is_well_joined c
 
 -- at least one column, one term and one declaration
-pub record IsWritten (v : Tree) : Type 0 where
+pub record IsWritten (v : ViewTree) : Type 0 where
   pub columns : 1 ≤ length v.columns
   pub select : 1 ≤ length v.select
   pub decls : 1 ≤ length v.decls

@@ -291,32 +291,3 @@ fn push_all(out: &mut Vec<u8>, members: &[RawCond]) -> Result<(), NoMemory>
     }
     Ok(())
 }
-
-#[cfg(test)]
-mod tests {
-    use super::*;
-    use std::test::Fail;
-
-    fn named(alloc: Global, text: &[u8], quoted: bool) -> Result<Name, NoMemory> {
-        let text = Text::of(alloc, text)?;
-        Ok(Name { text, quoted })
-    }
-
-    // A definition with all its lists empty, which no text spells, has a text too.
-    #[test]
-    fn empty_lists(rt: HostRuntime) -> Result<(), Fail> {
-        let alloc = rt.alloc();
-        let view = ViewText {
-            view_db: named(alloc, b"V", false)?,
-            label: named(alloc, b"a \"b\"", true)?,
-            columns: Vec::new(alloc),
-            select: Vec::new(alloc),
-            decls: Vec::new(alloc),
-            filter: Some(RawCond::Any(Vec::new(alloc))),
-        };
-        let text = view_text(alloc, &view)?;
-        let wanted = b"CREATE VIEW V::\"a \"\"b\"\"\"() AS SELECT  FROM  WHERE \n";
-        assert_eq!(rt; text.as_slice(), wanted.as_slice());
-        Ok(())
-    }
-}
