@@ -1,5 +1,5 @@
 -- One file, missing, sound or refused.
-use Rattle.std.proofs.Common.{◌≡◌, ◌∷◌, [], ℕ, List, Some, None, refl, map}
+use Rattle.std.proofs.Common.{◌≡◌, ◌∷◌, [], ℕ, List, Option, Some, None, refl, sym, ap, map, option_map, unwrap_or}
 use Rattle.ss_text.specs.Texts.{Text}
 use Rattle.outside.specs.Tree.{Tree, file_at}
 use Rattle.schema_model.specs.Catalogue.{relation_value}
@@ -22,3 +22,10 @@ module _ (t : Tree) (db folder file : Text) (count : ℕ) where
       → files_fault db count (files_read t folder (file ∷ [])) ≡ Some (told_fault db file f)
   unfolding files_fault
   file_refused bytes f e refused = rw (← e, refused) refl
+
+  pub front_refused : (f : FileFault) → option_map (λ (bytes : List ℕ). file_fault count (records_of bytes)) (file_at t folder file) ≡ Some (Some f) → files_fault db count (files_read t folder (file ∷ [])) ≡ Some (told_fault db file f)
+  front_refused f e = refused (file_at t folder file) refl e
+    where
+      refused : (held : Option (List ℕ)) → file_at t folder file ≡ held → option_map (λ (bytes : List ℕ). file_fault count (records_of bytes)) held ≡ Some (Some f) → files_fault db count (files_read t folder (file ∷ [])) ≡ Some (told_fault db file f)
+      refused None is e = cc e
+      refused (Some bytes) is e = file_refused bytes f (sym is) (ap (λ o. unwrap_or o None) e)

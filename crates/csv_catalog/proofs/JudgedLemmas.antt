@@ -49,7 +49,7 @@ file_behind count header rows more e =
     let none = both_none (header_fault header) (rows_fault (length header) 2 count rows) e in
     ap (λ o. option_or o (rows_fault (length header) 2 count (rows ++ more))) none.0 ∙ rows_behind (length header) 2 count rows more none.1
 
-next_refused : (count : ℕ) (rows : List Row) (row : Row) (more : List Row) (f : FileFault) → fault_so_far count rows ≡ None → next_fault count rows row ≡ Some f → file_fault count (rows ++ row ∷ more) ≡ Some f
+pub next_refused : (count : ℕ) (rows : List Row) (row : Row) (more : List Row) (f : FileFault) → fault_so_far count rows ≡ None → next_fault count rows row ≡ Some f → file_fault count (rows ++ row ∷ more) ≡ Some f
 unfolding file_fault
 next_refused count [] row more f none e = or_some (header_fault row) _ f e
 next_refused count (header ∷ rows) row more f none e =

@@ -15,3 +15,5 @@ pub mod LoadLemmas
 pub mod JudgedLemmas
 pub mod SavedLemmas
 pub mod SavedTreeLemmas
+pub mod FrontLemmas
+pub mod FoundLemmas

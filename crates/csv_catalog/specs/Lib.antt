@@ -7,5 +7,6 @@ pub mod Reading
 pub mod Put
 pub mod Reader
 pub mod Judged
+pub mod Found
 pub mod Saved
 pub mod SavedTree

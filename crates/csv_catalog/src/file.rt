@@ -7,16 +7,17 @@ ghost use Rattle.outside.specs.Reading.{OnlyRead};
 ghost use Rattle.csv_catalog.specs.Reading.{WhereTold, MayBeKept};
 
 use crate::LoadFault;
+use crate::found::{Found, found_file};
 use crate::judge::{Judged, judged_records, told_fault};
 use crate::listing::RelationFile;
 use crate::relation::ReadRelation;
-use outside::{Folders, StoreFault};
+use outside::Folders;
 use ss_text::Text;
 use std::alloc::Global;
 
 // Reads the relation of a file in the folder of a database, where so many rows were counted before. A file that
 // is not there has none.
-#[tactic(auto, using(crate::proofs::FileLemmas::file_missing, crate::proofs::FileLemmas::file_sound, crate::proofs::FileLemmas::file_refused, crate::proofs::FaultLemmas::some_record, crate::proofs::AllRecords::records_have_fields))]
+#[tactic(auto, using(crate::proofs::FileLemmas::file_missing, crate::proofs::FileLemmas::file_sound, crate::proofs::FileLemmas::file_refused, crate::proofs::FileLemmas::front_refused, crate::proofs::FaultLemmas::some_record, crate::proofs::AllRecords::records_have_fields))]
 pub(crate) fn read_relation<F: Folders>(
     alloc: Global,
     store: &mut F,
@@ -33,13 +34,13 @@ pub(crate) fn read_relation<F: Folders>(
     ensures read_fault { IsErrOf result LoadFault.ReadFault → Rose ((F.state store.old).read_faults) ((F.state store.new).read_faults) }
     ensures store { OnlyRead (F.state store.old) (F.state store.new) }
 {
-    let bytes = match store.read(alloc, folder, file.name()) {
-        Ok(Some(bytes)) => bytes,
-        Ok(None) => return Ok(None),
-        Err(StoreFault::Failed) => return Err(LoadFault::ReadFault),
-        Err(StoreFault::NoMemory) => return Err(LoadFault::NoMemory),
-    };
+    let found = found_file(alloc, store, folder, file.name(), count)?;
     let (name, label) = file.into_names();
+    let bytes = match found {
+        Found::Missing => return Ok(None),
+        Found::Whole { bytes } => bytes,
+        Found::Refused { fault } => return Err(told_fault(db, name, fault)?),
+    };
     match judged_records(alloc, bytes.as_slice(), count)? {
         Judged::Refused { fault } => Err(told_fault(db, name, fault)?),
         Judged::Sound { records } => Ok(Some(ReadRelation::of(label, records, count))),

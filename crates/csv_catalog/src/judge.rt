@@ -65,7 +65,7 @@ fn all_read(records: Vec<Row>) -> Judged
 }
 
 // The fault of the next record of a file, where those before it have none.
-fn next_fault(
+pub(crate) fn next_fault(
     alloc: Global,
     count: usize,
     records: &[Row],

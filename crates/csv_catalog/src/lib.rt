@@ -9,6 +9,8 @@ mod database;
 mod fault;
 mod file;
 mod files;
+mod found;
+mod front;
 mod judge;
 mod listing;
 mod loading;
@@ -18,8 +20,6 @@ mod read;
 mod records_text;
 mod relation;
 mod save;
-#[cfg(test)]
-mod tests;
 mod write;
 
 pub use fault::LoadFault;

@@ -1,5 +1,5 @@
 //! Folders of files.
-ghost use Rattle.std.specs.Prelude.{◌≡◌, [], ℕ, ◌≤◌, List, Option, Some, IfOk, OnOk, OnErr, IsErrOf, option_map, is_some, not, if◌then◌else◌};
+ghost use Rattle.std.specs.Prelude.{◌≡◌, [], ℕ, ◌≤◌, List, Option, Some, IfOk, IfSome, OnOk, OnErr, IsErrOf, option_map, is_some, length, take, not, if◌then◌else◌};
 ghost use Rattle.std.specs.List.Sorted.{IsStrictlySortedBy};
 ghost use Rattle.outside.specs.Counts.{Rose, risen};
 ghost use Rattle.outside.specs.States.{StoreState};
@@ -44,6 +44,22 @@ pub trait Folders {
         file: &Text,
     ) -> Result<Option<Text>, StoreFault>
         ensures told { IfOk result (λ bytes. (t : Tree) → (state self.old).tree ≡ Some t → bytes ≡ file_at t folder.now file.now) }
+        ensures failed { IsErrOf result StoreFault.Failed → Rose ((state self.old).read_faults) ((state self.new).read_faults) }
+        ensures steady { (state self.old).read_faults ≤ (state self.new).read_faults }
+        ensures tree { (state self.new).tree ≡ (state self.old).tree }
+        ensures writes { (state self.new).writes ≡ (state self.old).writes }
+        ensures write_faults { (state self.new).write_faults ≡ (state self.old).write_faults };
+
+    /// The first bytes of a file, at most so many, or nothing where it is missing.
+    fn front(
+        &mut self,
+        alloc: Global,
+        folder: &Text,
+        file: &Text,
+        most: usize,
+    ) -> Result<Option<Text>, StoreFault>
+        ensures told { IfOk result (λ bytes. (t : Tree) → (state self.old).tree ≡ Some t → bytes ≡ option_map (take most) (file_at t folder.now file.now)) }
+        ensures most { IfOk result (λ bytes. IfSome bytes (λ b. length b ≤ most)) }
         ensures failed { IsErrOf result StoreFault.Failed → Rose ((state self.old).read_faults) ((state self.new).read_faults) }
         ensures steady { (state self.old).read_faults ≤ (state self.new).read_faults }
         ensures tree { (state self.new).tree ≡ (state self.old).tree }

@@ -1,5 +1,5 @@
 //! Folders in memory.
-ghost use Rattle.std.specs.Prelude.{◌≡◌, ◌/◌, ◌<◌, ◌≤◌, [], All, Some, true, false, length, take, ◌↔◌, IfOk, OnOk, OnErr, IsErrOf, option_map, is_some, not, if◌then◌else◌};
+ghost use Rattle.std.specs.Prelude.{◌≡◌, ◌/◌, ◌<◌, ◌≤◌, [], All, Some, true, false, length, take, ◌↔◌, IfOk, IfSome, OnOk, OnErr, IsErrOf, option_map, is_some, not, if◌then◌else◌};
 ghost use Rattle.std.specs.FinMap as map;
 ghost use Rattle.std.specs.List.Sorted.{IsStrictlySortedBy};
 ghost use Rattle.ss_text.specs.Texts.{text_cmp};
@@ -145,6 +145,35 @@ impl Folders for MemFolders {
             return Err(StoreFault::Failed);
         }
         let bytes = self.store.read(alloc, folder, file)?;
+        self.reads.count();
+        Ok(bytes)
+    }
+
+    fn front(
+        &mut self,
+        alloc: Global,
+        folder: &Text,
+        file: &Text,
+        most: usize,
+    ) -> Result<Option<Text>, StoreFault>
+        ensures told { IfOk result (λ bytes. (t : Tree) → told self.old.tree ≡ Some t → bytes ≡ option_map (take most) (file_at t folder.now file.now)) }
+        ensures most { IfOk result (λ bytes. IfSome bytes (λ b. length b ≤ most)) }
+        ensures failed { IsErrOf result StoreFault.Failed → Rose (faults_of self.old.reads) (faults_of self.new.reads) }
+        ensures steady { faults_of self.old.reads ≤ faults_of self.new.reads }
+        ensures tree { told self.new.tree ≡ told self.old.tree }
+        ensures writes { self.new.writes ≡ self.old.writes }
+        ensures write_faults { faults_of self.new.changes ≡ faults_of self.old.changes }
+
+        // What is particular to it.
+        ensures fails { IsErrOf result StoreFault.Failed ↔ (next_fails self.old.reads ≡ true) }
+        ensures numbered { CountedUnlessNoMemory result self.old.reads self.new.reads }
+        ensures changes { self.new.changes ≡ self.old.changes }
+    {
+        if self.reads.next_fails() {
+            self.reads.count();
+            return Err(StoreFault::Failed);
+        }
+        let bytes = self.store.front(alloc, folder, file, most)?;
         self.reads.count();
         Ok(bytes)
     }

@@ -1,5 +1,5 @@
 //! The files of a store in memory, by folder and name.
-ghost use Rattle.std.specs.Prelude.{◌≡◌, IfOk, OnOk, OnErr, is_some, option_copied};
+ghost use Rattle.std.specs.Prelude.{◌≡◌, ◌≤◌, IfOk, IfSome, OnOk, OnErr, is_some, length, take, option_copied, option_map};
 ghost use Rattle.std.specs.FinMap as map;
 ghost use Rattle.std.specs.BTreeMap.{keys, IsOrdered};
 ghost use Rattle.std.specs.List.Sorted.{IsStrictlySortedBy};
@@ -35,6 +35,35 @@ fn copy_of(alloc: Global, text: Option<&Text>) -> Result<Option<Text>, NoMemory>
         Some(text) => Ok(Some(text.copy()?)),
         None => Ok(None),
     }
+}
+
+/// The first bytes that a file holds, at most so many.
+#[tactic(auto, using(crate::proofs::PlaceLemmas::get_place))]
+pub fn front(
+    alloc: Global,
+    files: &Files,
+    folder: &Text,
+    file: &Text,
+    most: usize,
+) -> Result<Option<Text>, NoMemory>
+    ensures front { IfOk result (λ bytes. bytes ≡ option_map (take most) (map.get (files_map files.now.entries) (folder.now, file.now))) }
+    ensures most { IfOk result (λ bytes. IfSome bytes (λ b. length b ≤ most)) }
+{
+    let place = (folder.copy()?, file.copy()?);
+    let bytes = front_of(alloc, files.get(&place), most)?;
+    Ok(bytes)
+}
+
+// The first bytes of a text that may be there.
+fn front_of(alloc: Global, text: Option<&Text>, most: usize) -> Result<Option<Text>, NoMemory>
+    ensures front { IfOk result (λ front. front ≡ option_map (take most) (option_copied text.entry)) }
+    ensures most { IfOk result (λ front. IfSome front (λ b. length b ≤ most)) }
+{
+    let Some(text) = text else {
+        return Ok(None);
+    };
+    let bytes = text.as_slice();
+    Ok(Some(Text::of(alloc, &bytes[..bytes.len().min(most)])?))
 }
 
 /// Gives a file these bytes.

@@ -97,6 +97,16 @@ impl Folders for SureFolders {
         Ok(places::find(alloc, &self.files, folder, file)?)
     }
 
+    fn front(
+        &mut self,
+        alloc: Global,
+        folder: &Text,
+        file: &Text,
+        most: usize,
+    ) -> Result<Option<Text>, StoreFault> {
+        Ok(places::front(alloc, &self.files, folder, file, most)?)
+    }
+
     fn write(
         &mut self,
         alloc: Global,
