@@ -17,8 +17,8 @@ use Rattle.tab_lines.specs.declared.lines.ReadStop.TheVariants as read
 use Rattle.tab_lines.proofs.LineLemmas.{whole_first, whole_none, lines_first, lines_last, some_line}
 use Rattle.course.specs.declared.status.Verdict.{Verdict}
 use Rattle.course.specs.declared.status.Halt.TheVariants as halt
-use Rattle.course.specs.Machine.{Reply, Goes, Ending, effects_of, prefixed, follow, course, Answered, Ended, CutOff, Ran, TookLittle, IsReadOut, BlamesRun, halt_of}
-use Rattle.course.proofs.MachineLemmas.{append_none, Mid, further, goes, halts, stops, mid_course, mid_halt, mid_stop, mid_idle, mid_end, mid_no_more, course_goes_on, line_goes_on, as_halt}
+use Rattle.course.specs.Answering.{Reply, Continues, Ending, effects_of, prefixed, follow, course, Answered, Ended, CutOff, Ran, TookLittle, IsReadOut, BlamesRun, halt_of}
+use Rattle.course.proofs.AnsweringLemmas.{append_none, Mid, further, goes, halts, stops, mid_course, mid_halt, mid_stop, mid_idle, mid_end, mid_no_more, course_goes_on, line_goes_on, as_halt}
 
 -- the bytes of the lines that were answered: all that was taken but for what the reader holds, which one read gave
 pub record Front (taken : List ℕ) (lines : List (List ℕ)) (reader : LinesState) : Type 0 where
@@ -39,7 +39,7 @@ pub record Reached {A : Type 0} (step : A → List ℕ → Reply A) (start : A) 
   pub whole : reader.ended ≡ false → (more : List ℕ) → whole_lines (taken ++ more) ≡ lines ++ whole_lines (reader.left ++ more)
   pub end : reader.ended ≡ true → left ≡ []
   pub front : Front taken lines reader
-  pub answered : follow step lines (Goes [] start) ≡ Goes effects state
+  pub answered : follow step lines (Continues [] start) ≡ Continues effects state
   pub done : now ≡ performed effects old
 
 -- where a run stands, if its input is told
@@ -212,7 +212,7 @@ module _ {A : Type 0} (step : A → List ℕ → Reply A) (finish : A → Ending
   -- after a line
   pub reached_more : (old : Contents) (state : A) (line left more : List ℕ) (later : Option (List ℕ)) (reader new_reader : LinesState) (now new : Contents) (self : A) (es : List Effect)
       → Reached step start bytes old state reader left now → Step (Ok (Line line)) reader new_reader left more later → lines_of (ahead reader left) ≡ line ∷ lines_of (ahead new_reader more)
-      → step state line ≡ Goes es self → new ≡ performed es now → Reached step start bytes old self new_reader more new
+      → step state line ≡ Continues es self → new ≡ performed es now → Reached step start bytes old self new_reader more new
   reached_more old state line left more later reader new_reader now new self es r s next is done = record {
     taken = r.taken ++ s.part;
     lines = r.lines ++ line ∷ [];
@@ -242,7 +242,7 @@ module _ {A : Type 0} (step : A → List ℕ → Reply A) (finish : A → Ending
       remains = s.told;
       effects = at.effects;
       state = state;
-      answered = ap (λ (ls : List (List ℕ)). follow step ls (Goes [] start)) (at.whole (s.going cut.no_end) s.part ∙ ap (λ (t : List (List ℕ)). at.lines ++ t) (whole_none (reader.left ++ s.part) cut.no_line) ∙ append_none at.lines) ∙ at.answered;
+      answered = ap (λ (ls : List (List ℕ)). follow step ls (Continues [] start)) (at.whole (s.going cut.no_end) s.part ∙ ap (λ (t : List (List ℕ)). at.lines ++ t) (whole_none (reader.left ++ s.part) cut.no_line) ∙ append_none at.lines) ∙ at.answered;
       done = at.done;
     },
     omega (arith, at.count, s.count, length-append at.taken s.part),
@@ -358,7 +358,7 @@ module _ {A : Type 0} (step : A → List ℕ → Reply A) (finish : A → Ending
     effects = r.effects;
     later = es;
     state = state;
-    goes = ap (λ (ls : List (List ℕ)). follow step ls (Goes [] start)) (sym r.front.lines_are) ∙ r.answered;
+    goes = ap (λ (ls : List (List ℕ)). follow step ls (Continues [] start)) (sym r.front.lines_are) ∙ r.answered;
     all = all;
     did = subst (λ (c : Contents). Partly es c (contents new)) r.done did;
   }

@@ -4,9 +4,9 @@
 //! knows nothing of when it is told.
 #![tactic(auto)]
 
-mod told;
+mod printing;
 
-pub use told::{
-    number_text, refuse, say, tell_aborted, tell_applied, tell_begun, tell_difference, tell_held,
-    tell_same, tell_script, tell_synced, tell_usage,
+pub use printing::{
+    number_text, print_aborted, print_applied, print_begun, print_difference, print_held,
+    print_same, print_script, print_synced, print_usage, refuse, say,
 };

@@ -79,61 +79,61 @@ line_fields row (changes.FieldCount got) = codes "field-count" ∷ first_field r
 line_fields row changes.NoMemory = []
 
 -- the database and the relation that a change names; one that names no relation has its database's name here
-abbrev pub database_in : Change → Text
-database_in (Insert db rel row) = db
-database_in (Delete db rel row) = db
-database_in (AddAttribute db rel name fill) = db
-database_in (DropAttribute db rel name) = db
-database_in (RenameAttribute db rel name to) = db
-database_in (CreateRelation db rel attributes) = db
-database_in (DropRelation db rel) = db
-database_in (RenameRelation db rel to) = db
-database_in (CreateDatabase db) = db
-database_in (DropDatabase db) = db
-database_in (RenameDatabase db to) = db
+abbrev pub database_named_by : Change → Text
+database_named_by (Insert db rel row) = db
+database_named_by (Delete db rel row) = db
+database_named_by (AddAttribute db rel name fill) = db
+database_named_by (DropAttribute db rel name) = db
+database_named_by (RenameAttribute db rel name to) = db
+database_named_by (CreateRelation db rel attributes) = db
+database_named_by (DropRelation db rel) = db
+database_named_by (RenameRelation db rel to) = db
+database_named_by (CreateDatabase db) = db
+database_named_by (DropDatabase db) = db
+database_named_by (RenameDatabase db to) = db
 
-abbrev pub relation_in : Change → Text
-relation_in (Insert db rel row) = rel
-relation_in (Delete db rel row) = rel
-relation_in (AddAttribute db rel name fill) = rel
-relation_in (DropAttribute db rel name) = rel
-relation_in (RenameAttribute db rel name to) = rel
-relation_in (CreateRelation db rel attributes) = rel
-relation_in (DropRelation db rel) = rel
-relation_in (RenameRelation db rel to) = rel
-relation_in g = database_in g
+abbrev pub relation_named_by : Change → Text
+relation_named_by (Insert db rel row) = rel
+relation_named_by (Delete db rel row) = rel
+relation_named_by (AddAttribute db rel name fill) = rel
+relation_named_by (DropAttribute db rel name) = rel
+relation_named_by (RenameAttribute db rel name to) = rel
+relation_named_by (CreateRelation db rel attributes) = rel
+relation_named_by (DropRelation db rel) = rel
+relation_named_by (RenameRelation db rel to) = rel
+relation_named_by g = database_named_by g
 
 -- the name after the change of what it makes or renames
 abbrev pub new_name : Change → Text
 new_name (RenameRelation db rel to) = to
 new_name (RenameDatabase db to) = to
-new_name g = relation_in g
+new_name g = relation_named_by g
 
 -- the attribute that a change is for; a change that is for none has its relation's name here
-abbrev pub attribute_in : Change → Text
-attribute_in (AddAttribute db rel name fill) = name
-attribute_in (DropAttribute db rel name) = name
-attribute_in (RenameAttribute db rel name to) = name
-attribute_in g = relation_in g
+abbrev pub attribute_named_by : Change → Text
+attribute_named_by (AddAttribute db rel name fill) = name
+attribute_named_by (DropAttribute db rel name) = name
+attribute_named_by (RenameAttribute db rel name to) = name
+attribute_named_by g = relation_named_by g
 
 -- the new attribute at a place in its list of names
 abbrev pub new_attribute : Change → ℕ → Text
 new_attribute (RenameAttribute db rel name to) place = to
 new_attribute (CreateRelation db rel attributes) place = slice_index_or attributes place rel
-new_attribute g place = attribute_in g
+new_attribute g place = attribute_named_by g
 
 -- a change that the catalogue refuses
 abbrev pub refusal_fields : Change → Refusal → Row
-refusal_fields g refusal.NoDatabase = codes "no-database" ∷ database_in g ∷ []
+refusal_fields g refusal.NoDatabase = codes "no-database" ∷ database_named_by g ∷ []
 refusal_fields g refusal.IllegalName = codes "illegal-name" ∷ new_name g ∷ []
 refusal_fields g refusal.DatabaseThere = codes "database-there" ∷ new_name g ∷ []
-refusal_fields g refusal.NoRelation = codes "no-relation" ∷ database_in g ∷ relation_in g ∷ []
-refusal_fields g refusal.RelationThere = codes "relation-there" ∷ database_in g ∷ new_name g ∷ []
-refusal_fields g refusal.NoAttribute = codes "no-attribute" ∷ database_in g ∷ relation_in g ∷ attribute_in g ∷ []
-refusal_fields g (refusal.AttributeThere place) = codes "attribute-there" ∷ database_in g ∷ relation_in g ∷ new_attribute g place ∷ []
-refusal_fields g refusal.LastAttribute = codes "last-attribute" ∷ database_in g ∷ relation_in g ∷ attribute_in g ∷ []
-refusal_fields g (refusal.ArityDiffers want got) = codes "arity-differs" ∷ database_in g ∷ relation_in g ∷ decimal want ∷ decimal got ∷ []
-refusal_fields g refusal.NoRow = codes "no-row" ∷ database_in g ∷ relation_in g ∷ []
+refusal_fields g refusal.NoRelation = codes "no-relation" ∷ database_named_by g ∷ relation_named_by g ∷ []
+refusal_fields g refusal.RelationThere = codes "relation-there" ∷ database_named_by g ∷ new_name g ∷ []
+refusal_fields g refusal.NoAttribute = codes "no-attribute" ∷ database_named_by g ∷ relation_named_by g ∷ attribute_named_by g ∷ []
+refusal_fields g (refusal.AttributeThere place) = codes "attribute-there" ∷ database_named_by g ∷ relation_named_by g ∷ new_attribute g place ∷ []
+refusal_fields g refusal.LastAttribute = codes "last-attribute" ∷ database_named_by g ∷ relation_named_by g ∷ attribute_named_by g ∷ []
+refusal_fields g (refusal.ArityDiffers want got) = codes "arity-differs" ∷ database_named_by g ∷ relation_named_by g ∷ decimal want ∷ decimal got ∷ []
+refusal_fields g refusal.NoRow = codes "no-row" ∷ database_named_by g ∷ relation_named_by g ∷ []
 refusal_fields g (refusal.Limit which) = codes "limit" ∷ counted which ∷ []
 
 -- a group in which so many lines were refused, and a group of so many changes that the input ends in

@@ -1,6 +1,6 @@
 //! Refusals of a change line.
 ghost use Rattle.std.specs.Prelude.{◌≡◌, ◌∷◌, ◌++◌, [], IfOk};
-ghost use Rattle.ss_print.specs.Fields.{escape_fields, line_fields, refusal_fields, first_field, database_in, relation_in, new_name, attribute_in, new_attribute};
+ghost use Rattle.ss_print.specs.Fields.{escape_fields, line_fields, refusal_fields, first_field, database_named_by, relation_named_by, new_name, attribute_named_by, new_attribute};
 
 use crate::fields::Fields;
 use crate::load::counted;
@@ -86,7 +86,7 @@ pub fn refusal_fields(alloc: Global, change: &Change, refusal: Refusal) -> Resul
 
 // The database that a change names.
 fn database(change: &Change) -> &Text
-    ensures { result.now ≡ database_in change.now }
+    ensures { result.now ≡ database_named_by change.now }
 {
     match change {
         Change::Insert { db, .. }
@@ -105,7 +105,7 @@ fn database(change: &Change) -> &Text
 
 // The relation that it names, or the database's name where it names none.
 fn relation(change: &Change) -> &Text
-    ensures { result.now ≡ relation_in change.now }
+    ensures { result.now ≡ relation_named_by change.now }
 {
     match change {
         Change::Insert { rel, .. }
@@ -132,7 +132,7 @@ fn new_name(change: &Change) -> &Text
 
 // The attribute that it is for, or the relation's name where it is for none.
 fn attribute(change: &Change) -> &Text
-    ensures { result.now ≡ attribute_in change.now }
+    ensures { result.now ≡ attribute_named_by change.now }
 {
     match change {
         Change::AddAttribute { name, .. }

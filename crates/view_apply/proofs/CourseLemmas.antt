@@ -11,7 +11,7 @@ use Rattle.tab_lines.specs.Spelling.{unspell}
 use Rattle.effects.specs.Effects.{Effect}
 use Rattle.course.specs.declared.status.Verdict.{Verdict}
 use Rattle.course.specs.declared.status.Verdict.TheVariants as verdict
-use Rattle.course.specs.Machine.{Reply, Goes, Halts, prefixed, follow, ending, course}
+use Rattle.course.specs.Answering.{Reply, Continues, Finishes, prefixed, follow, ending, course}
 use Rattle.flow_law.specs.declared.line.TableLine.{TableLine}
 use Rattle.flow_law.specs.Lines.{label_of}
 use Rattle.flow_law.specs.Tables.{TablesValue}
@@ -22,7 +22,7 @@ use Rattle.change_script.specs.declared.reading.ScriptFault.{ScriptFault}
 use Rattle.change_script.specs.Reading.{script_line_of}
 use Rattle.change_script.specs.Applied.{applied, applied_behind, applied_line}
 use Rattle.view_apply.specs.Applying.{ApplyState, with_line, by_applying, by_reading, by_spelling, taken, reply, step, finish}
-use Rattle.run_lines.specs.Told.{refuses}
+use Rattle.run_lines.specs.Printing.{refuses}
 use Rattle.view_apply.specs.Scripts.{said_by, said_as, both, script_said}
 
 -- from a state these lines of a script led to another
@@ -97,29 +97,29 @@ pub record AllTook (s : ApplyState) (lines : List (List ℕ)) (u : ApplyState) :
 both_some : (a b : Option (List TableLine)) (x y : List TableLine) → a ≡ Some x → b ≡ Some y → both a b ≡ Some (x ++ y)
 both_some a b x y e f = rw (e, f) refl
 
-halted : (lines : List (List ℕ)) (es : List Effect) (v : Verdict) → follow step lines (Halts es v) ≡ Halts es v
+halted : (lines : List (List ℕ)) (es : List Effect) (v : Verdict) → follow step lines (Finishes es v) ≡ Finishes es v
 halted [] es v = refl
 halted (line ∷ lines) es v = halted lines es v
 
-no_halt_at : (s : ApplyState) (fs : List Effect) (v : Verdict) → Goes [] s ≡ Halts fs v → ⊥
+no_halt_at : (s : ApplyState) (fs : List Effect) (v : Verdict) → Continues [] s ≡ Finishes fs v → ⊥
 no_halt_at s fs v e = cc
 
 not_done : (v : Verdict) → v ≡ verdict.BadCatalogue → v ≡ verdict.Done → ⊥
 not_done v e f = cc (e, f)
 
-no_halt : (es : List Effect) (v : Verdict) (fs : List Effect) (u : ApplyState) → Halts es v ≡ Goes fs u → ⊥
+no_halt : (es : List Effect) (v : Verdict) (fs : List Effect) (u : ApplyState) → Finishes es v ≡ Continues fs u → ⊥
 no_halt es v fs u e = cc
 
 -- what a run over lines comes to: it goes on with nothing done, or it was refused
-pub went_on : (lines : List (List ℕ)) (s : ApplyState) (fs : List Effect) (u : ApplyState) → follow step lines (Goes [] s) ≡ Goes fs u → (fs ≡ []) × AllTook s lines u
+pub went_on : (lines : List (List ℕ)) (s : ApplyState) (fs : List Effect) (u : ApplyState) → follow step lines (Continues [] s) ≡ Continues fs u → (fs ≡ []) × AllTook s lines u
 went_on [] s fs u e =
     let same : s ≡ u = cc e in
     let none : fs ≡ [] = cc e in
     (none, record { script = []; said = refl; applies = subst (λ (x : ApplyState). Applies s [] x) same (applies_none s) })
 went_on (line ∷ lines) s fs u e = by_taken (taken s line) refl e (λ v f. went_on lines v fs u f)
   where
-    by_taken : (r : Result ApplyState Row) → taken s line ≡ r → follow step lines (prefixed [] (reply r)) ≡ Goes fs u
-        → ((v : ApplyState) → follow step lines (Goes [] v) ≡ Goes fs u → (fs ≡ []) × AllTook v lines u) → (fs ≡ []) × AllTook s (line ∷ lines) u
+    by_taken : (r : Result ApplyState Row) → taken s line ≡ r → follow step lines (prefixed [] (reply r)) ≡ Continues fs u
+        → ((v : ApplyState) → follow step lines (Continues [] v) ≡ Continues fs u → (fs ≡ []) × AllTook v lines u) → (fs ≡ []) × AllTook s (line ∷ lines) u
     by_taken (Ok v) is f rest =
         let all = rest v f in
         let one = line_took s v line is in (
@@ -133,25 +133,25 @@ went_on (line ∷ lines) s fs u e = by_taken (taken s line) refl e (λ v f. went
     by_taken (Err fields) is f rest = absurd (no_halt (refuses fields ∷ []) verdict.BadCatalogue fs u (sym (halted lines (refuses fields ∷ []) verdict.BadCatalogue) ∙ f))
 
 -- one run that halts halts once
-halt_is : (fs gs : List Effect) (v w : Verdict) (r : Reply ApplyState) → r ≡ Halts fs v → r ≡ Halts gs w → (v ≡ w) × (fs ≡ gs)
+halt_is : (fs gs : List Effect) (v w : Verdict) (r : Reply ApplyState) → r ≡ Finishes fs v → r ≡ Finishes gs w → (v ≡ w) × (fs ≡ gs)
 halt_is fs gs v w r e f = (cc (e, f), cc (e, f))
 
 -- a run that halts was refused
-pub halts_so : (lines : List (List ℕ)) (s : ApplyState) (fs : List Effect) (v : Verdict) → follow step lines (Goes [] s) ≡ Halts fs v → (v ≡ verdict.BadCatalogue) × ((fields : Row) × (fs ≡ refuses fields ∷ []))
+pub halts_so : (lines : List (List ℕ)) (s : ApplyState) (fs : List Effect) (v : Verdict) → follow step lines (Continues [] s) ≡ Finishes fs v → (v ≡ verdict.BadCatalogue) × ((fields : Row) × (fs ≡ refuses fields ∷ []))
 halts_so [] s fs v e = absurd (no_halt_at s fs v e)
 halts_so (line ∷ lines) s fs v e = by_taken (taken s line) e (λ u f. halts_so lines u fs v f)
   where
-    by_taken : (r : Result ApplyState Row) → follow step lines (prefixed [] (reply r)) ≡ Halts fs v
-        → ((u : ApplyState) → follow step lines (Goes [] u) ≡ Halts fs v → (v ≡ verdict.BadCatalogue) × ((fields : Row) × (fs ≡ refuses fields ∷ []))) → (v ≡ verdict.BadCatalogue) × ((fields : Row) × (fs ≡ refuses fields ∷ []))
+    by_taken : (r : Result ApplyState Row) → follow step lines (prefixed [] (reply r)) ≡ Finishes fs v
+        → ((u : ApplyState) → follow step lines (Continues [] u) ≡ Finishes fs v → (v ≡ verdict.BadCatalogue) × ((fields : Row) × (fs ≡ refuses fields ∷ []))) → (v ≡ verdict.BadCatalogue) × ((fields : Row) × (fs ≡ refuses fields ∷ []))
     by_taken (Ok u) f rest = rest u f
     by_taken (Err fields) f rest =
-        let same = halt_is fs (refuses fields ∷ []) v verdict.BadCatalogue (follow step lines (Halts (refuses fields ∷ []) verdict.BadCatalogue)) f (halted lines (refuses fields ∷ []) verdict.BadCatalogue) in
+        let same = halt_is fs (refuses fields ∷ []) v verdict.BadCatalogue (follow step lines (Finishes (refuses fields ∷ []) verdict.BadCatalogue)) f (halted lines (refuses fields ∷ []) verdict.BadCatalogue) in
         (same.0, (fields, same.1))
 
 -- a run that was done took all lines, and did what its end does
 pub done_took : (s : ApplyState) (lines : List (List ℕ)) → (course step finish s lines).status ≡ verdict.Done → (u : ApplyState) × AllTook s lines u × ((course step finish s lines).effects ≡ (finish u).effects)
-done_took s lines done = by_reply (follow step lines (Goes [] s)) refl done
+done_took s lines done = by_reply (follow step lines (Continues [] s)) refl done
   where
-    by_reply : (r : Reply ApplyState) → follow step lines (Goes [] s) ≡ r → (ending finish r).status ≡ verdict.Done → (u : ApplyState) × AllTook s lines u × ((ending finish r).effects ≡ (finish u).effects)
-    by_reply (Goes fs u) e done = let went = went_on lines s fs u e in (u, went.1, ap (λ (es : List Effect). es ++ (finish u).effects) went.0)
-    by_reply (Halts fs v) e done = absurd (not_done v (halts_so lines s fs v e).0 done)
+    by_reply : (r : Reply ApplyState) → follow step lines (Continues [] s) ≡ r → (ending finish r).status ≡ verdict.Done → (u : ApplyState) × AllTook s lines u × ((ending finish r).effects ≡ (finish u).effects)
+    by_reply (Continues fs u) e done = let went = went_on lines s fs u e in (u, went.1, ap (λ (es : List Effect). es ++ (finish u).effects) went.0)
+    by_reply (Finishes fs v) e done = absurd (not_done v (halts_so lines s fs v e).0 done)

@@ -8,7 +8,7 @@ use Rattle.effects.proofs.EffectLemmas.{performed_append}
 use Rattle.view_folder.specs.Files.{view_folder}
 use Rattle.view_folder.specs.Sync.{later_sync}
 use Rattle.view_folder.proofs.LaterLemmas.{later, later_synced, named_held}
-use Rattle.run_lines.specs.Told.{tells_applied, lines_text, applied_rows}
+use Rattle.run_lines.specs.Printing.{prints_applied, lines_text, applied_rows}
 use Rattle.view_apply.specs.Applying.{ApplyState, synced_count, finish}
 use Rattle.view_apply.specs.Left.{IsLeft}
 
@@ -37,8 +37,8 @@ module _ (u : ApplyState) (t : Tree) (old new : World) (told : old.store.tree �
   left : contents new ≡ performed (finish u).effects (contents old) → contents new ≡ record { stored = Some at_last; held = with_bytes (lines_text (applied_rows u.lines (synced_count u))) old.output.held }
   left h =
       h ∙ ap (performed (finish u).effects) first_is
-      ∙ performed_append (later_sync (view_folder u.view_db) u.shape u.tables u.named) (tells_applied u.lines (synced_count u) ∷ []) (record { stored = Some at_first; held = old.output.held })
-      ∙ ap (performed (tells_applied u.lines (synced_count u) ∷ [])) (later_synced (view_folder u.view_db) u.shape u.tables u.tables u.named at_first old.output.held)
+      ∙ performed_append (later_sync (view_folder u.view_db) u.shape u.tables u.named) (prints_applied u.lines (synced_count u) ∷ []) (record { stored = Some at_first; held = old.output.held })
+      ∙ ap (performed (prints_applied u.lines (synced_count u) ∷ [])) (later_synced (view_folder u.view_db) u.shape u.tables u.tables u.named at_first old.output.held)
 
   pub is_left : contents new ≡ performed (finish u).effects (contents old) → IsLeft u t old new
   unfolding contents

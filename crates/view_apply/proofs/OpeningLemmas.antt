@@ -11,13 +11,13 @@ use Rattle.effects.specs.declared.stop.Stop.TheVariants as stop
 use Rattle.effects.specs.Blame.{Steady, SinkBlames, Blames}
 use Rattle.effects.proofs.EffectLemmas.{only_read_does, unmoved}
 use Rattle.effects.proofs.BlameLemmas.{sheet_blamed}
-use Rattle.course.specs.Machine.{Reply, Goes, Halts}
+use Rattle.course.specs.Answering.{Reply, Continues, Finishes}
 use Rattle.flow_law.specs.declared.shape.Shape.{Shape}
 use Rattle.flow_law.specs.Tables.{TablesValue}
 use Rattle.view_folder.specs.declared.held.TablesFault.{TablesFault}
 use Rattle.view_folder.specs.Files.{view_folder}
 use Rattle.view_folder.specs.Held.{held, is_refusal}
-use Rattle.run_lines.specs.Told.{refuses}
+use Rattle.run_lines.specs.Printing.{refuses}
 use Rattle.view_apply.specs.Refused.{tables_fields}
 use Rattle.view_apply.specs.declared.opening.OpenedFolder.{OpenedFolder}
 use Rattle.view_apply.specs.declared.opening.OpenedFolder.TheVariants.{Open, Refused}
@@ -32,8 +32,8 @@ stayed : (a b : StoreState) (o : SinkState) → OnlyRead a b → contents (world
 stayed a b o read = only_read_does {A = List Effect} a b o (Ok []) read
 
 pub unread_whole : (r : Reply ApplyState) (a b : StoreState) (o : SinkState) (e : Stop) → OnlyRead a b → Opens r (world_of a o) (world_of b o) (Err e)
-unread_whole (Goes es s) a b o e read = unread es a b o read
-unread_whole (Halts es v) a b o e read = unread es a b o read
+unread_whole (Continues es s) a b o e read = unread es a b o read
+unread_whole (Finishes es v) a b o e read = unread es a b o read
 
 -- a refusal that broke off is the sink's
 pub unprinted : {A B : Type 0} (o p : SinkState) (e : Stop) → SinkBlames {A = A} o p (Err e) → IsErrOf {T = B} (Err e) stop.ReadFault → p ≡ o

@@ -9,8 +9,8 @@ use Rattle.effects.specs.declared.stop.Stop.{Stop}
 use Rattle.effects.specs.declared.stop.Stop.TheVariants as stop
 use Rattle.effects.proofs.EffectLemmas.{partly_more}
 use Rattle.course.specs.declared.status.Verdict.TheVariants as verdict
-use Rattle.course.specs.Machine.{Answered, effects_of}
-use Rattle.run_lines.specs.Told.{refuses}
+use Rattle.course.specs.Answering.{Answered, effects_of}
+use Rattle.run_lines.specs.Printing.{refuses}
 use Rattle.view_apply.specs.Applying.{ApplyState, taken, reply, step}
 
 -- a call on the sink does not fail in reading

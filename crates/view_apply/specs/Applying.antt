@@ -6,7 +6,7 @@ use Rattle.tab_lines.specs.Spelling.{unspell}
 use Rattle.outside.specs.Tree.{Tree}
 use Rattle.effects.specs.Effects.{Effect}
 use Rattle.course.specs.declared.status.Verdict.TheVariants as verdict
-use Rattle.course.specs.Machine.{Reply, Goes, Halts, Ending}
+use Rattle.course.specs.Answering.{Reply, Continues, Finishes, Ending}
 use Rattle.flow_law.specs.declared.shape.Shape.{Shape}
 use Rattle.flow_law.specs.declared.line.TableLine.{TableLine}
 use Rattle.flow_law.specs.Lines.{label_of}
@@ -21,7 +21,7 @@ use Rattle.view_folder.specs.declared.held.TablesFault.{TablesFault}
 use Rattle.view_folder.specs.Files.{view_folder}
 use Rattle.view_folder.specs.Held.{held}
 use Rattle.view_folder.specs.Sync.{later_sync}
-use Rattle.run_lines.specs.Told.{refuses, tells_applied}
+use Rattle.run_lines.specs.Printing.{refuses, prints_applied}
 use Rattle.view_apply.specs.Refused.{escape_fields, script_fields, apply_fields, tables_fields}
 
 -- the tables of a view folder: the view's database and form, the labels of the tables that the folder holds, the tables after the lines so far, the labels that these lines named, ascending, and how many lines there were
@@ -63,8 +63,8 @@ taken s line = by_spelling s (unspell line)
 
 -- a refusal ends the run, and nothing was written
 abbrev pub reply : Result ApplyState Row → Reply ApplyState
-reply (Ok s) = Goes [] s
-reply (Err fields) = Halts (refuses fields ∷ []) verdict.BadCatalogue
+reply (Ok s) = Continues [] s
+reply (Err fields) = Finishes (refuses fields ∷ []) verdict.BadCatalogue
 
 abbrev pub step : ApplyState → List ℕ → Reply ApplyState
 step s line = reply (taken s line)
@@ -76,14 +76,14 @@ synced_count s = length (filter (λ label. is_some (table_of s.tables label) || 
 -- the end of the input: the files of the labels that were named are synced
 abbrev pub finish : ApplyState → Ending
 finish s = record {
-  effects = later_sync (view_folder s.view_db) s.shape s.tables s.named ++ tells_applied s.lines (synced_count s) ∷ [];
+  effects = later_sync (view_folder s.view_db) s.shape s.tables s.named ++ prints_applied s.lines (synced_count s) ∷ [];
   status = verdict.Done;
 }
 
 -- the folder is refused, or its tables are read
 abbrev pub by_folder : Text → Shape → Result TablesValue TablesFault → Reply ApplyState
-by_folder view_db shape (Err f) = Halts (refuses (tables_fields view_db f) ∷ []) verdict.BadCatalogue
-by_folder view_db shape (Ok ts) = Goes [] (just_read view_db shape ts)
+by_folder view_db shape (Err f) = Finishes (refuses (tables_fields view_db f) ∷ []) verdict.BadCatalogue
+by_folder view_db shape (Ok ts) = Continues [] (just_read view_db shape ts)
 
 abbrev pub opening : Text → Shape → Tree → Reply ApplyState
 opening view_db shape t = by_folder view_db shape (held shape t (view_folder view_db))

@@ -3,14 +3,14 @@ use Rattle.std.specs.Prelude.{◌≡◌, Result, Ok, Err}
 use Rattle.effects.specs.Effects.{World, contents, performed, Partly}
 use Rattle.effects.specs.declared.stop.Stop.{Stop}
 use Rattle.course.specs.declared.status.Verdict.TheVariants as verdict
-use Rattle.course.specs.Machine.{Reply, Goes, Halts, effects_of}
+use Rattle.course.specs.Answering.{Reply, Continues, Finishes, effects_of}
 use Rattle.view_apply.specs.Applying.{ApplyState}
 use Rattle.view_apply.specs.declared.opening.OpenedFolder.{OpenedFolder}
 use Rattle.view_apply.specs.declared.opening.OpenedFolder.TheVariants.{Open, Refused}
 
 abbrev pub Opens : Reply ApplyState → World → World → Result OpenedFolder Stop → Type 0
-Opens (Goes es a) old new (Ok (Open s)) = (contents new ≡ performed es (contents old)) × (s ≡ a)
-Opens (Goes es a) old new (Ok Refused) = ⊥
-Opens (Halts es v) old new (Ok (Open s)) = ⊥
-Opens (Halts es v) old new (Ok Refused) = (contents new ≡ performed es (contents old)) × (v ≡ verdict.BadCatalogue)
+Opens (Continues es a) old new (Ok (Open s)) = (contents new ≡ performed es (contents old)) × (s ≡ a)
+Opens (Continues es a) old new (Ok Refused) = ⊥
+Opens (Finishes es v) old new (Ok (Open s)) = ⊥
+Opens (Finishes es v) old new (Ok Refused) = (contents new ≡ performed es (contents old)) × (v ≡ verdict.BadCatalogue)
 Opens r old new (Err e) = Partly (effects_of r) (contents old) (contents new)

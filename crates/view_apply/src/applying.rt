@@ -14,11 +14,11 @@ ghost use Rattle.view_apply.specs.Applying.{just_read, by_applying, by_reading, 
 
 use crate::refused::{apply_fields, escape_fields, script_fields};
 use change_script::{ApplyFault, ScriptFault, ScriptLine, apply_line, read_script_line};
-use course::{Machine, Verdict};
+use course::{LineHandler, Verdict};
 use effects::Stop;
 use flow_law::{Shape, TableLine, Tables};
 use outside::{Folders, Sink};
-use run_lines::{refuse, tell_applied};
+use run_lines::{print_applied, refuse};
 use ss_text::{NoMemory, Row, Steps, Text};
 use std::alloc::Global;
 use std::marker::Model;
@@ -205,12 +205,12 @@ impl Applying {
             &self.tables,
             &self.named,
         )?;
-        tell_applied(alloc, output, self.lines, self.synced_count())?;
+        print_applied(alloc, output, self.lines, self.synced_count())?;
         Ok(())
     }
 }
 
-impl Machine for Applying {
+impl LineHandler for Applying {
     ghost use Rattle.view_apply.specs.Applying.{step, finish};
 
     ghost step = { step };

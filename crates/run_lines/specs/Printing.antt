@@ -15,18 +15,18 @@ abbrev pub refuses : Row → Effect
 refuses fields = says (codes "refused" ∷ fields)
 
 -- a sync, and the number of files that it wrote or removed
-abbrev pub tells_synced : ℕ → Effect
-tells_synced count = says (codes "synced" ∷ decimal count ∷ [])
+abbrev pub prints_synced : ℕ → Effect
+prints_synced count = says (codes "synced" ∷ decimal count ∷ [])
 
 -- a group that opens, a change that it holds, and a group that is given up
-abbrev pub tells_begun : Effect
-tells_begun = says (codes "begun" ∷ [])
+abbrev pub prints_begun : Effect
+prints_begun = says (codes "begun" ∷ [])
 
-abbrev pub tells_held : Effect
-tells_held = says (codes "held" ∷ [])
+abbrev pub prints_held : Effect
+prints_held = says (codes "held" ∷ [])
 
-abbrev pub tells_aborted : Effect
-tells_aborted = says (codes "aborted" ∷ [])
+abbrev pub prints_aborted : Effect
+prints_aborted = says (codes "aborted" ∷ [])
 
 -- the lines of a script, and how many they are
 abbrev pub script_rows : List TableLine → List Row
@@ -37,22 +37,22 @@ abbrev pub lines_text : List Row → List ℕ
 lines_text rows = flat_map (λ row. spell row ++ 10 ∷ []) rows
 
 -- a script, printed at once
-abbrev pub tells_script : List TableLine → Effect
-tells_script lines = Print (lines_text (script_rows lines))
+abbrev pub prints_script : List TableLine → Effect
+prints_script lines = Print (lines_text (script_rows lines))
 
 -- lines that were applied, and the number of files that the sync behind them wrote or removed
 abbrev pub applied_rows : ℕ → ℕ → List Row
 applied_rows lines count = (codes "applied" ∷ decimal lines ∷ []) ∷ (codes "synced" ∷ decimal count ∷ []) ∷ []
 
-abbrev pub tells_applied : ℕ → ℕ → Effect
-tells_applied lines count = Print (lines_text (applied_rows lines count))
+abbrev pub prints_applied : ℕ → ℕ → Effect
+prints_applied lines count = Print (lines_text (applied_rows lines count))
 
 -- a folder that holds what is meant, with the number of its files
 abbrev pub same_line : ℕ → List ℕ
 same_line count = spell (codes "same" ∷ decimal count ∷ []) ++ 10 ∷ []
 
-abbrev pub tells_same : ℕ → Effect
-tells_same count = Print (same_line count)
+abbrev pub prints_same : ℕ → Effect
+prints_same count = Print (same_line count)
 
 -- the length of a file, `-` where it is missing
 abbrev pub length_text : Option ℕ → Text
@@ -60,12 +60,12 @@ length_text None = codes "-"
 length_text (Some n) = decimal n
 
 -- a file that differs: its name, its length, and the length that is meant
-abbrev pub tells_difference : Text → Option ℕ → Option ℕ → Effect
-tells_difference file held meant = says (codes "differs" ∷ file ∷ length_text held ∷ length_text meant ∷ [])
+abbrev pub prints_difference : Text → Option ℕ → Option ℕ → Effect
+prints_difference file held meant = says (codes "differs" ∷ file ∷ length_text held ∷ length_text meant ∷ [])
 
 abbrev pub usage_line : Text
 usage_line = codes "usage: schemasql check|show|maintain|verify|apply NAME, or schemasql load N SEED"
 
 -- the words that are asked for
-abbrev pub tells_usage : Effect
-tells_usage = Print (usage_line ++ 10 ∷ [])
+abbrev pub prints_usage : Effect
+prints_usage = Print (usage_line ++ 10 ∷ [])

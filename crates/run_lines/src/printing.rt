@@ -4,7 +4,7 @@ ghost use Rattle.tab_lines.specs.Spelling.{spell};
 ghost use Rattle.effects.specs.Effects.{Print, Does, world_of};
 ghost use Rattle.effects.specs.Blame.{SinkBlames};
 ghost use Rattle.std.specs.List.{All};
-ghost use Rattle.run_lines.specs.Told.{says, refuses, tells_synced, tells_begun, tells_held, tells_aborted, tells_usage, tells_script, tells_applied, applied_rows, script_rows, lines_text, tells_same, tells_difference, length_text};
+ghost use Rattle.run_lines.specs.Printing.{says, refuses, prints_synced, prints_begun, prints_held, prints_aborted, prints_usage, prints_script, prints_applied, applied_rows, script_rows, lines_text, prints_same, prints_difference, length_text};
 
 use change_script::{Script, script_lines};
 use effects::{Stop, print};
@@ -70,8 +70,8 @@ fn refused_row(alloc: Global, fields: &Row) -> Result<Row, NoMemory>
 
 /// Prints that a sync wrote and removed so many files.
 #[tactic(auto, using(effects::proofs::Following::following))]
-pub fn tell_synced<K: Sink>(alloc: Global, output: &mut K, count: usize) -> Result<(), Stop>
-    ensures does { (s : _) → Does (tells_synced count ∷ []) (world_of s (K.state output.old)) (world_of s (K.state output.new)) result }
+pub fn print_synced<K: Sink>(alloc: Global, output: &mut K, count: usize) -> Result<(), Stop>
+    ensures does { (s : _) → Does (prints_synced count ∷ []) (world_of s (K.state output.old)) (world_of s (K.state output.new)) result }
     ensures blames { SinkBlames (K.state output.old) (K.state output.new) result }
 {
     let row = counted_row(alloc, b"synced", count)?;
@@ -81,8 +81,8 @@ pub fn tell_synced<K: Sink>(alloc: Global, output: &mut K, count: usize) -> Resu
 
 /// Prints that a group opens.
 #[tactic(auto, using(effects::proofs::Following::following))]
-pub fn tell_begun<K: Sink>(alloc: Global, output: &mut K) -> Result<(), Stop>
-    ensures does { (s : _) → Does (tells_begun ∷ []) (world_of s (K.state output.old)) (world_of s (K.state output.new)) result }
+pub fn print_begun<K: Sink>(alloc: Global, output: &mut K) -> Result<(), Stop>
+    ensures does { (s : _) → Does (prints_begun ∷ []) (world_of s (K.state output.old)) (world_of s (K.state output.new)) result }
     ensures blames { SinkBlames (K.state output.old) (K.state output.new) result }
 {
     let row = word_row(alloc, b"begun")?;
@@ -92,8 +92,8 @@ pub fn tell_begun<K: Sink>(alloc: Global, output: &mut K) -> Result<(), Stop>
 
 /// Prints that a group holds a change.
 #[tactic(auto, using(effects::proofs::Following::following))]
-pub fn tell_held<K: Sink>(alloc: Global, output: &mut K) -> Result<(), Stop>
-    ensures does { (s : _) → Does (tells_held ∷ []) (world_of s (K.state output.old)) (world_of s (K.state output.new)) result }
+pub fn print_held<K: Sink>(alloc: Global, output: &mut K) -> Result<(), Stop>
+    ensures does { (s : _) → Does (prints_held ∷ []) (world_of s (K.state output.old)) (world_of s (K.state output.new)) result }
     ensures blames { SinkBlames (K.state output.old) (K.state output.new) result }
 {
     let row = word_row(alloc, b"held")?;
@@ -103,8 +103,8 @@ pub fn tell_held<K: Sink>(alloc: Global, output: &mut K) -> Result<(), Stop>
 
 /// Prints that a group is given up.
 #[tactic(auto, using(effects::proofs::Following::following))]
-pub fn tell_aborted<K: Sink>(alloc: Global, output: &mut K) -> Result<(), Stop>
-    ensures does { (s : _) → Does (tells_aborted ∷ []) (world_of s (K.state output.old)) (world_of s (K.state output.new)) result }
+pub fn print_aborted<K: Sink>(alloc: Global, output: &mut K) -> Result<(), Stop>
+    ensures does { (s : _) → Does (prints_aborted ∷ []) (world_of s (K.state output.old)) (world_of s (K.state output.new)) result }
     ensures blames { SinkBlames (K.state output.old) (K.state output.new) result }
 {
     let row = word_row(alloc, b"aborted")?;
@@ -123,13 +123,13 @@ fn word_row(alloc: Global, word: &[u8]) -> Result<Row, NoMemory>
 
 /// Prints that so many lines were applied, and that a sync wrote and removed so many files.
 #[tactic(auto, using(effects::proofs::Following::following))]
-pub fn tell_applied<K: Sink>(
+pub fn print_applied<K: Sink>(
     alloc: Global,
     output: &mut K,
     lines: usize,
     count: usize,
 ) -> Result<(), Stop>
-    ensures does { (s : _) → Does (tells_applied lines count ∷ []) (world_of s (K.state output.old)) (world_of s (K.state output.new)) result }
+    ensures does { (s : _) → Does (prints_applied lines count ∷ []) (world_of s (K.state output.old)) (world_of s (K.state output.new)) result }
     ensures blames { SinkBlames (K.state output.old) (K.state output.new) result }
 {
     let text = applied_text(alloc, lines, count)?;
@@ -138,7 +138,7 @@ pub fn tell_applied<K: Sink>(
 }
 
 // The lines of these two numbers.
-#[tactic(auto, using(crate::proofs::ToldLemmas::two_have_fields))]
+#[tactic(auto, using(crate::proofs::PrintingLemmas::two_have_fields))]
 fn applied_text(alloc: Global, lines: usize, count: usize) -> Result<Vec<u8>, NoMemory>
     ensures { IfOk result (λ text. text.items ≡ lines_text (applied_rows lines count)) }
 {
@@ -150,8 +150,8 @@ fn applied_text(alloc: Global, lines: usize, count: usize) -> Result<Vec<u8>, No
 
 /// Prints the lines of a script, and how many they are.
 #[tactic(auto, using(effects::proofs::Following::following))]
-pub fn tell_script<K: Sink>(alloc: Global, output: &mut K, script: &Script) -> Result<(), Stop>
-    ensures does { (s : _) → Does (tells_script script.now ∷ []) (world_of s (K.state output.old)) (world_of s (K.state output.new)) result }
+pub fn print_script<K: Sink>(alloc: Global, output: &mut K, script: &Script) -> Result<(), Stop>
+    ensures does { (s : _) → Does (prints_script script.now ∷ []) (world_of s (K.state output.old)) (world_of s (K.state output.new)) result }
     ensures blames { SinkBlames (K.state output.old) (K.state output.new) result }
 {
     let text = script_text(alloc, script)?;
@@ -160,7 +160,7 @@ pub fn tell_script<K: Sink>(alloc: Global, output: &mut K, script: &Script) -> R
 }
 
 // The lines of a script, and how many they are.
-#[tactic(auto, using(crate::proofs::ToldLemmas::rows_have_fields))]
+#[tactic(auto, using(crate::proofs::PrintingLemmas::rows_have_fields))]
 fn script_text(alloc: Global, script: &Script) -> Result<Vec<u8>, NoMemory>
     ensures { IfOk result (λ text. text.items ≡ lines_text (script_rows script.now)) }
 {
@@ -193,8 +193,8 @@ fn counted_row(alloc: Global, word: &[u8], count: usize) -> Result<Row, NoMemory
 
 /// Prints that a folder holds what is meant.
 #[tactic(auto, using(effects::proofs::Following::following))]
-pub fn tell_same<K: Sink>(alloc: Global, output: &mut K, count: usize) -> Result<(), Stop>
-    ensures does { (s : _) → Does (tells_same count ∷ []) (world_of s (K.state output.old)) (world_of s (K.state output.new)) result }
+pub fn print_same<K: Sink>(alloc: Global, output: &mut K, count: usize) -> Result<(), Stop>
+    ensures does { (s : _) → Does (prints_same count ∷ []) (world_of s (K.state output.old)) (world_of s (K.state output.new)) result }
     ensures blames { SinkBlames (K.state output.old) (K.state output.new) result }
 {
     let row = counted_row(alloc, b"same", count)?;
@@ -204,14 +204,14 @@ pub fn tell_same<K: Sink>(alloc: Global, output: &mut K, count: usize) -> Result
 
 /// Prints that a file differs.
 #[tactic(auto, using(effects::proofs::Following::following))]
-pub fn tell_difference<K: Sink>(
+pub fn print_difference<K: Sink>(
     alloc: Global,
     output: &mut K,
     file: &Text,
     held: Option<usize>,
     meant: Option<usize>,
 ) -> Result<(), Stop>
-    ensures does { (s : _) → Does (tells_difference file.now held meant ∷ []) (world_of s (K.state output.old)) (world_of s (K.state output.new)) result }
+    ensures does { (s : _) → Does (prints_difference file.now held meant ∷ []) (world_of s (K.state output.old)) (world_of s (K.state output.new)) result }
     ensures blames { SinkBlames (K.state output.old) (K.state output.new) result }
 {
     let row = difference_row(alloc, file, held, meant)?;
@@ -247,8 +247,8 @@ fn length_text(alloc: Global, length: Option<usize>) -> Result<Text, NoMemory>
 }
 
 /// Prints which words are asked for.
-pub fn tell_usage<K: Sink>(alloc: Global, output: &mut K) -> Result<(), Stop>
-    ensures does { (s : _) → Does (tells_usage ∷ []) (world_of s (K.state output.old)) (world_of s (K.state output.new)) result }
+pub fn print_usage<K: Sink>(alloc: Global, output: &mut K) -> Result<(), Stop>
+    ensures does { (s : _) → Does (prints_usage ∷ []) (world_of s (K.state output.old)) (world_of s (K.state output.new)) result }
     ensures blames { SinkBlames (K.state output.old) (K.state output.new) result }
 {
     print(
