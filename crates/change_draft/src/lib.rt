@@ -6,7 +6,5 @@
 
 mod copied;
 mod draft;
-#[cfg(test)]
-mod tests;
 
 pub use draft::Draft;

@@ -1,5 +1,5 @@
 -- What contracts see of linked rows.
-use Rattle.std.specs.Prelude.{◌≡◌, ℕ, List, [], ◌∷◌, ◌++◌, cond, nat_eq, Option, None, Some, filter}
+use Rattle.std.specs.Prelude.{◌≡◌, ℕ, List, [], ◌∷◌, ◌++◌, cond, nat_eq, Option, None, Some, filter, map}
 use Rattle.ss_text.specs.Texts.{Row, row_eq}
 use Rattle.slab.specs.Slab.{Slab, get}
 use Rattle.row_links.specs.Parts.{whole, cells_at, same_cells}
@@ -10,6 +10,10 @@ pub record LinkedRows : Type 0 where
   pub keys : List (List ℕ)
   pub live : Placed
   pub waiting : List Row
+
+-- the rows without their places
+abbrev pub rows_alone : Placed → List Row
+rows_alone live = map (λ (e : ℕ × Row). e.1) live
 
 -- the place of the first of these
 abbrev pub first_place : {X : Type 0} → List (ℕ × X) → Option ℕ

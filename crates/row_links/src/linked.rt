@@ -1,6 +1,6 @@
 //! Rows linked by index.
-ghost use Rattle.std.specs.Prelude.{◌≡◌, ◌<◌, ◌+◌, ℕ, List, [], ◌∷◌, ◌++◌, Option, None, Some, IsSome, OnOk, OnErr, MatchOption, length, slice_index_or, is_some};
-ghost use Rattle.row_links.specs.Live.{LinkedRows, AddsFirst, first_place, following, at_place, rows_like, rows_with, rows_beside, rows_like_at, without_first, without_place};
+ghost use Rattle.std.specs.Prelude.{◌≡◌, ◌<◌, ◌+◌, ℕ, List, [], ◌∷◌, ◌++◌, Option, None, Some, IsSome, IfOk, OnOk, OnErr, MatchOption, length, slice_index_or, is_some};
+ghost use Rattle.row_links.specs.Live.{LinkedRows, AddsFirst, rows_alone, first_place, following, at_place, rows_like, rows_with, rows_beside, rows_like_at, without_first, without_place};
 ghost use Rattle.std.specs.List.{list_any};
 ghost use Rattle.ss_text.specs.Texts.{Row, row_eq};
 ghost use Rattle.row_links.specs.Links.{IsOnce};
@@ -14,6 +14,7 @@ use slab::Slab;
 use ss_text::{NoMemory, Row, Steps};
 use std::alloc::Global;
 use std::marker::Model;
+use std::mem;
 use std::sync::ledger::Ledger;
 
 /// Rows in order of adding, each at a place that it keeps until it is taken away. Rows that are equal, and rows with the
@@ -51,6 +52,19 @@ impl Linked {
             chains: Chains::new(alloc),
             waiting: Vec::new(alloc),
         }
+    }
+
+    /// The rows of a list, which are taken out of it, in its order and without keys. Where there is no memory the list
+    /// keeps them.
+    pub fn of_rows(alloc: Global, rows: &mut Vec<Row>) -> Result<Linked, NoMemory>
+        ensures live { IfOk result (λ linked. rows_alone linked.live ≡ rows.old.items) }
+        ensures kept { OnErr result (rows.new ≡ rows.old) }
+    {
+        let count = rows.len();
+        let mut linked = Linked::new(alloc, Vec::new(alloc));
+        linked.reserve_moved(alloc, rows)?;
+        add_all(&mut linked, count);
+        Ok(linked)
     }
 
     /// The number of live rows.
@@ -185,12 +199,22 @@ impl Linked {
         ensures ok { OnOk result (self.new ≡ record self.old { waiting = rows.items }) }
         ensures err { OnErr result (self.new ≡ record self.old { waiting = [] }) }
     {
+        let mut rows = rows;
+        self.reserve_moved(alloc, &mut rows)
+    }
+
+    // The same of rows that are taken out of a list, which keeps them where there is no memory.
+    fn reserve_moved(&mut self, alloc: Global, rows: &mut Vec<Row>) -> Result<(), NoMemory>
+        ensures ok { OnOk result (self.new ≡ record self.old { waiting = rows.old.items }) }
+        ensures err { OnErr result (self.new ≡ record self.old { waiting = [] }) }
+        ensures kept { OnErr result (rows.new ≡ rows.old) }
+    {
         self.waiting.clear();
         let more = rows.len();
         self.rows.reserve(more)?;
         let below = self.rows.capacity();
         self.chains.reserve(alloc, self.keys.len(), below, more)?;
-        let mut waiting = rows;
+        let mut waiting = mem::replace(rows, Vec::new(alloc));
         waiting.reverse();
         self.waiting = waiting;
         Ok(())
@@ -228,5 +252,15 @@ impl Linked {
     {
         self.chains.remove(place);
         self.rows.remove(place);
+    }
+}
+
+// Adds all rows that wait, of which there are so many.
+fn add_all(linked: &mut Linked, count: usize)
+    requires { count ≡ length linked.old.waiting }
+    ensures { rows_alone linked.new.live ≡ rows_alone linked.old.live ++ linked.old.waiting }
+{
+    for _ in 0..count {
+        linked.add();
     }
 }

@@ -1,10 +1,10 @@
 -- Numbered rows, walked.
-use Rattle.std.proofs.Common.{◌≡◌, ◌<◌, ◌≤◌, ◌+◌, ◌∷◌, [], ℕ, List, Some, None, refl, ap, zero, suc, length, arith, slice_index_or, true, false, cond, ◌==◌, ◌||◌}
+use Rattle.std.proofs.Common.{◌≡◌, ◌<◌, ◌≤◌, ◌+◌, ◌∷◌, [], ℕ, List, Bool, Some, None, refl, ap, zero, suc, length, arith, slice_index_or, true, false, cond, ◌==◌, ◌||◌}
 use Rattle.std.specs.Prelude.{nat_lt}
 use Rattle.std.specs.List.{AllByRecursion, IsDistinct}
 use Rattle.std.proofs.lemmas.Bool.Decides.{nat_tests, Decides-eqb}
 use Rattle.ss_text.specs.Texts.{Row}
-use Rattle.schema_model.specs.Placed.{placed_rows, places, first_place, after_place, row_at, is_place, ArePlaces, numbered}
+use Rattle.schema_model.specs.Placed.{Placed, placed_rows, places, first_place, after_place, row_at, is_place, ArePlaces, numbered}
 
 pub rows_numbered : (k : ℕ) (rows : List Row) → placed_rows (numbered k rows) ≡ rows
 rows_numbered k [] = refl
@@ -77,3 +77,12 @@ row_there k rows h = row_numbered 0 k k rows h (omega arith)
 
 pub place_numbered : (k : ℕ) (rows : List Row) → is_place k (numbered 0 rows) ≡ true → k < length rows
 place_numbered k rows h = omega (arith, (place_in 0 k rows h).to)
+
+-- what holds of each row holds of the one at a place
+pub each_placed : (P : Row → Type 0) (k : ℕ) (ps : Placed) → is_place k ps ≡ true → AllByRecursion P (placed_rows ps) → P (row_at k ps)
+each_placed P k [] h all = absurd (cc)
+each_placed P k (p ∷ ps) h all = by (k == p.0) h (each_placed P k ps)
+  where
+    by : (b : Bool) → (b || is_place k ps) ≡ true → (is_place k ps ≡ true → AllByRecursion P (placed_rows ps) → P (row_at k ps)) → P (cond b p.1 (row_at k ps))
+    by true here later = all.0
+    by false there later = later there all.1

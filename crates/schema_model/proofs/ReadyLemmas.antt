@@ -1,5 +1,5 @@
 -- The edits that are made ready are those of their changes.
-use Rattle.std.proofs.Common.{◌≡◌, ◌<◌, ◌≤◌, ◌∙◌, ◌∷◌, [], ℕ, zero, suc, Bool, true, false, List, Some, None, refl, sym, ap, subst, map, length, slice_index_or, slice_set, arith}
+use Rattle.std.proofs.Common.{◌≡◌, ◌<◌, ◌≤◌, ◌∙◌, ◌∷◌, [], ℕ, zero, suc, Bool, true, false, List, Some, None, refl, sym, ap, subst, map, length, slice_index_or, slice_set, arith, Bor}
 use Rattle.std.specs.Prelude.{insert, remove, find, IsTrue, nat_le}
 use Rattle.std.specs.List.{list_any, position, position_or_len}
 use Rattle.std.specs.Option.{option_map_or}
@@ -22,7 +22,7 @@ use Rattle.schema_model.proofs.ChangeLemmas.{changed_there, changed_alike, place
 use Rattle.schema_model.specs.States.{RelationState, DatabaseState, no_relation_state, plain_relation, plain_database, plain_databases, relation_state_at, database_state_at}
 use Rattle.schema_model.specs.Edits.{Makes, Fits, FitsRelation, edited, relation_edited, database_edited}
 use Rattle.schema_model.specs.declared.edit.RelationEdit.{RelationEdit}
-use Rattle.schema_model.specs.declared.edit.RelationEdit.TheVariants.{Take, Header}
+use Rattle.schema_model.specs.declared.edit.RelationEdit.TheVariants.{Header}
 use Rattle.schema_model.specs.declared.edit.DatabaseEdit.TheVariants as inner
 use Rattle.schema_model.specs.declared.edit.CatalogueEdit.TheVariants as outer
 use Rattle.schema_model.proofs.Seen.{same_seen, at_seen}
@@ -74,22 +74,31 @@ module _ (ds : List DatabaseState) (db rel : Text) (i j : ℕ) (shown new : Data
   pub still_all : plain_database new ≡ plain_database shown → plain_databases (slice_set ds i new) ≡ plain_databases ds
   still_all same = same_seen plain_database ds i new shown (within_seen ds i at.within) (same ∙ ap plain_database is)
 
-  pub inserted : (room : ℕ) (asked : Row) (edit : RelationEdit) → ((r : RelationValue) → relation_edited edit r ≡ with_row asked r) → plain_database new ≡ plain_database shown → IsPlaceOf relation_name rel (plain_database shown).relations j
-      → FitsRelation edit (relation_state_at j new) → Makes (slice_set ds i new) room (Insert db rel asked) (outer.At i (inner.At j edit))
-  inserted room asked edit adds same rel_at ready =
+  row_moved : (room : ℕ) (g : RelationValue → RelationValue) (edit : RelationEdit) → ((r : RelationValue) → relation_edited edit r ≡ g r) → plain_database new ≡ plain_database shown → IsPlaceOf relation_name rel (plain_database shown).relations j
+      → FitsRelation edit (relation_state_at j new)
+      → record { fits : Fits (outer.At i (inner.At j edit)) (slice_set ds i new) room; makes : edited (outer.At i (inner.At j edit)) (plain_databases (slice_set ds i new)) ≡ at_relation db rel g (plain_databases (slice_set ds i new)) }
+  row_moved room g edit moves same rel_at ready =
       let c = plain_databases ds in
       let within = within_seen ds i at.within in
       let put : database_state_at i (slice_set ds i new) ≡ new = set_there ds i new _ within in
       let inside : j < length (plain_database new).relations = subst (λ (d : DatabaseValue). j < length d.relations) (sym same) rel_at.within in
       let there : j < length new.relations = rw (length-map new.relations plain_relation) at inside in
       let rel_there : IsPlaceOf relation_name rel (database_at i c).relations j = subst (λ (d : DatabaseValue). IsPlaceOf relation_name rel d.relations j) (sym database_is) rel_at in
-      let alike : at_place i (with_relation_at j (relation_edited edit)) c ≡ at_place i (with_relation_at j (with_row asked)) c
-      = changed_alike (with_relation_at j (relation_edited edit)) (with_relation_at j (with_row asked)) c i (database_value [] [])
-      (ap (database_value (database_at i c).name) (changed_alike (relation_edited edit) (with_row asked) (database_at i c).relations j (relation_value [] [] []) (adds (relation_at j (database_at i c))))) in
+      let alike : at_place i (with_relation_at j (relation_edited edit)) c ≡ at_place i (with_relation_at j g) c
+      = changed_alike (with_relation_at j (relation_edited edit)) (with_relation_at j g) c i (database_value [] [])
+      (ap (database_value (database_at i c).name) (changed_alike (relation_edited edit) g (database_at i c).relations j (relation_value [] [] []) (moves (relation_at j (database_at i c))))) in
       record {
         fits = (rw (length_set ds i new) within, subst (λ (d : DatabaseState). (j < length d.relations) × FitsRelation edit (relation_state_at j d)) (sym put) (there, ready));
-        makes = subst (λ (x : CatalogueValue). at_place i (with_relation_at j (relation_edited edit)) x ≡ at_relation db rel (with_row asked) x) (sym (still_all same)) (alike ∙ sym (changed_there c db rel i j h at rel_there (with_row asked)));
+        makes = subst (λ (x : CatalogueValue). at_place i (with_relation_at j (relation_edited edit)) x ≡ at_relation db rel g x) (sym (still_all same)) (alike ∙ sym (changed_there c db rel i j h at rel_there g));
       }
+
+  pub inserted : (room : ℕ) (asked : Row) (edit : RelationEdit) → ((r : RelationValue) → relation_edited edit r ≡ with_row asked r) → plain_database new ≡ plain_database shown → IsPlaceOf relation_name rel (plain_database shown).relations j
+      → FitsRelation edit (relation_state_at j new) → Makes (slice_set ds i new) room (Insert db rel asked) (outer.At i (inner.At j edit))
+  inserted room asked edit adds same rel_at ready = let made = row_moved room (with_row asked) edit adds same rel_at ready in record { fits = made.fits; makes = made.makes }
+
+  pub deleted : (room : ℕ) (asked : Row) (edit : RelationEdit) → ((r : RelationValue) → relation_edited edit r ≡ less_row asked r) → plain_database new ≡ plain_database shown → IsPlaceOf relation_name rel (plain_database shown).relations j
+      → FitsRelation edit (relation_state_at j new) → Makes (slice_set ds i new) room (Delete db rel asked) (outer.At i (inner.At j edit))
+  deleted room asked edit takes same rel_at ready = let made = row_moved room (less_row asked) edit takes same rel_at ready in record { fits = made.fits; makes = made.makes }
 
   -- one database changed alike
   pub changed_database : (f g : DatabaseValue → DatabaseValue) → f (plain_database shown) ≡ g (plain_database shown) → at_place i f (plain_databases ds) ≡ at_database db g (plain_databases ds)
@@ -149,21 +158,9 @@ module _ (ds : List DatabaseState) (db rel : Text) (i j : ℕ) (shown new : Data
       let here : relation_in rel (plain_database shown) ≡ Some r' = subst (λ (x : DatabaseValue). relation_in rel x ≡ Some r') same found in
       same_some r' (plain_relation r) (sym here ∙ found_at text_order relation_name rel (plain_database shown).relations j (relation_value [] [] []) the_database.names.ascend rel_at ∙ ap Some (relation_is rel_at r r_is))
 
-  pub row_stands : (row : Row) (d : DatabaseValue) (r' : RelationValue) (r : RelationState) → database_of (plain_databases ds) db ≡ Some d → relation_in rel d ≡ Some r' → IsPlaceOf relation_name rel (plain_database shown).relations j → slice_index_or shown.relations j r ≡ r
-      → list_any (row_eq row) r'.rows ≡ true → list_any (row_eq row) (plain_relation r).rows ≡ true
-  row_stands row d r' r there found rel_at r_is any = subst (λ (x : RelationValue). list_any (row_eq row) x.rows ≡ true) (relation_same d r' r there found rel_at r_is) any
-
   pub name_stands : (name : Text) (d : DatabaseValue) (r' : RelationValue) (r : RelationState) → database_of (plain_databases ds) db ≡ Some d → relation_in rel d ≡ Some r' → IsPlaceOf relation_name rel (plain_database shown).relations j → slice_index_or shown.relations j r ≡ r
       → is_in name r'.attributes ≡ true → is_in name r.attributes ≡ true
   name_stands name d r' r there found rel_at r_is any = subst (λ (x : RelationValue). is_in name x.attributes ≡ true) (relation_same d r' r there found rel_at r_is) any
-
-  pub row_deleted : (room : ℕ) (row : Row) (place : ℕ) (r : RelationState) → IsPlaceOf relation_name rel (plain_database shown).relations j → slice_index_or shown.relations j r ≡ r
-      → list_any (row_eq row) (plain_relation r).rows ≡ true → Some place ≡ position (row_eq row) (plain_relation r).rows → Makes ds room (Delete db rel row) (outer.At i (inner.At j (Take place)))
-  row_deleted room row place r rel_at r_is any first =
-      let is : place ≡ position_or_len (row_eq row) (plain_relation r).rows = same_some place (position_or_len (row_eq row) (plain_relation r).rows) (first ∙ position_there (row_eq row) (plain_relation r).rows any) in
-      let made = relation_changed room (Take place) (less_row row) r rel_at r_is (ap (λ (n : ℕ). relation_value r.name r.attributes (remove (plain_relation r).rows n)) is)
-      (subst (λ (n : ℕ). n < length (plain_relation r).rows) (sym is) (place_within (row_eq row) (plain_relation r).rows any)) in
-      record { fits = made.fits; makes = made.makes }
 
   pub attribute_renamed : (room : ℕ) (name to : Text) (r : RelationState) (attributes : Row) → IsPlaceOf relation_name rel (plain_database shown).relations j → slice_index_or shown.relations j r ≡ r
       → attributes ≡ slice_set r.attributes (position_or_len (text_eq name) r.attributes) to → Makes ds room (RenameAttribute db rel name to) (outer.At i (inner.At j (Header attributes)))
@@ -212,3 +209,11 @@ remove_beyond [] zero h = refl
 remove_beyond [] (suc i) h = refl
 remove_beyond (x ∷ xs) zero h = absurd (omega (arith, h))
 remove_beyond (x ∷ xs) (suc i) h = ap (λ ys. x ∷ ys) (remove_beyond xs i (omega (arith, h)))
+
+-- rows that were read by reference, changed one by one
+pub mapped_rows : (f : Row → Row) (shown : List (Bor Row)) (rows : List Row) → map (λ (row : Bor Row). row.now) shown ≡ rows → map (λ (row : Bor Row). f row.now) shown ≡ map f rows
+mapped_rows f shown rows e = through shown ∙ ap (map f) e
+  where
+    through : (xs : List (Bor Row)) → map (λ (row : Bor Row). f row.now) xs ≡ map f (map (λ (row : Bor Row). row.now) xs)
+    through [] = refl
+    through (x ∷ xs) = ap (λ (ys : List Row). f x.now ∷ ys) (through xs)

@@ -4,7 +4,7 @@ use Rattle.std.specs.Option.{option_map_or}
 use Rattle.ss_text.specs.Texts.{Text}
 use Rattle.ss_text.specs.Places.{at_place}
 use Rattle.schema_model.specs.Catalogue.{RelationValue, DatabaseValue, CatalogueValue, relation_value, with_row, with_relation_at, database_at, database_of, rows_of, rows_in, row_count}
-use Rattle.schema_model.specs.Changes.{after}
+use Rattle.schema_model.specs.Changes.{after, less_row}
 use Rattle.schema_model.specs.Sound.{IsCounted}
 use Rattle.schema_model.specs.declared.change.Change.{Change}
 use Rattle.schema_model.specs.declared.change.Change.TheVariants.{Insert, Delete, DropRelation, DropDatabase}
@@ -16,16 +16,16 @@ use Rattle.schema_model.specs.declared.edit.DatabaseEdit.TheVariants as inner
 use Rattle.schema_model.specs.declared.edit.CatalogueEdit.{CatalogueEdit}
 use Rattle.schema_model.specs.declared.edit.CatalogueEdit.TheVariants as outer
 
--- a relation: a row more, a row less, other attributes and rows, other attributes alone
+-- a relation: a row more, without the first row that equals one, other attributes and rows, other attributes alone
 abbrev pub relation_edited : RelationEdit → RelationValue → RelationValue
 relation_edited (Add row) r = with_row row.value r
-relation_edited (Take place) r = record r { rows = remove r.rows place }
+relation_edited (Take row) r = less_row row r
 relation_edited (Sheet attributes rows) r = relation_value r.name attributes rows.items
 relation_edited (Header attributes) r = record r { attributes = attributes }
 
 abbrev pub FitsRelation : RelationEdit → RelationState → Type 0
 FitsRelation (Add row) r = r.waiting ≡ row.value ∷ []
-FitsRelation (Take place) r = place < length (plain_relation r).rows
+FitsRelation (Take row) r = ⊤
 FitsRelation (Sheet attributes rows) r = ⊤
 FitsRelation (Header attributes) r = ⊤
 

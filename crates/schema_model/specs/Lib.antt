@@ -1,5 +1,7 @@
 pub mod Catalogue
 pub mod Placed
+pub mod ListedRows
+pub mod RowsKept
 pub mod States
 pub mod Changes
 pub mod Refusals

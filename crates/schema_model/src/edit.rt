@@ -8,8 +8,8 @@ use std::snapshot::Snapshot;
 pub(crate) enum RelationEdit {
     /// The row that waits is put last; it is this one.
     Add { row: Snapshot<Row> },
-    /// The row behind so many others is taken out.
-    Take { place: usize },
+    /// The first row that equals this one is taken out.
+    Take { row: Row },
     /// All attributes and all rows are replaced.
     Sheet { attributes: Row, rows: Vec<Row> },
     /// All attributes are replaced.

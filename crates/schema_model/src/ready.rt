@@ -31,7 +31,7 @@ pub(crate) fn ready(
 {
     match change {
         Change::Insert { db, rel, row } => insert_ready(databases, db, rel, row),
-        Change::Delete { db, rel, row } => Ok(delete_ready(databases, db, rel, row)),
+        Change::Delete { db, rel, row } => delete_ready(databases, db, rel, row),
         Change::DropAttribute { db, rel, name } => drop_attribute_ready(databases, db, rel, name),
         Change::RenameAttribute { db, rel, name, to } => {
             rename_attribute_ready(databases, db, rel, name, to)
@@ -107,7 +107,8 @@ fn add_attribute_ready(
     };
     let relation = databases[db].relation_at(rel);
     let attributes = with_last(alloc, relation.attributes().cells(), name)?;
-    let rows = all_with_last(alloc, relation.all_rows(), fill)?;
+    let kept = relation.rows(alloc)?;
+    let rows = all_with_last(alloc, &kept, fill)?;
     let edit = DatabaseEdit::At {
         rel,
         edit: RelationEdit::Sheet { attributes, rows },
@@ -128,8 +129,8 @@ fn with_last(alloc: Global, cells: &[Text], last: &Text) -> Result<Row, NoMemory
 }
 
 // Each row with one more text.
-fn all_with_last(alloc: Global, rows: &[Row], last: &Text) -> Result<Vec<Row>, NoMemory>
-    ensures { IfOk result (λ made. made.items ≡ map (λ row. row ++ last.now ∷ []) rows.now) }
+fn all_with_last(alloc: Global, rows: &[&Row], last: &Text) -> Result<Vec<Row>, NoMemory>
+    ensures { IfOk result (λ made. made.items ≡ map (λ row. row.now ++ last.now ∷ []) rows.now) }
 {
     let mut made = Vec::with_capacity(alloc, rows.len())?;
     for row in rows {

@@ -15,31 +15,30 @@ use ss_text::{NoMemory, Row, Text};
 use std::alloc::Global;
 
 pub(crate) fn delete_ready(
-    databases: &Vec<Database>,
+    databases: &mut Vec<Database>,
     db: &Text,
     rel: &Text,
     row: &Row,
-) -> CatalogueEdit
-    requires sound { IsSound (plain_databases databases.now.items) }
-    requires accepted { fault (plain_databases databases.now.items) (change_is.Delete db.now rel.now row.now) ≡ None }
-    ensures { Makes databases.now.items (vec_capacity databases.now - vec_len databases.now) (change_is.Delete db.now rel.now row.now) result }
+) -> Result<CatalogueEdit, NoMemory>
+    requires sound { IsSound (plain_databases databases.old.items) }
+    requires accepted { fault (plain_databases databases.old.items) (change_is.Delete db.now rel.now row.now) ≡ None }
+    ensures same { plain_databases databases.new.items ≡ plain_databases databases.old.items }
+    ensures makes { IfOk result (λ e. Makes databases.new.items (vec_capacity databases.new - vec_len databases.new) (change_is.Delete db.now rel.now row.now) e) }
 {
     let Ok(db) = place_of(databases, db) else {
         unreachable!()
     };
-    let database = &databases[db];
+    let row = row.copy()?;
+    let database = &mut databases[db];
     let Ok(rel) = database.place_of(rel) else {
         unreachable!()
     };
-    let relation = database.relation_at(rel);
-    let Some(place) = relation.position(row) else {
-        unreachable!()
-    };
+    database.link_rows(rel)?;
     let edit = DatabaseEdit::At {
         rel,
-        edit: RelationEdit::Take { place },
+        edit: RelationEdit::Take { row },
     };
-    CatalogueEdit::At { db, edit }
+    Ok(CatalogueEdit::At { db, edit })
 }
 
 pub(crate) fn rename_attribute_ready(
@@ -93,7 +92,8 @@ pub(crate) fn drop_attribute_ready(
         unreachable!()
     };
     let attributes = without(alloc, relation.attributes().cells(), place)?;
-    let rows = all_without(alloc, relation.all_rows(), place)?;
+    let kept = relation.rows(alloc)?;
+    let rows = all_without(alloc, &kept, place)?;
     let edit = DatabaseEdit::At {
         rel,
         edit: RelationEdit::Sheet { attributes, rows },
@@ -119,8 +119,8 @@ fn take_out(texts: &mut Vec<Text>, place: usize)
     }
 }
 
-fn all_without(alloc: Global, rows: &[Row], place: usize) -> Result<Vec<Row>, NoMemory>
-    ensures { IfOk result (λ made. made.items ≡ map (λ row. remove row place) rows.now) }
+fn all_without(alloc: Global, rows: &[&Row], place: usize) -> Result<Vec<Row>, NoMemory>
+    ensures { IfOk result (λ made. made.items ≡ map (λ row. remove row.now place) rows.now) }
 {
     let mut made = Vec::with_capacity(alloc, rows.len())?;
     for row in rows {

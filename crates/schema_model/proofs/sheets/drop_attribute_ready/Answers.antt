@@ -1,4 +1,4 @@
-use Rattle.std.proofs.Common.{◌≡◌, ◌∙◌, ap, map, refl}
+use Rattle.std.proofs.Common.{◌≡◌, ◌∙◌, ap, map, refl, Bor}
 use Rattle.std.specs.Prelude.{remove}
 use Rattle.std.specs.List.{position}
 use Rattle.std.proofs.lemmas.List.{get_or_read}
@@ -7,7 +7,7 @@ use Rattle.schema_model.specs.Catalogue.{DatabaseValue}
 use Rattle.schema_model.proofs.ChangeLemmas.{position_there}
 use Rattle.schema_model.proofs.Asks.{drop_has}
 use Rattle.schema_model.specs.States.{plain_relation, plain_databases}
-use Rattle.schema_model.proofs.ReadyLemmas.{not_missed, within_seen, relation_not_missed, name_stands, attribute_dropped}
+use Rattle.schema_model.proofs.ReadyLemmas.{not_missed, within_seen, relation_not_missed, name_stands, attribute_dropped, mapped_rows}
 use Rattle.schema_model.specs.declared.edit.RelationEdit.TheVariants.{Sheet}
 use Rattle.schema_model.proofs.sheets.drop_attribute_ready.Goals as goal
 
@@ -41,6 +41,6 @@ returns c =
     let any = name_stands ds c.args.db.now c.args.rel.now c.in-Ok.db c.in-Ok-place_of.rel c.index-database.result.now c.index-database.result.now c.requires.sound c.in-Ok.ensures.found is c.args.name.now has.at.d has.at.r r has.at.database has.at.relation c.in-Ok-place_of.ensures.found c.relation_at-relation.ensures has.there in
     let first = c.in-Some.ensures ∙ ap (position (text_eq c.args.name.now)) (c.cells.ensures ∙ c.attributes.ensures.attributes) in
     let attributes : c.in_ok-attributes.attributes ≡ remove r.attributes c.in-Some.place = c.in_ok-attributes.ensures ∙ ap (λ (names : Row). remove names c.in-Some.place) (c.cells-2.ensures ∙ c.attributes-2.ensures.attributes) in
-    let rows : c.in_ok-rows.rows.items ≡ map (λ (row : Row). remove row c.in-Some.place) (plain_relation r).rows = c.in_ok-rows.ensures ∙ ap (map (λ (row : Row). remove row c.in-Some.place)) c.all_rows.ensures in
+    let rows : c.in_ok-rows.rows.items ≡ map (λ (row : Row). remove row c.in-Some.place) (plain_relation r).rows = c.in_ok-rows.ensures ∙ ap (map (λ (row : Bor Row). remove row.now c.in-Some.place)) c.deref.ensures.value ∙ mapped_rows (λ (row : Row). remove row c.in-Some.place) c.in_ok-kept.kept.items (plain_relation r).rows c.in_ok-kept.ensures in
     attribute_dropped ds c.args.db.now c.args.rel.now c.in-Ok.db c.in-Ok-place_of.rel c.index-database.result.now c.index-database.result.now c.requires.sound c.in-Ok.ensures.found is _ c.args.name.now c.in-Some.place r
     (Sheet c.in_ok-attributes.attributes c.in_ok-rows.rows) c.in-Ok-place_of.ensures.found c.relation_at-relation.ensures any first (rw (attributes, rows) refl) tt

@@ -1,6 +1,6 @@
 use Rattle.std.proofs.Common.{◌≡◌, ◌++◌, map, length}
 use Rattle.schema_model.specs.Placed.{placed_rows, ArePlaces}
-use Rattle.sheets.proofs.Walks.{rows_from, IsThere}
+use Rattle.schema_model.proofs.Walks.{rows_from, IsThere}
 use Rattle.sheets.proofs.sheet.rows_of.Given as goal
 
 abbrev pub invariant-loop-next : goal.invariant-loop-next

@@ -1,6 +1,6 @@
 use Rattle.std.proofs.Common.{rules, ◌<◌, length}
 use Rattle.schema_model.proofs.NumberedLemmas.{after_numbered, place_numbered}
-use Rattle.schema_model.proofs.relation.Relation.after.Goals as goal
+use Rattle.schema_model.proofs.listed.Listed.after.Goals as goal
 
 pub overflow_add-place : goal.overflow_add-place
 overflow_add-place c =

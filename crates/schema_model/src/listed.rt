@@ -1,0 +1,163 @@
+//! Rows in a list, each at its number.
+ghost use Rattle.std.specs.Prelude.{◌≡◌, ◌∷◌, ◌++◌, [], IfOk, OnOk, OnErr, IsTrue, length, remove, vec_len, vec_capacity, ◌<◌, ◌-◌};
+ghost use Rattle.std.specs.List.{list_any, position, position_or_len};
+ghost use Rattle.ss_text.specs.Texts.{row_eq};
+ghost use Rattle.schema_model.specs.Placed.{placed_rows, first_place, after_place, row_at, is_place, numbered};
+ghost use Rattle.schema_model.specs.ListedRows.{listed_rows};
+
+use row_links::Linked;
+use ss_text::{NoMemory, Row};
+use std::alloc::Global;
+use std::marker::Model;
+use std::snapshot::Snapshot;
+
+/// Rows in a list, which contracts see as the list and the row that waits to be added, if one does.
+#[derive(Drop)]
+pub(crate) struct Listed {
+    rows: Vec<Row>,
+    waiting: Option<Row>,
+    // Whether a row was to be taken out before.
+    taken: bool,
+}
+
+impl Model for Listed {
+    ghost use Rattle.std.specs.Prelude.{◌<◌, ◌-◌, IfSome, option_to_list, vec_len, vec_capacity};
+    ghost use Rattle.schema_model.specs.ListedRows.{ListedRows, listed_rows};
+
+    ghost Value = { ListedRows };
+
+    ghost view = { λ l. listed_rows l.rows.items (option_to_list l.waiting) };
+
+    ghost invariant = { λ l. IfSome l.waiting (λ _. 0 < vec_capacity l.rows - vec_len l.rows) };
+}
+
+impl Listed {
+    /// These rows.
+    pub(crate) fn of(rows: Vec<Row>) -> Listed
+        ensures { result ≡ listed_rows rows.items [] }
+    {
+        Listed {
+            rows,
+            waiting: None,
+            taken: false,
+        }
+    }
+
+    /// How many there are.
+    pub(crate) fn count(&self) -> usize
+        ensures { result ≡ length self.now.rows }
+    {
+        self.rows.len()
+    }
+
+    /// The place of the first row.
+    pub(crate) fn first(&self) -> Option<usize>
+        ensures { result ≡ first_place (numbered 0 self.now.rows) }
+    {
+        if self.rows.is_empty() { None } else { Some(0) }
+    }
+
+    /// The place of the row after the one at this place.
+    pub(crate) fn after(&self, place: usize) -> Option<usize>
+        requires { IsTrue (is_place place (numbered 0 self.now.rows)) }
+        ensures { result ≡ first_place (after_place place (numbered 0 self.now.rows)) }
+    {
+        let count = self.rows.len();
+        if place + 1 < count {
+            Some(place + 1)
+        } else {
+            None
+        }
+    }
+
+    /// The row at a place.
+    pub(crate) fn row(&self, place: usize) -> &Row
+        requires { IsTrue (is_place place (numbered 0 self.now.rows)) }
+        ensures { result.now ≡ row_at place (numbered 0 self.now.rows) }
+    {
+        &self.rows[place]
+    }
+
+    /// Whether some row equals this one.
+    pub(crate) fn has(&self, row: &Row) -> bool
+        ensures { result ≡ list_any (row_eq row.now) self.now.rows }
+    {
+        self.rows.iter().any(|kept| row == kept)
+    }
+
+    /// Puts a row last.
+    pub(crate) fn put(&mut self, row: Row) -> Result<(), NoMemory>
+        ensures ok { OnOk result (self.new.rows ≡ self.old.rows ++ row ∷ []) }
+        ensures err { OnErr result (self.new.rows ≡ self.old.rows) }
+    {
+        self.waiting = None;
+        self.rows.push(row)?;
+        Ok(())
+    }
+
+    /// Makes a row ready to be put last: takes all memory that this needs. It waits alone then, or after `NoMemory`
+    /// none does.
+    pub(crate) fn reserve(&mut self, row: Row) -> Result<(), NoMemory>
+        ensures rows { self.new.rows ≡ self.old.rows }
+        ensures ok { OnOk result (self.new.waiting ≡ row ∷ []) }
+    {
+        self.waiting = None;
+        self.rows.reserve(1)?;
+        self.waiting = Some(row);
+        Ok(())
+    }
+
+    /// Puts the row that waits last. This takes no memory.
+    pub(crate) fn add(&mut self, row: Snapshot<Row>)
+        requires { self.old.waiting ≡ row.value ∷ [] }
+        ensures { self.new.rows ≡ self.old.rows ++ row.value ∷ [] }
+    {
+        let Some(waiting) = self.waiting.take() else {
+            unreachable!()
+        };
+        let Ok(()) = self.rows.push(waiting) else {
+            unreachable!()
+        };
+    }
+
+    /// Takes the first row out that equals this one, if one does. This takes no memory.
+    pub(crate) fn take(&mut self, row: &Row)
+        ensures { self.new.rows ≡ remove self.old.rows (position_or_len (row_eq row.now) self.old.rows) }
+    {
+        self.waiting = None;
+        take_first(&mut self.rows, row);
+    }
+
+    /// Whether a row was to be taken out before; one is from now on.
+    pub(crate) fn taken_before(&mut self) -> bool
+        ensures { self.new ≡ self.old }
+    {
+        let before = self.taken;
+        self.taken = true;
+        before
+    }
+
+    /// The same rows, linked. They are taken out of the list, but for want of memory.
+    pub(crate) fn link(&mut self, alloc: Global) -> Result<Linked, NoMemory>
+        ensures linked { IfOk result (λ linked. placed_rows linked.live ≡ self.old.rows) }
+        ensures kept { OnErr result (self.new.rows ≡ self.old.rows) }
+    {
+        self.waiting = None;
+        Linked::of_rows(alloc, &mut self.rows)
+    }
+}
+
+// Takes the first row out that equals this one, if one does.
+fn take_first(rows: &mut Vec<Row>, row: &Row)
+    ensures { rows.new.items ≡ remove rows.old.items (position_or_len (row_eq row.now) rows.old.items) }
+{
+    if let Some(place) = position(rows, row) {
+        rows.remove(place);
+    }
+}
+
+fn position(rows: &Vec<Row>, row: &Row) -> Option<usize>
+    ensures { result ≡ position (row_eq row.now) rows.now.items }
+{
+    rows.iter().position(|kept| row == kept)
+}
