@@ -16,7 +16,7 @@ use Rattle.flow_law.specs.declared.line.TableLine.TheVariants.{TableMinus, Table
 use Rattle.flow_law.specs.Tables.{TableValue, TablesValue, empty_table, table_of, labels_of, row_keys, cell_of}
 use Rattle.flow_law.specs.InOrder.{AreTables}
 use Rattle.flow_law.specs.Lines.{label_of, after_line, after_lines, has_table, fits_table, fits_line, fit_lines}
-use Rattle.flow_law.specs.Script.{columns_beyond, keys_beyond, cell_line, changed, lines_for, script}
+use Rattle.flow_law.specs.Script.{columns_beyond, keys_beyond, cell_line, lines_between, lines_for, script}
 use Rattle.flow_law.proofs.ScriptLaw.{script_makes, script_fits}
 use Rattle.change_script.specs.declared.applying.ApplyFault.TheVariants.{KeyLength}
 use Rattle.change_script.specs.Applied.{wrong_key, key_fault, label_fault, can_have, has_needed, has_added, is_target_there, is_added_there, applied_line, applied_behind, applied}
@@ -169,7 +169,7 @@ module _ (shape : Shape) where
       let beyond = all_filter P (λ column. not (is_in column others)) columns h in
       all_mapped L f (columns_beyond others columns) (weaker P (λ column. L (f column)) (columns_beyond others columns) lawful beyond)
 
-  changed_lawful : (label : Text) (old new : TableValue) → Spots old.columns → Keyed (row_keys old) → TableFits shape label new → AllByRecursion L (changed label old new)
+  changed_lawful : (label : Text) (old new : TableValue) → Spots old.columns → Keyed (row_keys old) → TableFits shape label new → AllByRecursion L (lines_between label old new)
   changed_lawful label old new spots keyed h =
       let A = map (λ key. RowMinus label key) (keys_beyond (row_keys new) (row_keys old)) in
       let B = map (λ column. ColumnMinus label column) (columns_beyond new.columns old.columns) in

@@ -3,7 +3,7 @@ ghost use Rattle.std.specs.Prelude.{◌≡◌, ◌<◌, [], ◌∷◌, ◌++◌,
 ghost use Rattle.ss_text.specs.Texts.{text_cmp};
 ghost use Rattle.ss_text.specs.Ascending.{ascending};
 ghost use Rattle.flow_law.specs.Tables.{empty_table, labels_of, table_of, row_keys, row_at, cells_of};
-ghost use Rattle.flow_law.specs.Script.{keys_beyond, columns_beyond, cell_line, changed, lines_for, script};
+ghost use Rattle.flow_law.specs.Script.{keys_beyond, columns_beyond, cell_line, lines_between, lines_for, script};
 
 use crate::Script;
 use flow_law::{Table, TableLine, Tables};
@@ -80,7 +80,7 @@ fn push_table_new(
     label: &Text,
     table: &Table,
 ) -> Result<(), NoMemory>
-    ensures { OnOk result (lines.new.items ≡ lines.old.items ++ TableLine.TablePlus label.now ∷ changed label.now empty_table table.now) }
+    ensures { OnOk result (lines.new.items ≡ lines.old.items ++ TableLine.TablePlus label.now ∷ lines_between label.now empty_table table.now) }
 {
     lines.push(TableLine::TablePlus {
         label: label.copy()?,
@@ -96,7 +96,7 @@ fn push_changed(
     old: &Table,
     new: &Table,
 ) -> Result<(), NoMemory>
-    ensures { OnOk result (lines.new.items ≡ lines.old.items ++ changed label.now old.now new.now) }
+    ensures { OnOk result (lines.new.items ≡ lines.old.items ++ lines_between label.now old.now new.now) }
 {
     push_rows_gone(lines, label, old, new)?;
     push_columns_gone(lines, label, old, new)?;

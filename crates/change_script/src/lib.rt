@@ -11,8 +11,6 @@ mod law;
 mod printed;
 mod reading;
 mod script;
-#[cfg(test)]
-mod tests;
 mod verb;
 
 pub use applying::{ApplyFault, apply_line};

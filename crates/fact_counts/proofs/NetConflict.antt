@@ -127,7 +127,7 @@ pub spots_named : (fs : List Fact) (s : Spot) → list_any (spot_eq s) (spots_of
 spots_named fs s = any_ascending spot_order s (filter_map (λ (f : Fact). option_map (λ column. (f.label, f.key, column)) (column_of f)) fs)
 
 -- a clash is named
-clash_named : (fs : List Fact) (s : Spot) → (list_any (spot_eq s) (spots_of fs) && is_some (clash_at fs s)) ≡ is_some (clash_at fs s)
+pub clash_named : (fs : List Fact) (s : Spot) → (list_any (spot_eq s) (spots_of fs) && is_some (clash_at fs s)) ≡ is_some (clash_at fs s)
 clash_named fs s = by_test (list_any (spot_eq s) (spots_of fs)) refl
   where
     by_test : (b : Bool) → list_any (spot_eq s) (spots_of fs) ≡ b → (b && is_some (clash_at fs s)) ≡ is_some (clash_at fs s)

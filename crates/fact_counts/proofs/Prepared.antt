@@ -6,7 +6,7 @@ use Rattle.counts.specs.declared.moves.Move.{Move}
 use Rattle.counts.specs.Counted.{goes}
 use Rattle.flow_law.specs.Facts.{Fact, illegal_column, conflict}
 use Rattle.flow_law.specs.FactTables.{fact_table}
-use Rattle.flow_law.specs.Script.{changed}
+use Rattle.flow_law.specs.Script.{lines_between}
 use Rattle.fact_counts.specs.declared.facts.FactCounts.{FactCounts}
 use Rattle.fact_counts.specs.declared.facts.Nets.{Nets}
 use Rattle.fact_counts.specs.Touched.{has_column}
@@ -35,7 +35,7 @@ module _ (k : FactCounts) (n : Nets) (label : Text) (constants : Row) (ms : List
   pub clash_is : first_clash label (present_of k n) ≡ conflict new
   clash_is = conflict_is_first k old (counts_before k n label constants ms old new h) label n (map (λ (m : Move Fact). m.key) ms) new (beyond k n label constants ms old new h) (counts_now k n label constants ms old new h) (names k n label constants ms old new h) h.bear
 
-  pub lines_are : first_clash label (present_of k n) ≡ None → net_lines label k n ≡ changed label (fact_table old) (fact_table new)
+  pub lines_are : first_clash label (present_of k n) ≡ None → net_lines label k n ≡ lines_between label (fact_table old) (fact_table new)
   lines_are clean =
       net_lines_touched k old (counts_before k n label constants ms old new h) label n (map (λ (m : Move Fact). m.key) ms) new (beyond k n label constants ms old new h) (counts_now k n label constants ms old new h) (names k n label constants ms old new h) clean
       ∙ sym (changed_is_touched label (map (λ (m : Move Fact). m.key) ms) old new (beyond k n label constants ms old new h))

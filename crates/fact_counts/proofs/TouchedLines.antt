@@ -19,7 +19,7 @@ use Rattle.ss_text.proofs.SetLemmas.{SameElements, least_of_same}
 use Rattle.flow_law.specs.Facts.{Fact, column_of, value_in, values_at}
 use Rattle.flow_law.specs.Tables.{TableValue, cell_of, row_keys}
 use Rattle.flow_law.specs.FactTables.{value_for, fact_table}
-use Rattle.flow_law.specs.Script.{keys_beyond, columns_beyond, cell_line, changed}
+use Rattle.flow_law.specs.Script.{keys_beyond, columns_beyond, cell_line, lines_between}
 use Rattle.flow_law.specs.declared.line.TableLine.{TableLine}
 use Rattle.flow_law.specs.declared.line.TableLine.TheVariants.{RowMinus, ColumnMinus, ColumnPlus, RowPlus, Cell}
 use Rattle.fact_counts.specs.Touched.{Place, Entry, place_cmp, place_eq, place_of, entry_of, bears_key, bears_column, bears_place, has_key, has_column, keys_named, columns_named, places_named, value_moves, touched_lines, SameBeyond}
@@ -269,9 +269,9 @@ module _ (named old new : List Fact) (beyond : SameBeyond named old new) where
       (λ p. rw (any_place p (keys_named new) (columns_named new), key_named p.0 new, column_named p.1 new, place_named p named)
       (among_if (has_key new p.0 && has_column new p.1) (moves p) (list_any (bears_place p) named) (stays p)))
 
-  pub changed_touched : (label : Text) → changed label (fact_table old) (fact_table new) ≡ touched_lines label named old new
+  pub changed_touched : (label : Text) → lines_between label (fact_table old) (fact_table new) ≡ touched_lines label named old new
   changed_touched label =
       rw (row_keys_are old, row_keys_are new, keys_gone, keys_new, columns_gone, columns_new, cell_lines label (keys_named new) (columns_named new), places_moved) refl
 
-pub changed_is_touched : (label : Text) (named old new : List Fact) → SameBeyond named old new → changed label (fact_table old) (fact_table new) ≡ touched_lines label named old new
+pub changed_is_touched : (label : Text) (named old new : List Fact) → SameBeyond named old new → lines_between label (fact_table old) (fact_table new) ≡ touched_lines label named old new
 changed_is_touched label named old new beyond = changed_touched named old new beyond label

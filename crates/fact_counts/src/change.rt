@@ -3,7 +3,7 @@ ghost use Rattle.std.specs.Prelude.{◌≡◌, List, None, IfOk, IfErr};
 ghost use Rattle.counts.specs.declared.moves.Move.{Move};
 ghost use Rattle.flow_law.specs.Facts.{Fact, illegal_column, conflict};
 ghost use Rattle.flow_law.specs.FactTables.{fact_table};
-ghost use Rattle.flow_law.specs.Script.{changed};
+ghost use Rattle.flow_law.specs.Script.{lines_between};
 ghost use Rattle.fact_counts.specs.Moves.{IsChange};
 ghost use Rattle.fact_counts.specs.Stopped.{StopsFor};
 
@@ -24,7 +24,7 @@ pub fn prepare(
     requires { (ms : List (Move Fact)) × (old : List Fact) × (new : List Fact) × IsChange counts.now nets.now label.now constants.now ms old new }
     ensures legal { IfOk result (λ lines. (ms : List (Move Fact)) (old new : List Fact) → IsChange counts.now nets.now label.now constants.now ms old new → illegal_column constants.now new ≡ None) }
     ensures clean { IfOk result (λ lines. (ms : List (Move Fact)) (old new : List Fact) → IsChange counts.now nets.now label.now constants.now ms old new → conflict new ≡ None) }
-    ensures lines { IfOk result (λ lines. (ms : List (Move Fact)) (old new : List Fact) → IsChange counts.now nets.now label.now constants.now ms old new → lines.items ≡ changed label.now (fact_table old) (fact_table new)) }
+    ensures lines { IfOk result (λ lines. (ms : List (Move Fact)) (old new : List Fact) → IsChange counts.now nets.now label.now constants.now ms old new → lines.items ≡ lines_between label.now (fact_table old) (fact_table new)) }
     ensures stops { IfErr result (λ s. (ms : List (Move Fact)) (old new : List Fact) → IsChange counts.now nets.now label.now constants.now ms old new → StopsFor (illegal_column constants.now new) (conflict new) s) }
 {
     match net_lines(alloc, label, constants, counts, nets) {

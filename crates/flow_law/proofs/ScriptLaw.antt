@@ -16,7 +16,7 @@ use Rattle.ss_text.proofs.PairLemmas.{lookup_changed, lookup_kept, lookup_gone, 
 use Rattle.flow_law.specs.Tables.{TableValue, TablesValue, empty_table, table_of, tables_at, label_in, labels_of, row_keys, cell_of}
 use Rattle.flow_law.specs.InOrder.{IsTable, AreTables}
 use Rattle.flow_law.specs.Lines.{label_of, table_after, fits_table, at_table, with_table, after_line, after_lines, has_table, fits_line, fit_lines}
-use Rattle.flow_law.specs.Script.{cell_line, changed, lines_for, script, keys_beyond, columns_beyond}
+use Rattle.flow_law.specs.Script.{cell_line, lines_between, lines_for, script, keys_beyond, columns_beyond}
 use Rattle.flow_law.specs.declared.line.TableLine.{TableLine}
 use Rattle.flow_law.specs.declared.line.TableLine.TheVariants.{TableMinus, TablePlus, RowMinus, ColumnMinus, ColumnPlus, RowPlus, Cell}
 use Rattle.flow_law.proofs.TableLemmas.{line_in_order}
@@ -98,7 +98,7 @@ module _ (label : Text) where
   each_row old new columns [] = tt
   each_row old new columns (k ∷ ks) = each_append (filter_map (cell_line label old new k) columns) (flat_map (λ key. filter_map (cell_line label old new key) columns) ks) (each_cell old new k columns) (each_row old new columns ks)
 
-  each_changed : (old new : TableValue) → AllByRecursion (RowLine label) (changed label old new)
+  each_changed : (old new : TableValue) → AllByRecursion (RowLine label) (lines_between label old new)
   each_changed old new =
       let A = map (λ key. RowMinus label key) (keys_beyond (row_keys new) (row_keys old)) in
       let B = map (λ column. ColumnMinus label column) (columns_beyond new.columns old.columns) in
@@ -151,11 +151,11 @@ module _ (label : Text) where
         others = λ q apart. rest.others q apart ∙ others q apart;
       }
 
-  changed_made : (ts : TablesValue) (old new : TableValue) → AreTables ts → IsTable new → table_of ts label ≡ Some old → Made ts (Some new) (changed label old new)
+  changed_made : (ts : TablesValue) (old new : TableValue) → AreTables ts → IsTable new → table_of ts label ≡ Some old → Made ts (Some new) (lines_between label old new)
   changed_made ts old new h i e =
       let in_order = found_in_order ts label old h e in
-      subst (λ (t : TableValue). Made ts (Some t) (changed label old new)) (changed_makes label old new in_order i)
-      (rows_made (changed label old new) ts old (each_changed old new) h e (changed_fits label old new in_order i))
+      subst (λ (t : TableValue). Made ts (Some t) (lines_between label old new)) (changed_makes label old new in_order i)
+      (rows_made (lines_between label old new) ts old (each_changed old new) h e (changed_fits label old new in_order i))
 
   not_false : (b : Bool) → b ≡ false → not b ≡ true
   not_false true h = absurd (cc)
@@ -190,9 +190,9 @@ module _ (label : Text) where
       here : table_of (with_table label ts) label ≡ Some empty_table
       here = seen label ∙ ap (λ b. cond b (Some empty_table) (table_of ts label)) (equal_itself text_order label)
 
-      joined : Made (with_table label ts) (Some new) (changed label empty_table new) → Made ts (Some new) (TablePlus label ∷ changed label empty_table new)
+      joined : Made (with_table label ts) (Some new) (lines_between label empty_table new) → Made ts (Some new) (TablePlus label ∷ lines_between label empty_table new)
       joined rest = record {
-        fit = and_both (not (has_table ts label)) (fit_lines (with_table label ts) (changed label empty_table new)) (not_false (has_table ts label) absent) rest.fit;
+        fit = and_both (not (has_table ts label)) (fit_lines (with_table label ts) (lines_between label empty_table new)) (not_false (has_table ts label) absent) rest.fit;
         in_order = rest.in_order;
         here = rest.here;
         others = λ q apart. rest.others q apart ∙ seen q ∙ ap (λ b. cond b (Some empty_table) (table_of ts q)) apart;

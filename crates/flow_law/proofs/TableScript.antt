@@ -9,7 +9,7 @@ use Rattle.ss_text.proofs.PairLemmas.{any_filtered, each_found, found_each}
 use Rattle.flow_law.specs.Tables.{TableValue, row_keys, cell_of}
 use Rattle.flow_law.specs.InOrder.{IsTable}
 use Rattle.flow_law.specs.Lines.{with_cell, has_row, has_column}
-use Rattle.flow_law.specs.Script.{columns_beyond, keys_beyond, cell_line, changed}
+use Rattle.flow_law.specs.Script.{columns_beyond, keys_beyond, cell_line, lines_between}
 use Rattle.flow_law.specs.declared.line.TableLine.{TableLine}
 use Rattle.flow_law.specs.declared.line.TableLine.TheVariants.{RowMinus, ColumnMinus, ColumnPlus, RowPlus, Cell}
 use Rattle.flow_law.proofs.TableLemmas.{line_in_order}
@@ -310,10 +310,10 @@ module _ (label : Text) (old new : TableValue) where
     after_four : steps old (A ++ B ++ C ++ D) ≡ fourth
     after_four = steps-append old (A ++ B ++ C) D ∙ ap (λ t. steps t D) after_three
 
-    pub changed_makes : steps old (changed label old new) ≡ new
+    pub changed_makes : steps old (lines_between label old new) ≡ new
     changed_makes = steps-append old (A ++ B ++ C ++ D) F ∙ ap (λ t. steps t F) after_four ∙ fifth_is
 
-    pub changed_fits : fit_steps old (changed label old new) ≡ true
+    pub changed_fits : fit_steps old (lines_between label old new) ≡ true
     changed_fits =
         let two = fit_steps-append old A B rows_gone.fit columns_gone.fit in
         let three = fit_steps-append old (A ++ B) C two (subst (λ (t : TableValue). fit_steps t C ≡ true) (sym after_two) columns_new.fit) in

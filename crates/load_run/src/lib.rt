@@ -9,9 +9,8 @@ mod number;
 mod run;
 mod start;
 mod summary;
-#[cfg(test)]
-mod tests;
 
 pub use number::{changes_of, seed_of};
 pub use run::load;
+pub use start::view;
 pub use summary::{Size, Summary, summary_row};

@@ -43,8 +43,8 @@ fn catalogue(alloc: Global) -> Result<Catalogue, NoMemory>
     Ok(catalogue)
 }
 
-// The view `create view G::t(k, D) as select T.k, T.v from g::r T, T.d D`.
-pub(crate) fn view(alloc: Global) -> Result<View, NoMemory>
+/// The view `create view G::t(k, D) as select T.k, T.v from g::r T, T.d D`.
+pub fn view(alloc: Global) -> Result<View, NoMemory>
     ensures { IfOk result (λ view. query_of view ≡ query) }
 {
     let rows = Range::Tuples(name(alloc, b"g")?, name(alloc, b"r")?);

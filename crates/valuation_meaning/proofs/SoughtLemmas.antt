@@ -18,7 +18,7 @@ use Rattle.view_def.specs.Conditions.{Compares}
 use Rattle.view_def.specs.Query.{Query}
 use Rattle.view_def.specs.Profile.{lists_tuples}
 use Rattle.flow_law.specs.Facts.{Fact}
-use Rattle.valuation_meaning.specs.Elements.{Element, Valuation, A_row, text_of, text_at, cell_of, cell_at, cell_under, elements}
+use Rattle.valuation_meaning.specs.Elements.{Element, Valuation, A_row, text_of, text_at, cell_of_element, cell_at, cell_under, elements}
 use Rattle.valuation_meaning.specs.Terms.{value_of, compares_values}
 use Rattle.valuation_meaning.specs.Valuations.{counts}
 use Rattle.valuation_meaning.specs.Listing.{facts_after}
@@ -82,11 +82,11 @@ no_value None = refl
 no_value (Some t) = refl
 
 module _ (q : Query) (a : Text) (s t : Term) (v w : Valuation) (e : Element) (cell : resolved q.decls s ≡ term.Cell (length v) (place.Fixed a)) (bound : is_bound (length v) (resolved q.decls t) ≡ true)
-    (unlike : is_sought (value_of v (resolved q.decls t)) (cell_of e a) ≡ false) (agree : AliasesAgree q (v ++ e ∷ w)) where
+    (unlike : is_sought (value_of v (resolved q.decls t)) (cell_of_element e a) ≡ false) (agree : AliasesAgree q (v ++ e ∷ w)) where
   abbrev whole : Valuation
   whole = v ++ e ∷ w
 
-  row_cell : value_of whole (resolved q.decls s) ≡ cell_of e a
+  row_cell : value_of whole (resolved q.decls s) ≡ cell_of_element e a
   row_cell = rw cell (rw (last_at v w e) refl)
 
   sought : value_of whole (resolved q.decls t) ≡ value_of v (resolved q.decls t)
@@ -99,7 +99,7 @@ module _ (q : Query) (a : Text) (s t : Term) (v w : Valuation) (e : Element) (ce
           → compares_values Eq (value_of whole s) (value_of whole t) ≡ false
       by_reading (inl none) other = rw none refl
       by_reading (inr is) (inl none) = rw none (no_value (value_of whole s))
-      by_reading (inr is) (inr also) = rw (is ∙ row_cell, also ∙ sought) (unequal_first (value_of v (resolved q.decls t)) (cell_of e a) unlike)
+      by_reading (inr is) (inr also) = rw (is ∙ row_cell, also ∙ sought) (unequal_first (value_of v (resolved q.decls t)) (cell_of_element e a) unlike)
 
   differ_second : compares_values Eq (value_of whole t) (value_of whole s) ≡ false
   differ_second = by_reading (read_as q whole agree s) (read_as q whole agree t)
@@ -108,7 +108,7 @@ module _ (q : Query) (a : Text) (s t : Term) (v w : Valuation) (e : Element) (ce
           → compares_values Eq (value_of whole t) (value_of whole s) ≡ false
       by_reading other (inl none) = rw none refl
       by_reading (inl none) (inr also) = rw none (no_value (value_of whole t))
-      by_reading (inr is) (inr also) = rw (is ∙ row_cell, also ∙ sought) (unequal_second (value_of v (resolved q.decls t)) (cell_of e a) unlike)
+      by_reading (inr is) (inr also) = rw (is ∙ row_cell, also ∙ sought) (unequal_second (value_of v (resolved q.decls t)) (cell_of_element e a) unlike)
 
 module _ (q : Query) (a : Text) (s t : Term) (k : ℕ) (cell : resolved q.decls s ≡ term.Cell k (place.Fixed a)) (bound : is_bound k (resolved q.decls t) ≡ true) where
   pub equal_first : NeedsMember q (Compares s Eq t) → NeedsEqual q k (resolved q.decls t) a
@@ -174,7 +174,7 @@ module _ (c : CatalogueValue) (q : Query) (v : Valuation) (d : Range) (l : Looku
       not_alias : (j : ℕ) (a : Place) → d ≡ range.Alias j a → lists_tuples d ≡ true → ⊥
       not_alias j a same rows = absurd (cc (rw same at rows))
 
-  none_of : (e : Element) → is_sought (value_of v (operand_term l.sought)) (cell_of e l.index.1) ≡ false → next e ≡ []
+  none_of : (e : Element) → is_sought (value_of v (operand_term l.sought)) (cell_of_element e l.index.1) ≡ false → next e ≡ []
   none_of e unlike = no_facts_more c q v e (any_agrees e) (needed v e refl unlike)
 
   -- the value that is sought is there
@@ -185,7 +185,7 @@ module _ (c : CatalogueValue) (q : Query) (v : Valuation) (d : Range) (l : Looku
       ∙ ap (flat_map next) (over v ∙ ap (λ n. map (A_row l.index.0) (range_with_len 0 n)) (sym (cells_long l.index.0 l.index.1 l.index.0.rows)))
       ∙ picked next l.index.0 s 0 (cells_of l.index) (λ i cell at unlike. none_of (A_row l.index.0 (0 + i)) (wrong i cell at unlike))
     where
-      wrong : (i : ℕ) (cell : Option Text) → slice_get (cells_of l.index) i ≡ Some cell → is_cell s cell ≡ false → is_sought (value_of v (operand_term l.sought)) (cell_of (A_row l.index.0 (0 + i)) l.index.1) ≡ false
+      wrong : (i : ℕ) (cell : Option Text) → slice_get (cells_of l.index) i ≡ Some cell → is_cell s cell ≡ false → is_sought (value_of v (operand_term l.sought)) (cell_of_element (A_row l.index.0 (0 + i)) l.index.1) ≡ false
       wrong i cell at unlike =
           let zero_more : 0 + i ≡ i = omega arith in
           rw (zero_more, value, cell_at_place l.index.0 l.index.1 l.index.0.rows i cell at) unlike
@@ -197,7 +197,7 @@ module _ (c : CatalogueValue) (q : Query) (v : Valuation) (d : Range) (l : Looku
       all_none : (es : List Element) → flat_map next es ≡ []
       all_none [] = refl
       all_none (e ∷ es) =
-          let none : is_sought (value_of v (operand_term l.sought)) (cell_of e l.index.1) ≡ false = rw value refl in
+          let none : is_sought (value_of v (operand_term l.sought)) (cell_of_element e l.index.1) ≡ false = rw value refl in
           rw (none_of e none) (all_none es)
 
 -- one of those of which all have a property

@@ -12,7 +12,7 @@ use Rattle.view_def.specs.Profile.{lists_tuples}
 use Rattle.valuation_meaning.specs.declared.lookups.Operand.{Operand}
 use Rattle.valuation_meaning.specs.declared.lookups.Operand.TheVariants as operand
 use Rattle.valuation_meaning.specs.declared.lookups.Lookup.{Lookup}
-use Rattle.valuation_meaning.specs.Elements.{Element, Valuation, A_row, cell_of, elements}
+use Rattle.valuation_meaning.specs.Elements.{Element, Valuation, A_row, cell_of_element, elements}
 use Rattle.valuation_meaning.specs.Terms.{value_of}
 use Rattle.valuation_meaning.specs.Early.{Ends}
 use Rattle.valuation_meaning.specs.Indexed.{is_cell}
@@ -45,7 +45,7 @@ is_sought (Some t) c = is_cell t c
 -- after the first declarations, an element whose cell under an attribute is not the value of a term ends the branch
 abbrev pub NeedsEqual : Query → ℕ → Term → Text → Type 0
 NeedsEqual q place sought attribute =
-    (v : Valuation) (e : Element) → length v ≡ place → is_sought (value_of v sought) (cell_of e attribute) ≡ false → Ends q (v ++ e ∷ [])
+    (v : Valuation) (e : Element) → length v ≡ place → is_sought (value_of v sought) (cell_of_element e attribute) ≡ false → Ends q (v ++ e ∷ [])
 
 -- whatever came before, the elements of a declaration are the rows of a relation
 abbrev pub RangesOver : CatalogueValue → Range → RelationValue → Type 0

@@ -6,7 +6,7 @@ ghost use Rattle.fact_tables.specs.Borrowed.{cell_value};
 ghost use Rattle.view_def.specs.Terms.{terms_of_filter};
 ghost use Rattle.valuation_meaning.specs.Terms.{value_of, are_defined};
 ghost use Rattle.valuation_meaning.specs.Valuations.{counts, meets};
-ghost use Rattle.valuation_meaning.specs.Meaning.{given, term_of, values_of, cell_of, fact_of, facts};
+ghost use Rattle.valuation_meaning.specs.Meaning.{given, term_of, values_of, cell_of_reading, fact_of, facts};
 ghost use Rattle.valuation_meaning.specs.Listing.{facts_after, AreEnough};
 ghost use Rattle.valuation_meaning.specs.Early.{AliasesAgree, Ends};
 ghost use Rattle.valuation_meaning.specs.Sources.{IsReady};
@@ -73,7 +73,7 @@ fn cell_of<'a>(
 ) -> Option<Option<(Label<'a>, &'a Text)>>
     requires { empty.now ≡ [] }
     ensures { option_map cell_value result
-        ≡ (if are_defined (value_of valuation.now) (option_to_list value.now) then Some (cell_of (value_of valuation.now) column.now value.now) else None) }
+        ≡ (if are_defined (value_of valuation.now) (option_to_list value.now) then Some (cell_of_reading (value_of valuation.now) column.now value.now) else None) }
 {
     let Some(value) = value else {
         return Some(None);
