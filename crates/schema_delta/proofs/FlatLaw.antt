@@ -16,7 +16,7 @@ use Rattle.schema_model.specs.declared.change.Change.TheVariants.{CreateRelation
 use Rattle.schema_model.specs.Sound.{IsSound, IsDatabase}
 use Rattle.unite_op.specs.NamedThings.{moves_behind}
 use Rattle.unite_op.proofs.UniteLemmas.{moves_rows_behind}
-use Rattle.schema_delta.specs.Flat.{flat, whole, part, own, inside, goes_over, sheet_of, changed}
+use Rattle.schema_delta.specs.Flat.{flat, whole, part, own, inside, goes_over, sheet_of, changed_relation}
 use Rattle.schema_delta.specs.declared.spec.FlatSpec.{FlatSpec}
 use Rattle.schema_delta.proofs.ListLemmas.{one_changes, one_comes, one_goes, still_none, beside}
 
@@ -44,10 +44,10 @@ found_name (e ∷ c) db d found =
     ] refl found
 
 -- what is contributed behind both names moves as what is contributed inside
-pub part_moved : (s : FlatSpec) (db : Text) (r : RelationValue) (g : SheetChange) (ms : List Signed) → goes_over s.range db r.name ≡ true → MovesBag (inside s.range s.wanted s.folded (sheet_of r)) ms (inside s.range s.wanted s.folded (sheet_after g (sheet_of r))) → MovesBag (part s db r) (moves_behind (db ∷ r.name ∷ []) ms) (part s db (changed g r))
+pub part_moved : (s : FlatSpec) (db : Text) (r : RelationValue) (g : SheetChange) (ms : List Signed) → goes_over s.range db r.name ≡ true → MovesBag (inside s.range s.wanted s.folded (sheet_of r)) ms (inside s.range s.wanted s.folded (sheet_after g (sheet_of r))) → MovesBag (part s db r) (moves_behind (db ∷ r.name ∷ []) ms) (part s db (changed_relation g r))
 part_moved s db r g ms over moved = rw over (moves_rows_behind (db ∷ r.name ∷ []) _ _ ms moved)
 
-pub part_stays : (s : FlatSpec) (db : Text) (r : RelationValue) (g : SheetChange) → goes_over s.range db r.name ≡ false → MovesBag (part s db r) [] (part s db (changed g r))
+pub part_stays : (s : FlatSpec) (db : Text) (r : RelationValue) (g : SheetChange) → goes_over s.range db r.name ≡ false → MovesBag (part s db r) [] (part s db (changed_relation g r))
 part_stays s db r g over = rw over (stays [] [] refl)
 
 module _ (s : FlatSpec) (c : CatalogueValue) (sound : IsSound c) (db : Text) where

@@ -2,3 +2,4 @@ pub mod ListLemmas
 pub mod FlatLaw
 pub mod InsideLemmas
 pub mod Asked
+pub mod GroupLemmas

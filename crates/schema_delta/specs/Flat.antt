@@ -7,7 +7,7 @@ use Rattle.view_def.specs.declared.typed.Place.TheVariants.{Fixed, Var}
 use Rattle.view_def.specs.declared.typed.Range.{Range}
 use Rattle.view_def.specs.declared.typed.Range.TheVariants as range
 use Rattle.schema_model.specs.Catalogue.{RelationValue, DatabaseValue, CatalogueValue}
-use Rattle.schema_model.specs.Changes.{after}
+use Rattle.schema_model.specs.Changes.{after, after_all}
 use Rattle.schema_model.specs.declared.change.Change.{Change}
 use Rattle.operator_law.specs.declared.delta.Signed.{Signed}
 use Rattle.operator_law.specs.Bags.{MovesBag}
@@ -71,8 +71,8 @@ abbrev pub flat : CatalogueValue → FlatSpec → List Row
 flat c s = flat_map (whole s) c
 
 -- a relation with its sheet changed
-abbrev pub changed : SheetChange → RelationValue → RelationValue
-changed g r = record r { attributes = (sheet_after g (sheet_of r)).0; rows = (sheet_after g (sheet_of r)).1 }
+abbrev pub changed_relation : SheetChange → RelationValue → RelationValue
+changed_relation g r = record r { attributes = (sheet_after g (sheet_of r)).0; rows = (sheet_after g (sheet_of r)).1 }
 
 -- the sheet is there before and after
 abbrev pub is_inner : SheetChange → Bool
@@ -80,6 +80,13 @@ is_inner (Born attributes) = false
 is_inner Gone = false
 is_inner g = true
 
--- the moves take the flat rows before a change to those after it
+-- the moves take the flat rows of a catalogue to those of another
+abbrev pub MovesBetween : CatalogueValue → CatalogueValue → FlatSpec → List Signed → Type 0
+MovesBetween c e s ms = MovesBag (flat c s) ms (flat e s)
+
+-- to those after a change, and to those after changes that are made one after another
 abbrev pub MovesFlat : CatalogueValue → Change → FlatSpec → List Signed → Type 0
-MovesFlat c g s ms = MovesBag (flat c s) ms (flat (after c g) s)
+MovesFlat c g s ms = MovesBetween c (after c g) s ms
+
+abbrev pub MovesGroup : CatalogueValue → List Change → FlatSpec → List Signed → Type 0
+MovesGroup c gs s ms = MovesBetween c (after_all c gs) s ms

@@ -4,7 +4,7 @@ ghost use Rattle.operator_law.specs.Bags.{MovesBag, all_signed};
 ghost use Rattle.sheets.specs.Sheets.{FitsSheet};
 ghost use Rattle.fold_op.specs.Flat.{pick_value, fold_value, replaced};
 ghost use Rattle.schema_model.specs.States.{plain_relation};
-ghost use Rattle.schema_delta.specs.Flat.{part, inside, values_of, changed, sheet_of, is_inner, names_of};
+ghost use Rattle.schema_delta.specs.Flat.{part, inside, values_of, changed_relation, sheet_of, is_inner, names_of};
 ghost use Rattle.schema_delta.specs.Given.{sheet_in, MovesGiven};
 
 use crate::FlatSpec;
@@ -31,7 +31,7 @@ pub(crate) fn part_change<L: Ledger>(
 ) -> Result<Delta, NoMemory>
     requires fits { FitsSheet change.now (sheet_of (plain_relation relation.now)) }
     requires inner { IsTrue (is_inner change.now) }
-    ensures moved { IfOk result (λ d. MovesBag (part spec.now db.now (plain_relation relation.now)) d (part spec.now db.now (changed change.now (plain_relation relation.now)))) }
+    ensures moved { IfOk result (λ d. MovesBag (part spec.now db.now (plain_relation relation.now)) d (part spec.now db.now (changed_relation change.now (plain_relation relation.now)))) }
     ensures steps { steps.new ≡ steps.old }
 {
     let name = relation.name();

@@ -36,7 +36,8 @@ pub fn flat_changes<L: Ledger>(
     Ok(deltas)
 }
 
-fn flat_change<L: Ledger>(
+/// How such a change moves the flat rows of one declaration.
+pub(crate) fn flat_change<L: Ledger>(
     alloc: Global,
     catalogue: &Catalogue,
     change: &Change,

@@ -1,7 +1,8 @@
 //! The flat rows of a declaration, and how a change of the catalogue moves them.
 //!
 //! Its contract: `flat_rows` lists what a declaration contributes, and `flat_changes` answers, for any change that is
-//! not refused, signed rows that take the flat rows before it to those after it. It knows nothing of joins or facts.
+//! not refused, signed rows that take the flat rows before it to those after it; `flat_group` does so for a list of
+//! changes. It knows nothing of joins or facts.
 #![tactic(auto)]
 
 mod attributes;
@@ -9,11 +10,13 @@ mod change;
 mod changes;
 mod databases;
 mod find;
+mod group;
 mod inside;
 mod part;
 mod rows;
 mod spec;
 
 pub use changes::flat_changes;
+pub use group::flat_group;
 pub use rows::flat_rows;
 pub use spec::FlatSpec;

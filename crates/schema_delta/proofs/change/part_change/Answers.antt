@@ -2,7 +2,7 @@ use Rattle.std.proofs.Common.{◌≡◌, sym, subst, List}
 use Rattle.operator_law.specs.declared.delta.Signed.{Signed}
 use Rattle.operator_law.specs.Bags.{MovesBag}
 use Rattle.schema_model.specs.States.{plain_relation}
-use Rattle.schema_delta.specs.Flat.{part, changed}
+use Rattle.schema_delta.specs.Flat.{part, changed_relation}
 use Rattle.schema_delta.proofs.FlatLaw.{part_moved}
 use Rattle.schema_delta.proofs.change.part_change.Goals as goal
 
@@ -14,4 +14,4 @@ returns-clause-moved g c =
     let over = rw c.name-name.ensures at c.if-not-goes_over.ensures in
     let is = rw (c.in_ok-names.ensures, c.name-name.ensures) at c.in_ok-delta.ensures in
     let moved = part_moved s db r c.args.change.now c.in_ok-inside.inside (sym over) c.in_ok-inside.ensures.moved in
-    subst (λ (ms : List Signed). MovesBag (part s db r) ms (part s db (changed c.args.change.now r))) (sym is) moved
+    subst (λ (ms : List Signed). MovesBag (part s db r) ms (part s db (changed_relation c.args.change.now r))) (sym is) moved

@@ -1,0 +1,83 @@
+//! How changes that are made one after another move the flat rows of declarations.
+ghost use Rattle.std.specs.Prelude.{◌≡◌, [], map, length, None, IfOk, OnOk, IsTrue};
+ghost use Rattle.std.specs.List.{AllByRecursion, AllZip};
+ghost use Rattle.schema_model.specs.Catalogue.{CatalogueValue};
+ghost use Rattle.schema_model.specs.Changes.{after, is_well_formed};
+ghost use Rattle.schema_model.specs.Refusals.{fault, group_fault};
+ghost use Rattle.schema_delta.specs.Flat.{MovesBetween, MovesGroup};
+
+use crate::FlatSpec;
+use crate::changes::flat_change;
+use operator_law::Delta;
+use schema_model::{Catalogue, Change};
+use ss_text::{NoMemory, Steps};
+use std::alloc::Global;
+use std::sync::ledger::Ledger;
+
+/// How changes move the flat rows of each declaration, of which none is refused behind those before it. The catalogue
+/// stays: its states between are those of a copy, in which the changes are made.
+pub fn flat_group<L: Ledger>(
+    alloc: Global,
+    catalogue: &Catalogue,
+    changes: &[Change],
+    specs: &[FlatSpec],
+    steps: &mut Steps<L>,
+) -> Result<Vec<Delta>, NoMemory>
+    requires accepted { group_fault catalogue.now.databases changes.now ≡ None }
+    requires well_formed { AllByRecursion (λ g. IsTrue (is_well_formed g)) changes.now }
+    ensures moved { IfOk result (λ deltas. AllZip (MovesGroup catalogue.now.databases changes.now) specs.now deltas.items) }
+    ensures steps { steps.new ≡ steps.old }
+{
+    let mut present = catalogue.copy()?;
+    let mut deltas = no_moves(alloc, specs)?;
+    for change in changes {
+        deltas = moved_on(alloc, &present, change, specs, deltas, steps)?;
+        make(&mut present, change)?;
+    }
+    Ok(deltas)
+}
+
+// No moves for each declaration.
+fn no_moves(alloc: Global, specs: &[FlatSpec]) -> Result<Vec<Delta>, NoMemory>
+    ensures { IfOk result (λ deltas. deltas.items ≡ map (λ s. []) specs.now) }
+{
+    let mut deltas = Vec::with_capacity(alloc, specs.len())?;
+    for _spec in specs {
+        deltas.push(Delta::none(alloc))?;
+    }
+    Ok(deltas)
+}
+
+// The moves of each declaration, and behind them those of one more change.
+fn moved_on<L: Ledger>(
+    alloc: Global,
+    present: &Catalogue,
+    change: &Change,
+    specs: &[FlatSpec],
+    deltas: Vec<Delta>,
+    steps: &mut Steps<L>,
+) -> Result<Vec<Delta>, NoMemory>
+    requires accepted { fault present.now.databases change.now ≡ None }
+    requires each { length deltas.items ≡ length specs.now }
+    ensures moved { IfOk result (λ all. (c : CatalogueValue) → AllZip (MovesBetween c present.now.databases) specs.now deltas.items → AllZip (MovesBetween c (after present.now.databases change.now)) specs.now all.items) }
+    ensures steps { steps.new ≡ steps.old }
+{
+    let mut all = Vec::with_capacity(alloc, specs.len())?;
+    for delta in deltas {
+        let spec = &specs[all.len()];
+        let more = flat_change(alloc, present, change, spec, steps)?;
+        all.push(delta.followed_by(more)?)?;
+    }
+    Ok(all)
+}
+
+// Makes a change that is not refused.
+fn make(catalogue: &mut Catalogue, change: &Change) -> Result<(), NoMemory>
+    requires well_formed { IsTrue (is_well_formed change.now) }
+    requires accepted { fault catalogue.old.databases change.now ≡ None }
+    ensures { OnOk result (catalogue.new.databases ≡ after catalogue.old.databases change.now) }
+{
+    let ready = catalogue.reserve(change)?;
+    catalogue.commit(ready);
+    Ok(())
+}
