@@ -1,0 +1,7 @@
+pub mod ShelfLemmas
+pub mod SameLemmas
+pub mod RoomLemmas
+pub mod ElementLemmas
+pub mod SeenLemmas
+pub mod ValueLemmas
+pub mod StockLemmas

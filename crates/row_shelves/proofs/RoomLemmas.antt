@@ -1,0 +1,51 @@
+-- Shelves of which one changes.
+use Rattle.std.proofs.Common.{◌≡◌, ◌<◌, ◌≤◌, ◌+◌, ◌∷◌, [], ℕ, Vec, List, refl, sym, ◌∙◌, ap, subst, zero, suc, length, take, drop, get_or, set, arith}
+use Rattle.std.specs.Prelude.{insert, remove}
+use Rattle.std.specs.List.{AllByRecursion}
+use Rattle.row_shelves.specs.Stocks.{Stock}
+use Rattle.row_shelves.specs.Shelves.{on_shelf, IsShelf, IsFilled, HasRoom}
+
+pub all_weaker : {X : Type 0} (P Q : X → Type 0) → ((x : X) → P x → Q x) → (xs : List X) → AllByRecursion P xs → AllByRecursion Q xs
+all_weaker P Q step [] h = tt
+all_weaker P Q step (x ∷ xs) h = (step x h.0, all_weaker P Q step xs h.1)
+
+pub somes : {Z : Type 0} (ss : List (Vec Stock Z)) → AllByRecursion IsShelf ss → AllByRecursion (λ s. 0 < length (on_shelf s)) ss
+somes ss h = all_weaker IsShelf (λ s. 0 < length (on_shelf s)) (λ s is. is.some) ss h
+
+-- around the one that is set
+pub all_set_before : {X : Type 0} (P : X → Type 0) (xs : List X) (i : ℕ) (new : X) → AllByRecursion P xs → AllByRecursion P (take i (set xs i new))
+all_set_before P xs zero new h = tt
+all_set_before P [] (suc i) new h = tt
+all_set_before P (x ∷ xs) (suc i) new h = (h.0, all_set_before P xs i new h.1)
+
+pub at_set : {X : Type 0} (P : X → Type 0) (xs : List X) (i : ℕ) (new d : X) → i < length xs → P new → P (get_or (set xs i new) i d)
+at_set P [] i new d lt p = absurd (omega arith)
+at_set P (x ∷ xs) zero new d lt p = p
+at_set P (x ∷ xs) (suc i) new d lt p = at_set P xs i new d (omega arith) p
+
+-- one that is set and one behind it, between those before and those behind
+pub all_cut : {X : Type 0} (P : X → Type 0) (xs : List X) (i : ℕ) (front back : X) → i < length xs → AllByRecursion P (take i xs) → AllByRecursion P (drop (suc i) xs) → P front → P back
+    → AllByRecursion P (insert (set xs i front) (suc i) back)
+all_cut P [] i front back lt before behind p q = absurd (omega arith)
+all_cut P (x ∷ xs) zero front back lt before behind p q = (p, (q, behind))
+all_cut P (x ∷ xs) (suc i) front back lt before behind p q = (before.0, all_cut P xs i front back (omega arith) before.1 behind p q)
+
+-- one that is taken out between those before and those behind
+pub all_without : {X : Type 0} (P : X → Type 0) (xs : List X) (i : ℕ) → AllByRecursion P (take i xs) → AllByRecursion P (drop (suc i) xs) → AllByRecursion P (remove xs i)
+all_without P [] zero before behind = tt
+all_without P [] (suc i) before behind = tt
+all_without P (x ∷ xs) zero before behind = behind
+all_without P (x ∷ xs) (suc i) before behind = (before.0, all_without P xs i before.1 behind)
+
+-- a list of no elements, and one of some
+pub nothing : {X : Type 0} (xs : List X) (n : ℕ) → n ≡ length xs → n ≡ 0 → xs ≡ []
+nothing [] n e z = refl
+nothing (x ∷ xs) n e z = absurd (omega (arith, e, z))
+
+pub something : {X : Type 0} (xs : List X) (n : ℕ) → n ≡ length xs → (n ≡ 0 → ⊥) → 0 < length xs
+something [] n e z = absurd (z e)
+something (x ∷ xs) n e z = omega arith
+
+-- a shelf by its numbers
+pub is_shelf : {Z : Type 0} (s : Vec Stock Z) → 0 < s.len → 64 ≤ s.cap → s.len < s.cap → IsShelf s
+is_shelf s some large room = record { some = omega (arith, some, s.ok.0); large = large; room = room }

@@ -1,0 +1,83 @@
+//! Shelves that are cut in two, with no memory but that of a new shelf.
+ghost use Rattle.std.specs.Prelude.{◌≡◌, ◌<◌, ◌≤◌, ◌+◌, ◌++◌, take, drop, suc, length};
+ghost use Rattle.std.specs.Vec.{vec_len, vec_capacity};
+ghost use Rattle.std.specs.List.{AllByRecursion};
+ghost use Rattle.row_shelves.specs.Shelves.{all_rows, FilledAt, LongAt, IsShelf};
+ghost use Rattle.row_shelves.specs.Blanks.{IsNewShelf};
+
+use crate::KeptRow;
+use crate::blank::FULL;
+
+// Moves the last row of a shelf to the front of another.
+fn move_last(shelf: &mut Vec<KeptRow>, tail: &mut Vec<KeptRow>)
+    requires some { 0 < vec_len shelf.old }
+    requires room { vec_len tail.old < vec_capacity tail.old }
+    ensures both { shelf.new.items ++ tail.new.items ≡ shelf.old.items ++ tail.old.items }
+    ensures shelf_len { vec_len shelf.new + 1 ≡ vec_len shelf.old }
+    ensures tail_len { vec_len tail.new ≡ vec_len tail.old + 1 }
+    ensures shelf_capacity { vec_capacity shelf.new ≡ vec_capacity shelf.old }
+    ensures tail_capacity { vec_capacity tail.old ≤ vec_capacity tail.new }
+{
+    let Some(row) = shelf.pop() else {
+        unreachable!()
+    };
+    let Ok(()) = tail.insert(0, row) else {
+        unreachable!()
+    };
+}
+
+// Moves so many last rows of a shelf to the front of another, in their order.
+fn move_lasts(shelf: &mut Vec<KeptRow>, tail: &mut Vec<KeptRow>, count: usize)
+    requires some { count ≤ vec_len shelf.old }
+    requires room { vec_len tail.old + count ≤ vec_capacity tail.old }
+    ensures both { shelf.new.items ++ tail.new.items ≡ shelf.old.items ++ tail.old.items }
+    ensures shelf_len { vec_len shelf.new + count ≡ vec_len shelf.old }
+    ensures tail_len { vec_len tail.new ≡ vec_len tail.old + count }
+    ensures shelf_capacity { vec_capacity shelf.new ≡ vec_capacity shelf.old }
+    ensures tail_capacity { vec_capacity tail.old ≤ vec_capacity tail.new }
+{
+    for _ in 0..count {
+        move_last(shelf, tail);
+    }
+}
+
+// Cuts a long shelf in two: half of what a shelf has room for goes to the new one.
+fn split(shelves: &mut Vec<Vec<KeptRow>>, place: usize, mut tail: Vec<KeptRow>)
+    requires there { place < length shelves.old.items }
+    requires long { LongAt shelves.old.items place }
+    requires before { AllByRecursion IsShelf (take place shelves.old.items) }
+    requires behind { AllByRecursion IsShelf (drop (suc place) shelves.old.items) }
+    requires room { vec_len shelves.old < vec_capacity shelves.old }
+    requires new { IsNewShelf tail }
+    ensures rows { all_rows shelves.new.items ≡ all_rows shelves.old.items }
+    ensures shelves { AllByRecursion IsShelf shelves.new.items }
+    ensures count { vec_len shelves.new ≡ vec_len shelves.old + 1 }
+    ensures capacity { vec_capacity shelves.new ≡ vec_capacity shelves.old }
+{
+    let shelf = &mut shelves[place];
+    move_lasts(shelf, &mut tail, FULL / 2);
+    let Ok(()) = shelves.insert(place + 1, tail) else {
+        unreachable!()
+    };
+}
+
+/// Cuts a shelf in two if it is full.
+pub(crate) fn cut_full(shelves: &mut Vec<Vec<KeptRow>>, place: usize, tail: Vec<KeptRow>)
+    requires there { place < length shelves.old.items }
+    requires before { AllByRecursion IsShelf (take place shelves.old.items) }
+    requires here { FilledAt shelves.old.items place }
+    requires behind { AllByRecursion IsShelf (drop (suc place) shelves.old.items) }
+    requires room { vec_len shelves.old < vec_capacity shelves.old }
+    requires new { IsNewShelf tail }
+    ensures rows { all_rows shelves.new.items ≡ all_rows shelves.old.items }
+    ensures shelves { AllByRecursion IsShelf shelves.new.items }
+    ensures count { vec_len shelves.new ≤ vec_len shelves.old + 1 }
+    ensures capacity { vec_capacity shelves.new ≡ vec_capacity shelves.old }
+{
+    let shelf = &shelves[place];
+    let (count, capacity) = (shelf.len(), shelf.capacity());
+    if count < capacity {
+        return;
+    }
+    split(shelves, place, tail);
+}

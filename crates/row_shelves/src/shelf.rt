@@ -1,0 +1,69 @@
+//! Rows that are sought by their keys.
+ghost use Rattle.std.specs.Prelude.{◌≡◌, ◌<◌, ◌≤◌, map, is_ok, IfOk, IfErr};
+ghost use Rattle.ss_text.specs.Texts.{row_cmp};
+ghost use Rattle.ss_text.specs.Keys.{IsPlaceOf, IsPlaceFor};
+ghost use Rattle.std.specs.List.Sorted.{IsStrictlySortedBy};
+ghost use Rattle.row_shelves.specs.Stocks.{stock_key, has_key};
+ghost use Rattle.row_shelves.specs.Shelves.{on_shelf, all_rows, first_key, AreShelves, place_of, IsOn, IsAt};
+
+use crate::KeptRow;
+use crate::spot::Spot;
+use ss_text::{Row, Text};
+
+// The key that a shelf begins with.
+fn first_key(shelf: &Vec<KeptRow>) -> &[Text]
+    ensures { result.now ≡ first_key shelf.now }
+{
+    match shelf.first() {
+        Some(row) => row.key().cells(),
+        None => &[],
+    }
+}
+
+// The shelf that begins with this key, or before which such a shelf would stand.
+fn shelf_of(shelves: &[Vec<KeptRow>], key: &Row) -> Result<usize, usize>
+    requires { AreShelves shelves.now }
+    ensures found { IfOk result (IsPlaceOf first_key key.now shelves.now) }
+    ensures absent { IfErr result (IsPlaceFor row_cmp first_key key.now shelves.now) }
+{
+    shelves.binary_search_by(|shelf| first_key(shelf).cmp(key.cells()))
+}
+
+// The place of a key on one shelf, or where it would stand.
+fn place_on(shelf: &Vec<KeptRow>, key: &Row) -> Result<usize, usize>
+    requires { IsStrictlySortedBy row_cmp (map stock_key (on_shelf shelf.now)) }
+    ensures found { IfOk result (IsPlaceOf stock_key key.now (on_shelf shelf.now)) }
+    ensures absent { IfErr result (IsPlaceFor row_cmp stock_key key.now (on_shelf shelf.now)) }
+{
+    shelf.binary_search_by(|row| row.key().cmp(key))
+}
+
+/// The spot of a key, or where it would stand: at the front of the first shelf, or on the last one that begins with a
+/// lesser key.
+pub(crate) fn find(shelves: &[Vec<KeptRow>], key: &Row) -> Result<Spot, Spot>
+    requires { AreShelves shelves.now }
+    ensures found { IfOk result (λ s. IsPlaceOf stock_key key.now (all_rows shelves.now) (place_of shelves.now s)) }
+    ensures absent { IfErr result (λ s. IsPlaceFor row_cmp stock_key key.now (all_rows shelves.now) (place_of shelves.now s)) }
+    ensures on_shelf { IfOk result (IsOn shelves.now) }
+    ensures at_shelf { IfErr result (IsAt shelves.now) }
+{
+    match shelf_of(shelves, key) {
+        Ok(shelf) => Ok(Spot { shelf, place: 0 }),
+        Err(0) => Err(Spot { shelf: 0, place: 0 }),
+        Err(after) => {
+            let shelf = after - 1;
+            match place_on(&shelves[shelf], key) {
+                Ok(place) => Ok(Spot { shelf, place }),
+                Err(place) => Err(Spot { shelf, place }),
+            }
+        }
+    }
+}
+
+/// Whether a row has the key.
+pub(crate) fn has(shelves: &[Vec<KeptRow>], key: &Row) -> bool
+    requires { AreShelves shelves.now }
+    ensures { result ≡ has_key key.now (all_rows shelves.now) }
+{
+    find(shelves, key).is_ok()
+}
