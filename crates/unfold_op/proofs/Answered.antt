@@ -11,7 +11,7 @@ use Rattle.fact_counts.specs.declared.facts.Nets.{Nets}
 use Rattle.fact_counts.specs.Moves.{AreNets, IsChange, Stands}
 use Rattle.fact_counts.specs.Stored.{IsReady, HasRoom}
 use Rattle.flow_law.specs.FactTables.{fact_table}
-use Rattle.flow_law.specs.Script.{changed}
+use Rattle.flow_law.specs.Script.{lines_between}
 use Rattle.operator_law.specs.declared.delta.Signed.{Signed}
 use Rattle.operator_law.specs.Bags.{MovesBag}
 use Rattle.unfold_op.specs.FactMoves.{facts_in, fact_moves}
@@ -24,7 +24,7 @@ use Rattle.unfold_op.proofs.TableLaw.{table_law}
 
 module _ (t : OneTableValue) (ms : List Signed) (after : ℕ) (counted : t.total + ups ms ≡ after + downs ms) (lines all : List TableLine) (put : all ≡ framed (label_for t.shape t.label ms) (nat_lt 0 t.total) (nat_lt 0 after) lines) where
   -- they are those of the table
-  pub lines_are : (old new : List Row) → KeepsFacts t old → MovesBag old ms new → lines ≡ changed (label_for t.shape t.label ms) (fact_table (facts_in t.shape old)) (fact_table (facts_in t.shape new))
+  pub lines_are : (old new : List Row) → KeepsFacts t old → MovesBag old ms new → lines ≡ lines_between (label_for t.shape t.label ms) (fact_table (facts_in t.shape old)) (fact_table (facts_in t.shape new))
       → all ≡ table_lines (label_for t.shape t.label ms) (facts_in t.shape old) (facts_in t.shape new)
   lines_are old new h moves are =
       let before : t.total ≡ length (facts_in t.shape old) = h.total ∙ sym (facts_length t.shape old) in
@@ -33,7 +33,7 @@ module _ (t : OneTableValue) (ms : List Signed) (after : ℕ) (counted : t.total
       put ∙ λ i. framed (label_for t.shape t.label ms) (nat_lt 0 (before i)) (nat_lt 0 (behind i)) (are i)
 
   pub law_holds : t.shape.label ≡ None → CanPrepare t ms
-      → ((old new : List Row) → KeepsFacts t old → MovesBag old ms new → lines ≡ changed (label_for t.shape t.label ms) (fact_table (facts_in t.shape old)) (fact_table (facts_in t.shape new)))
+      → ((old new : List Row) → KeepsFacts t old → MovesBag old ms new → lines ≡ lines_between (label_for t.shape t.label ms) (fact_table (facts_in t.shape old)) (fact_table (facts_in t.shape new)))
       → Makes t ms all
   law_holds variable can are = λ old new h moves.
       let law = table_law (label_for t.shape t.label ms) t.shape variable (facts_in t.shape old) (facts_in t.shape new) (kept_bear t ms can.bears old h) (new_bear t ms can.bears old new h moves) in

@@ -1,8 +1,8 @@
 mod RowMoves
-mod BagMoves
-mod LabelsBorne
+pub mod BagMoves
+pub mod LabelsBorne
 mod LegalColumns
 mod Changes
-mod TableLaw
+pub mod TableLaw
 mod Answered
 mod Refused

@@ -15,7 +15,7 @@ use Rattle.flow_law.specs.FactTables.{fact_table, tables}
 use Rattle.flow_law.specs.InOrder.{IsTable, AreTables}
 use Rattle.flow_law.specs.Labelled.{AllBear}
 use Rattle.flow_law.specs.Lines.{fit_lines, after_lines}
-use Rattle.flow_law.specs.Script.{changed, script}
+use Rattle.flow_law.specs.Script.{lines_between, script}
 use Rattle.flow_law.specs.Tables.{TableValue, TablesValue, empty_table}
 use Rattle.flow_law.proofs.FactTableLemmas.{fact_table_in_order}
 use Rattle.flow_law.proofs.ScriptLaw.{after_lines-append, fit_lines-append, script_makes, script_fits}
@@ -45,11 +45,11 @@ module _ (label : Text) where
   once_more = rw (tied_itself text_order.total label) refl
 
   -- the script between one table and another of its label
-  script_alone : (old new : TableValue) → script (alone label old) (alone label new) ≡ changed label old new
+  pub script_alone : (old new : TableValue) → script (alone label old) (alone label new) ≡ lines_between label old new
   unfolding script
-  script_alone old new = rw (once_more, equal_itself text_order label) (append-nil (changed label old new))
+  script_alone old new = rw (once_more, equal_itself text_order label) (append-nil (lines_between label old new))
 
-  changed_alone : (old new : TableValue) → IsTable old → IsTable new → Taken (alone label old) (changed label old new) (alone label new)
+  changed_alone : (old new : TableValue) → IsTable old → IsTable new → Taken (alone label old) (lines_between label old new) (alone label new)
   changed_alone old new h i = record {
     fit = subst (λ (lines : List TableLine). fit_lines (alone label old) lines ≡ true) (script_alone old new) (script_fits (alone label old) (alone label new) (alone_in_order new i) (alone_in_order old h));
     made = subst (λ (lines : List TableLine). after_lines (alone label old) lines ≡ alone label new) (script_alone old new) (script_makes (alone label old) (alone label new) (alone_in_order new i) (alone_in_order old h));
@@ -71,19 +71,19 @@ module _ (label : Text) where
   all_of_label (f ∷ fs) h = rw (h.0, equal_itself text_order label, all_of_label fs h.1) refl
 
   -- the lines, with the flags of their frame
-  some_fact : (f : Fact) (fs : List Fact) → nat_lt 0 (length (f ∷ fs)) ≡ true
+  pub some_fact : (f : Fact) (fs : List Fact) → nat_lt 0 (length (f ∷ fs)) ≡ true
   some_fact f fs = grind arith
 
-  lines_come : (g : Fact) (gs : List Fact) → table_lines label [] (g ∷ gs) ≡ TablePlus label ∷ changed label empty_table (fact_table (g ∷ gs))
+  pub lines_come : (g : Fact) (gs : List Fact) → table_lines label [] (g ∷ gs) ≡ TablePlus label ∷ lines_between label empty_table (fact_table (g ∷ gs))
   lines_come g gs =
-      ap (λ b. framed label false b (changed label empty_table (fact_table (g ∷ gs)))) (some_fact g gs) ∙ append-nil (TablePlus label ∷ changed label empty_table (fact_table (g ∷ gs)))
+      ap (λ b. framed label false b (lines_between label empty_table (fact_table (g ∷ gs)))) (some_fact g gs) ∙ append-nil (TablePlus label ∷ lines_between label empty_table (fact_table (g ∷ gs)))
 
-  lines_go : (f : Fact) (fs : List Fact) → table_lines label (f ∷ fs) [] ≡ changed label (fact_table (f ∷ fs)) empty_table ++ TableMinus label ∷ []
-  lines_go f fs = ap (λ b. framed label b false (changed label (fact_table (f ∷ fs)) empty_table)) (some_fact f fs)
+  lines_go : (f : Fact) (fs : List Fact) → table_lines label (f ∷ fs) [] ≡ lines_between label (fact_table (f ∷ fs)) empty_table ++ TableMinus label ∷ []
+  lines_go f fs = ap (λ b. framed label b false (lines_between label (fact_table (f ∷ fs)) empty_table)) (some_fact f fs)
 
-  lines_stay : (f : Fact) (fs : List Fact) (g : Fact) (gs : List Fact) → table_lines label (f ∷ fs) (g ∷ gs) ≡ changed label (fact_table (f ∷ fs)) (fact_table (g ∷ gs))
+  pub lines_stay : (f : Fact) (fs : List Fact) (g : Fact) (gs : List Fact) → table_lines label (f ∷ fs) (g ∷ gs) ≡ lines_between label (fact_table (f ∷ fs)) (fact_table (g ∷ gs))
   lines_stay f fs g gs =
-      (λ i. framed label (some_fact f fs i) (some_fact g gs i) (changed label (fact_table (f ∷ fs)) (fact_table (g ∷ gs)))) ∙ append-nil (changed label (fact_table (f ∷ fs)) (fact_table (g ∷ gs)))
+      (λ i. framed label (some_fact f fs i) (some_fact g gs i) (lines_between label (fact_table (f ∷ fs)) (fact_table (g ∷ gs)))) ∙ append-nil (lines_between label (fact_table (f ∷ fs)) (fact_table (g ∷ gs)))
 
   module _ (shape : Shape) (variable : shape.label ≡ None) where
     no_table : tables shape [] ≡ []
@@ -101,11 +101,11 @@ module _ (label : Text) where
     table_law [] (g ∷ gs) h i =
         subst (λ (lines : List TableLine). Taken (tables shape []) lines (tables shape (g ∷ gs))) (sym (lines_come g gs))
         (rw (no_table, one_table g gs i)
-        (joined [] (alone label empty_table) (alone label (fact_table (g ∷ gs))) (TablePlus label ∷ []) (changed label empty_table (fact_table (g ∷ gs))) comes (changed_alone empty_table (fact_table (g ∷ gs)) (fact_table_in_order []) (fact_table_in_order (g ∷ gs)))))
+        (joined [] (alone label empty_table) (alone label (fact_table (g ∷ gs))) (TablePlus label ∷ []) (lines_between label empty_table (fact_table (g ∷ gs))) comes (changed_alone empty_table (fact_table (g ∷ gs)) (fact_table_in_order []) (fact_table_in_order (g ∷ gs)))))
     table_law (f ∷ fs) [] h i =
         subst (λ (lines : List TableLine). Taken (tables shape (f ∷ fs)) lines (tables shape [])) (sym (lines_go f fs))
         (rw (no_table, one_table f fs h)
-        (joined (alone label (fact_table (f ∷ fs))) (alone label empty_table) [] (changed label (fact_table (f ∷ fs)) empty_table) (TableMinus label ∷ []) (changed_alone (fact_table (f ∷ fs)) empty_table (fact_table_in_order (f ∷ fs)) (fact_table_in_order [])) (goes empty_table)))
+        (joined (alone label (fact_table (f ∷ fs))) (alone label empty_table) [] (lines_between label (fact_table (f ∷ fs)) empty_table) (TableMinus label ∷ []) (changed_alone (fact_table (f ∷ fs)) empty_table (fact_table_in_order (f ∷ fs)) (fact_table_in_order [])) (goes empty_table)))
     table_law (f ∷ fs) (g ∷ gs) h i =
         subst (λ (lines : List TableLine). Taken (tables shape (f ∷ fs)) lines (tables shape (g ∷ gs))) (sym (lines_stay f fs g gs))
         (rw (one_table f fs h, one_table g gs i)

@@ -11,7 +11,7 @@ use Rattle.flow_law.specs.FactRows.{fact_in, fact_width}
 use Rattle.flow_law.specs.FactTables.{fact_table, tables}
 use Rattle.flow_law.specs.Labelled.{AllBear}
 use Rattle.flow_law.specs.Lines.{fit_lines, after_lines}
-use Rattle.flow_law.specs.Script.{changed}
+use Rattle.flow_law.specs.Script.{lines_between}
 use Rattle.flow_law.specs.Tables.{TablesValue}
 use Rattle.fact_counts.specs.declared.facts.FactCounts.{FactCounts}
 use Rattle.fact_counts.specs.Moves.{Stands}
@@ -72,7 +72,7 @@ framed label before after lines = cond (not before && after) (TablePlus label �
 
 -- the lines by which the table of a label changes with its facts
 abbrev pub table_lines : Text → List Fact → List Fact → List TableLine
-table_lines label old new = framed label (nat_lt 0 (length old)) (nat_lt 0 (length new)) (changed label (fact_table old) (fact_table new))
+table_lines label old new = framed label (nat_lt 0 (length old)) (nat_lt 0 (length new)) (lines_between label (fact_table old) (fact_table new))
 
 -- the facts after the moves are not refused, and these are the lines
 pub record GivesLines (t : OneTableValue) (ms : List Signed) (lines : List TableLine) (old new : List Row) : Type 0 where

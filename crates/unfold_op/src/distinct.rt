@@ -44,6 +44,13 @@ impl Distinct {
             table: OneTable::new(alloc, constants, None),
         }
     }
+
+    /// How many facts are kept.
+    pub fn count(&self) -> u128
+        ensures { result ≡ self.now.total }
+    {
+        self.table.total
+    }
 }
 
 impl Operator for Distinct {

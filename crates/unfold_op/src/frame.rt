@@ -59,7 +59,7 @@ fn downs(moves: &[Signed]) -> u128
 }
 
 /// How many rows there are after the moves, of so many before.
-pub(crate) fn total_after(total: u128, moves: &[Signed]) -> u128
+pub fn total_after(total: u128, moves: &[Signed]) -> u128
     requires enough { downs moves.now ≤ total + ups moves.now }
     requires small { total + ups moves.now < 2 ^ 128 + downs moves.now }
     ensures { total + ups moves.now ≡ result + downs moves.now }

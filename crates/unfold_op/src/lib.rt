@@ -8,8 +8,11 @@ mod delta;
 mod distinct;
 mod frame;
 mod one_table;
+mod table_operator;
 mod unfold;
 
 pub use distinct::Distinct;
+pub use frame::total_after;
 pub use one_table::TableReady;
+pub use table_operator::TableOperator;
 pub use unfold::Unfold;

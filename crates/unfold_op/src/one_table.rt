@@ -4,7 +4,7 @@ ghost use Rattle.ss_text.specs.Texts.{Row as RowValue};
 ghost use Rattle.flow_law.specs.FactRows.{fact_width};
 ghost use Rattle.flow_law.specs.FactTables.{fact_table};
 ghost use Rattle.flow_law.specs.Facts.{illegal_column, conflict};
-ghost use Rattle.flow_law.specs.Script.{changed};
+ghost use Rattle.flow_law.specs.Script.{lines_between};
 ghost use Rattle.fact_counts.specs.Stopped.{StopsFor};
 ghost use Rattle.operator_law.specs.Bags.{MovesBag};
 ghost use Rattle.operator_law.specs.declared.delta.Signed.{Signed as SignedValue};
@@ -117,7 +117,7 @@ impl OneTable {
         requires label { label.now ≡ label_for self.now.shape self.now.label change.now }
         ensures legal { IfOk result (λ lines. (old new : List RowValue) → KeepsFacts (seen self.now) old → MovesBag old change.now new → illegal_column self.now.shape.constants (facts_in self.now.shape new) ≡ None) }
         ensures clean { IfOk result (λ lines. (old new : List RowValue) → KeepsFacts (seen self.now) old → MovesBag old change.now new → conflict (facts_in self.now.shape new) ≡ None) }
-        ensures lines { IfOk result (λ lines. (old new : List RowValue) → KeepsFacts (seen self.now) old → MovesBag old change.now new → lines.items ≡ changed label.now (fact_table (facts_in self.now.shape old)) (fact_table (facts_in self.now.shape new))) }
+        ensures lines { IfOk result (λ lines. (old new : List RowValue) → KeepsFacts (seen self.now) old → MovesBag old change.now new → lines.items ≡ lines_between label.now (fact_table (facts_in self.now.shape old)) (fact_table (facts_in self.now.shape new))) }
         ensures stops { IfErr result (MayStop (seen self.now) change.now) }
     {
         let nets = nets_of(alloc, &self.shape, &change.moves)?;

@@ -44,6 +44,13 @@ impl Unfold {
             table: OneTable::new(alloc, constants, Some(0)),
         }
     }
+
+    /// How many facts are kept.
+    pub fn count(&self) -> u128
+        ensures { result ≡ self.now.total }
+    {
+        self.table.total
+    }
 }
 
 impl Operator for Unfold {

@@ -2,7 +2,7 @@ use Rattle.std.proofs.Common.{◌≡◌, ◌≤◌, ◌<◌, ◌+◌, ◌^◌, �
 use Rattle.std.specs.Prelude.{nat_lt}
 use Rattle.ss_text.specs.Texts.{Text}
 use Rattle.flow_law.specs.FactTables.{fact_table}
-use Rattle.flow_law.specs.Script.{changed}
+use Rattle.flow_law.specs.Script.{lines_between}
 use Rattle.operator_law.specs.declared.delta.Signed.{Signed}
 use Rattle.unfold_op.specs.FactMoves.{facts_in}
 use Rattle.unfold_op.specs.OneTables.{framed, label_for}
@@ -33,7 +33,7 @@ returns-in_ok-all-in-Ok-clause-law c =
     let counted = subst (λ (ns : List Signed). t.total + ups ns ≡ after + downs ns) moved c.total_after-after.ensures in
     let put = c.in_ok-all-in-Ok.ensures ∙ ap (λ (l : Text). framed l (nat_lt 0 t.total) (nat_lt 0 after) c.in-Ok.lines.items) label in
     law_holds t ms after counted c.in-Ok.lines.items c.in_ok-all-in-Ok.all.items put c.requires.whole.variable c.requires.can
-    (λ old new h moves. c.in-Ok.ensures.lines old new h moves ∙ ap (λ (l : Text). changed l (fact_table (facts_in t.shape old)) (fact_table (facts_in t.shape new))) label)
+    (λ old new h moves. c.in-Ok.ensures.lines old new h moves ∙ ap (λ (l : Text). lines_between l (fact_table (facts_in t.shape old)) (fact_table (facts_in t.shape new))) label)
 
 pub returns-in_ok-all-in-Ok-clause-gives : goal.returns-in_ok-all-in-Ok-clause-gives
 returns-in_ok-all-in-Ok-clause-gives c = λ old new h moves.
@@ -47,5 +47,5 @@ returns-in_ok-all-in-Ok-clause-gives c = λ old new h moves.
     record {
       legal = c.in-Ok.ensures.legal old new h moves;
       clean = c.in-Ok.ensures.clean old new h moves;
-      lines_are = lines_are t ms after counted c.in-Ok.lines.items c.in_ok-all-in-Ok.all.items put old new h moves (c.in-Ok.ensures.lines old new h moves ∙ ap (λ (l : Text). changed l (fact_table (facts_in t.shape old)) (fact_table (facts_in t.shape new))) label);
+      lines_are = lines_are t ms after counted c.in-Ok.lines.items c.in_ok-all-in-Ok.all.items put old new h moves (c.in-Ok.ensures.lines old new h moves ∙ ap (λ (l : Text). lines_between l (fact_table (facts_in t.shape old)) (fact_table (facts_in t.shape new))) label);
     }

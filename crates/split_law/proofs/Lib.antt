@@ -1,0 +1,4 @@
+pub mod LabelScript
+pub mod LabelConflict
+pub mod NamedTables
+pub mod LabelIllegal

@@ -1,0 +1,2 @@
+mod FitMoves
+mod WholeTables

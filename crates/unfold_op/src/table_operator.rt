@@ -1,0 +1,97 @@
+//! Operators for the facts of one table.
+ghost use Rattle.std.specs.Prelude.{◌≡◌, List};
+ghost use Rattle.std.specs.Vec.{vec_items};
+ghost use Rattle.ss_text.specs.Texts.{Row as RowValue};
+ghost use Rattle.flow_law.specs.declared.refused.Stop.{Stop};
+ghost use Rattle.operator_law.specs.declared.delta.Signed.{Signed as SignedValue};
+ghost use Rattle.unfold_op.specs.OneTables.{OneTableValue, KeepsFacts, CanKeep, BearsOne, CanPrepare, Gives, MayStop};
+
+use crate::{Distinct, Unfold};
+use flow_law::TableLine;
+use operator_law::{Delta, Fresh, Kept, Operator};
+
+/// An operator that keeps the facts of one table, which is there while it has facts.
+pub trait TableOperator: Fresh
+    + Operator<Input = (), Change = Delta, Output = Vec<TableLine>>
+    + Kept<Change = Delta>
+    + Drop {
+    // What is seen of it.
+    ghost table: { Self → OneTableValue };
+
+    /// How many facts are kept.
+    fn count(&self) -> u128
+        ensures { result ≡ (table self.now).total };
+
+    // What it keeps are the facts of rows.
+    ghost keeps_facts: { (s : Self) (x : List RowValue) → Self.keeps s x → KeepsFacts (table s) x };
+
+    ghost facts_kept: { (s : Self) (x : List RowValue) → KeepsFacts (table s) x → Self.keeps s x };
+
+    // Moves of rows of one label that fit what is kept can be prepared and made ready.
+    ghost prepares: { (s : Self) (ms : List SignedValue) → CanPrepare (table s) ms → Self.can_prepare s tt ms };
+
+    ghost reserves: { (s : Self) (ms : List SignedValue) → BearsOne (table s).shape (table s).label (table s).total ms → Self.can_reserve s ms };
+
+    ghost can_be_kept: { (s : Self) (x : List RowValue) → CanKeep (table s).shape x → Self.can_keep s x };
+
+    // The lines are those of the table, and it stops just where the facts after the change are refused.
+    ghost answers: { (s : Self) (ms : List SignedValue) (out : _) → Self.gives s tt ms out → Gives (table s) ms (vec_items out) };
+
+    ghost stops: { (s : Self) (ms : List SignedValue) (stop : Stop) → Self.may_stop s tt ms stop → MayStop (table s) ms stop };
+
+    // The form depends on the constants alone.
+    ghost same_form: { (s t : Self) → Self.alike s t → (table s).shape ≡ (table t).shape };
+}
+
+impl TableOperator for Distinct {
+    ghost use Rattle.std.specs.Prelude.{◌≡◌};
+    ghost use Rattle.std.proofs.Common.{subst, sym};
+    ghost use Rattle.flow_law.specs.declared.refused.Stop.{Stop};
+    ghost use Rattle.unfold_op.specs.OneTables.{MayStop};
+
+    ghost table = { λ o. o };
+
+    fn count(&self) -> u128 {
+        Distinct::count(self)
+    }
+
+    ghost keeps_facts = { λ s x h. h };
+
+    ghost facts_kept = { λ s x h. h };
+
+    ghost prepares = { λ s ms h. h };
+
+    ghost reserves = { λ s ms h. h };
+
+    ghost can_be_kept = { λ s x h. h };
+
+    ghost answers = { λ s ms out h. h };
+
+    ghost stops = { λ s ms stop h. subst (λ (e : Stop). MayStop s ms e) (sym h) (λ old new k m. tt) };
+
+    ghost same_form = { λ s t h. h };
+}
+
+impl TableOperator for Unfold {
+    ghost table = { λ o. o };
+
+    fn count(&self) -> u128 {
+        Unfold::count(self)
+    }
+
+    ghost keeps_facts = { λ s x h. h };
+
+    ghost facts_kept = { λ s x h. h };
+
+    ghost prepares = { λ s ms h. h };
+
+    ghost reserves = { λ s ms h. h };
+
+    ghost can_be_kept = { λ s x h. h };
+
+    ghost answers = { λ s ms out h. h };
+
+    ghost stops = { λ s ms stop h. h };
+
+    ghost same_form = { λ s t h. h };
+}
