@@ -7,7 +7,8 @@ use Rattle.plan_law.specs.Kinds.range
 use Rattle.view_def.specs.Query.{Query}
 use Rattle.view_def.specs.Profile.{IsViewOfProfile}
 use Rattle.valuation_meaning.specs.Meaning.{facts}
-use Rattle.plan_law.specs.Flat.{FlatSpec, flat}
+use Rattle.schema_delta.specs.declared.spec.FlatSpec.{FlatSpec}
+use Rattle.schema_delta.specs.Flat.{flat}
 use Rattle.plan_law.specs.Columns.{header}
 use Rattle.plan_law.specs.Chain.{Joint, Sides, chain, Keeps}
 use Rattle.plan_law.specs.PlanRows.{specs_from, joints_from, rows_from, plan_joints, first_rows, further_rows, plan_rows, plan_header, row_facts}

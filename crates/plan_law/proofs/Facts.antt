@@ -14,7 +14,7 @@ use Rattle.valuation_meaning.specs.Elements.{A_text, Valuation, cell_at, element
 use Rattle.valuation_meaning.specs.Terms.{Reading, value_of, are_defined, is_true, some_is_true, each_is_true, compares_values}
 use Rattle.valuation_meaning.specs.Valuations.{assignments, valuations, counts, meets}
 use Rattle.view_def.specs.Terms.{terms_of, terms_of_each, terms_of_filter, terms_of_view}
-use Rattle.valuation_meaning.specs.Meaning.{given, values_of, term_of, cell_of, fact_of, facts}
+use Rattle.valuation_meaning.specs.Meaning.{given, values_of, term_of, cell_of_reading, fact_of, facts}
 use Rattle.plan_law.specs.Columns.{alias_cell, tested_terms, read, is_consistent, bases}
 use Rattle.plan_law.proofs.Weights.{cond-none}
 use Rattle.plan_law.proofs.Columns.{Has, has_left, has_right, has_either}
@@ -62,7 +62,7 @@ module _ (a b : Reading) where
   keys_same [] h = refl
   keys_same (t ∷ ts) h = ap (λ o. given o ∷ values_of a ts) (h t (inl refl)) ∙ ap (λ r. given (b t) ∷ r) (keys_same ts (λ t m. h t (inr m)))
 
-  cell_same : (p : Option Place) (v : Option Term) → ((q : Place) → p ≡ Some q → a (term_of q) ≡ b (term_of q)) → Agree (option_to_list v) → cell_of a p v ≡ cell_of b p v
+  cell_same : (p : Option Place) (v : Option Term) → ((q : Place) → p ≡ Some q → a (term_of q) ≡ b (term_of q)) → Agree (option_to_list v) → cell_of_reading a p v ≡ cell_of_reading b p v
   cell_same None v hp hv = refl
   cell_same (Some q) None hp hv = refl
   cell_same (Some q) (Some t) hp hv = ap (λ o. Some (given o, given (a t))) (hp q refl) ∙ ap (λ o. Some (given (b (term_of q)), given o)) (hv t (inl refl))

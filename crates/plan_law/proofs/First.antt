@@ -7,7 +7,7 @@ use Rattle.plan_law.specs.Kinds.{Range}
 use Rattle.plan_law.specs.Kinds.range
 use Rattle.view_def.specs.Query.{Query}
 use Rattle.view_def.specs.Profile.{is_range_over, IsViewOfProfile}
-use Rattle.plan_law.specs.Flat.{FlatSpec}
+use Rattle.schema_delta.specs.declared.spec.FlatSpec.{FlatSpec}
 use Rattle.plan_law.specs.Columns.{header, headers_from, spec_of, columns, bases_from}
 use Rattle.plan_law.specs.PlanRows.{specs_from}
 use Rattle.plan_law.specs.Touched.{Marked, under, marked_bases}

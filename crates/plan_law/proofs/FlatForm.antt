@@ -10,7 +10,11 @@ use Rattle.plan_law.specs.Kinds.{Place, Range}
 use Rattle.plan_law.specs.Kinds.place
 use Rattle.plan_law.specs.Kinds.range
 use Rattle.valuation_meaning.specs.Elements.{cell_under}
-use Rattle.plan_law.specs.Flat.{FlatSpec, keeps, rows_behind, has_all, place_of, places_of, picked, pick_value, entries, fold_value, values_of, sheet_of, flat}
+use Rattle.unite_op.specs.NamedThings.{rows_behind}
+use Rattle.fold_op.specs.Cells.{has_all, place_of, places_of, picked}
+use Rattle.fold_op.specs.Flat.{pick_value, entries, fold_value}
+use Rattle.schema_delta.specs.declared.spec.FlatSpec.{FlatSpec}
+use Rattle.schema_delta.specs.Flat.{keeps, values_of, sheet_of, flat}
 use Rattle.plan_law.proofs.Columns.{Has, texts_equal}
 use Rattle.plan_law.proofs.Sums.{Apart, apart_distinct, position_cons}
 use Rattle.plan_law.proofs.FlatRows.{kept_databases, kept_relations, of_relations, cells_under, fields, per_field, tuple_rows, value_rows, attribute_rows, flat_of}

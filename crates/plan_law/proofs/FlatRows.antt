@@ -5,7 +5,7 @@ use Rattle.schema_model.specs.Catalogue.{RelationValue, DatabaseValue, Catalogue
 use Rattle.valuation_meaning.specs.Elements.{cell_under}
 use Rattle.plan_law.specs.Kinds.{Place, Range}
 use Rattle.plan_law.specs.Kinds.range
-use Rattle.plan_law.specs.Flat.{keeps, names_of}
+use Rattle.schema_delta.specs.Flat.{keeps, names_of}
 
 abbrev pub kept_databases : Place → CatalogueValue → CatalogueValue
 kept_databases p c = filter (λ (d : DatabaseValue). keeps p d.name) c

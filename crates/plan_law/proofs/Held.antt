@@ -10,7 +10,7 @@ use Rattle.plan_law.specs.Kinds.term
 use Rattle.plan_law.specs.Kinds.range
 use Rattle.view_def.specs.Query.{Query}
 use Rattle.view_def.specs.Profile.{is_tuple_variable, is_text_variable, has_text, is_range_over}
-use Rattle.valuation_meaning.specs.Elements.{Element, Valuation, text_of, text_at, cell_of, cell_at}
+use Rattle.valuation_meaning.specs.Elements.{Element, Valuation, text_of, text_at, cell_of_element, cell_at}
 use Rattle.valuation_meaning.specs.Terms.{value_of}
 use Rattle.valuation_meaning.specs.Meaning.{term_of}
 use Rattle.plan_law.specs.Columns.{Combo, tested_terms, wanted_in, folded_in, wanted, fold_of}
@@ -23,10 +23,10 @@ get_more f (a ∷ v) w zero y e = e
 get_more f (a ∷ v) w (suc k) y e = get_more f v w k y e
 
 pub cell_more : (v w : Valuation) (k : ℕ) (a : Place) (s : Text) → cell_at v k a ≡ Some s → cell_at (v ++ w) k a ≡ Some s
-cell_more v w k (place.Fixed n) s e = get_more (λ e. cell_of e n) v w k s e
+cell_more v w k (place.Fixed n) s e = get_more (λ e. cell_of_element e n) v w k s e
 cell_more v w k (place.Var u) s e =
-    option_and_then_some (λ name. option_and_then (λ e. cell_of e name) (slice_get v k)) (text_at v u) s e (λ n is cell.
-    rw (get_more text_of v w u n is) (get_more (λ e. cell_of e n) v w k s cell))
+    option_and_then_some (λ name. option_and_then (λ e. cell_of_element e name) (slice_get v k)) (text_at v u) s e (λ n is cell.
+    rw (get_more text_of v w u n is) (get_more (λ e. cell_of_element e n) v w k s cell))
 
 pub value_more : (v w : Valuation) (t : Term) (s : Text) → value_of v t ≡ Some s → value_of (v ++ w) t ≡ Some s
 value_more v w (term.Literal t) s e = e
@@ -46,7 +46,7 @@ held_more v w x y t h = record { text = h.text; value = value_more v w t h.text 
 pub record Picked (v : Valuation) (x : Combo) (k u : ℕ) : Type 0 where
   pub name : Text
   pub text : Text
-  pub cell : option_and_then (λ e. cell_of e name) (slice_get v k) ≡ Some text
+  pub cell : option_and_then (λ e. cell_of_element e name) (slice_get v k) ≡ Some text
   pub named : Has x (term.Var u, name)
   pub column : Has x (term.Cell k (place.Var u), text)
 
@@ -82,7 +82,7 @@ picked_more v w x y k None h = tt
 picked_more v w x y k (Some u) h = record {
   name = h.name;
   text = h.text;
-  cell = get_more (λ e. cell_of e h.name) v w k h.text h.cell;
+  cell = get_more (λ e. cell_of_element e h.name) v w k h.text h.cell;
   named = has_left x y (term.Var u, h.name) h.named;
   column = has_left x y (term.Cell k (place.Var u), h.text) h.column;
 }

@@ -9,7 +9,7 @@ use Rattle.plan_law.specs.Kinds.term
 use Rattle.plan_law.specs.Kinds.range
 use Rattle.view_def.specs.Query.{Query}
 use Rattle.view_def.specs.Profile.{lists_tuples, is_tuple_variable, is_text_variable, has_text}
-use Rattle.valuation_meaning.specs.Elements.{Valuation, text_at, cell_of, cell_at}
+use Rattle.valuation_meaning.specs.Elements.{Valuation, text_at, cell_of_element, cell_at}
 use Rattle.valuation_meaning.specs.Terms.{value_of}
 use Rattle.view_def.specs.Terms.{terms_of_view}
 use Rattle.plan_law.specs.Columns.{Combo, tested_terms, alias_cell, wanted, fold_of, text_under, found, read, is_consistent}
@@ -86,7 +86,7 @@ module _ (q : Query) (fits : Fits q) (v : Valuation) (x : Combo) (owns : Owns q 
             let value : text_at v u ≡ Some p.name = r.value ∙ ap Some same in
             record {
               text = p.text;
-              value = ap (option_and_then (λ name. option_and_then (λ e. cell_of e name) (slice_get v k))) value ∙ p.cell;
+              value = ap (option_and_then (λ name. option_and_then (λ e. cell_of_element e name) (slice_get v k))) value ∙ p.cell;
               says = own_reads q x (term.Cell k (place.Var u)) p.text holds p.column refl;
             }
 

@@ -14,7 +14,11 @@ use Rattle.view_def.specs.Profile.{ranges_over_rows}
 use Rattle.plan_law.specs.Kinds.{Place, Range}
 use Rattle.plan_law.specs.Kinds.place
 use Rattle.plan_law.specs.Kinds.range
-use Rattle.plan_law.specs.Flat.{FlatSpec, rows_behind, has_all, places_of, picked, pick_value, entries, fold_value, values_of, inside, goes_over, part, own, whole, flat}
+use Rattle.unite_op.specs.NamedThings.{rows_behind}
+use Rattle.fold_op.specs.Cells.{has_all, places_of, picked}
+use Rattle.fold_op.specs.Flat.{pick_value, entries, fold_value}
+use Rattle.schema_delta.specs.declared.spec.FlatSpec.{FlatSpec}
+use Rattle.schema_delta.specs.Flat.{values_of, inside, goes_over, part, own, whole, flat}
 use Rattle.plan_law.specs.Touched.{Marked}
 use Rattle.plan_law.specs.Marks.{OfRow, comes, goes, is_changed, alone, with_mark, marked_part, marked_whole, marked_flat}
 use Rattle.plan_law.proofs.FlatForm.{none_each, same_each, all_unit, singles}

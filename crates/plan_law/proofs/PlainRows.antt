@@ -10,7 +10,7 @@ use Rattle.plan_law.specs.Kinds.{Term, Range}
 use Rattle.plan_law.specs.Kinds.range
 use Rattle.view_def.specs.Query.{Query}
 use Rattle.plan_law.specs.Chain.{chain}
-use Rattle.plan_law.specs.Flat.{flat}
+use Rattle.schema_delta.specs.Flat.{flat}
 use Rattle.plan_law.specs.Columns.{Column, Combo, header, spec_of, columns, bases_from, is_tested, stage, terms_over}
 use Rattle.plan_law.specs.Links.{own_holds, keys_hold}
 use Rattle.plan_law.specs.PlanRows.{texts, own_rows, joints_from, rows_from}

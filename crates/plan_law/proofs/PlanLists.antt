@@ -12,7 +12,7 @@ use Rattle.view_def.specs.Query.{Query}
 use Rattle.view_def.specs.Profile.{IsViewOfProfile}
 use Rattle.valuation_meaning.specs.Valuations.{counts}
 use Rattle.valuation_meaning.specs.Meaning.{fact_of, facts}
-use Rattle.plan_law.specs.Flat.{flat}
+use Rattle.schema_delta.specs.Flat.{flat}
 use Rattle.plan_law.specs.Columns.{Combo, term_eq, header, headers_from, spec_of, columns, bases_from, is_tested, stage, read, equalities, combo_facts}
 use Rattle.plan_law.specs.Links.{Source, Given, Right, in_either, source_of, Link, places_from, column_link, equality_link, links, link_holds, is_left, is_own, own_links, own_holds}
 use Rattle.plan_law.specs.Chain.{chain}

@@ -14,7 +14,8 @@ use Rattle.flow_law.specs.FactRows.{fact_row}
 use Rattle.valuation_meaning.specs.Terms.{Reading}
 use Rattle.valuation_meaning.specs.Valuations.{counts}
 use Rattle.valuation_meaning.specs.Meaning.{fact_of, facts}
-use Rattle.plan_law.specs.Flat.{FlatSpec, flat}
+use Rattle.schema_delta.specs.declared.spec.FlatSpec.{FlatSpec}
+use Rattle.schema_delta.specs.Flat.{flat}
 use Rattle.plan_law.specs.Columns.{header, spec_of, read}
 use Rattle.plan_law.specs.Links.{own_holds}
 use Rattle.plan_law.specs.Chain.{Sides, SideMoves, Keeps, EachMoved, Walks, Commits}

@@ -11,7 +11,7 @@ use Rattle.view_def.specs.Query.{Query}
 use Rattle.plan_law.specs.Columns.{Column, Combo, header, is_tested, terms_over}
 use Rattle.plan_law.specs.Links.{own_holds, keys_hold}
 use Rattle.plan_law.specs.PlanRows.{texts}
-use Rattle.plan_law.specs.Flat.{FlatSpec}
+use Rattle.schema_delta.specs.declared.spec.FlatSpec.{FlatSpec}
 use Rattle.plan_law.specs.Columns.{spec_of}
 use Rattle.plan_law.specs.Touched.{Marked, marked_pairs, count_marked, both_tested, touched, under, marked_bases}
 use Rattle.plan_law.proofs.Weights.{plus_none}

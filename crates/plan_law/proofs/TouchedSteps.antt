@@ -10,7 +10,8 @@ use Rattle.plan_law.specs.Kinds.range
 use Rattle.view_def.specs.Query.{Query}
 use Rattle.view_def.specs.Profile.{IsViewOfProfile}
 use Rattle.plan_law.specs.Net.{SameNet, IsNet}
-use Rattle.plan_law.specs.Flat.{FlatSpec, flat}
+use Rattle.schema_delta.specs.declared.spec.FlatSpec.{FlatSpec}
+use Rattle.schema_delta.specs.Flat.{flat}
 use Rattle.plan_law.specs.Columns.{header, spec_of}
 use Rattle.plan_law.specs.Links.{own_holds, keys_hold}
 use Rattle.plan_law.specs.Chain.{Sides, SideMoves, Keeps, Walks, AreNet, walk_pairs}

@@ -14,7 +14,7 @@ use Rattle.view_def.specs.Profile.{is_text_variable}
 use Rattle.valuation_meaning.specs.Elements.{Element, A_row, Valuation}
 use Rattle.valuation_meaning.specs.Terms.{Reading}
 use Rattle.valuation_meaning.specs.Meaning.{term_of}
-use Rattle.plan_law.specs.Flat.{flat}
+use Rattle.schema_delta.specs.Flat.{flat}
 use Rattle.plan_law.specs.Columns.{Combo, tested_terms, wanted, fold_of, spec_of, fold_header, header}
 use Rattle.plan_law.proofs.Weights.{plus_none, weigh-places}
 use Rattle.plan_law.proofs.Columns.{Has, has_left, has_right}

@@ -10,7 +10,7 @@ use Rattle.plan_law.specs.Kinds.{Term, Range}
 use Rattle.plan_law.specs.Kinds.place
 use Rattle.plan_law.specs.Kinds.term
 use Rattle.view_def.specs.Query.{Query}
-use Rattle.valuation_meaning.specs.Elements.{Element, A_row, Valuation, cell_under, cell_of, cell_at, text_at}
+use Rattle.valuation_meaning.specs.Elements.{Element, A_row, Valuation, cell_under, cell_of_element, cell_at, text_at}
 use Rattle.valuation_meaning.specs.Terms.{Reading, value_of}
 use Rattle.valuation_meaning.specs.Valuations.{assignments}
 use Rattle.plan_law.specs.Columns.{Column, Combo, tested_terms, wanted}
@@ -100,16 +100,16 @@ zip_more k attributes row (a ∷ names) cells h more e =
 module _ (v : Valuation) (k : ℕ) (r : RelationValue) (i : ℕ) (row : Row) (at : slice_get v k ≡ Some (A_row r i)) (there : slice_get r.rows i ≡ Some row) where
   pub cell_is : (a : Text) → cell_at v k (place.Fixed a) ≡ cell_under r.attributes a row
   cell_is a =
-      ap (λ (o : Option Element). option_and_then (λ e. cell_of e a) o) at
+      ap (λ (o : Option Element). option_and_then (λ e. cell_of_element e a) o) at
       ∙ ap (λ (o : Option Row). option_and_then (cell_under r.attributes a) o) there
 
   pub fold_cell_is : (u : ℕ) → cell_at v k (place.Var u) ≡ option_and_then (λ n. cell_under r.attributes n row) (text_at v u)
   fold_cell_is u = one (text_at v u)
     where
-      one : (o : Option Text) → option_and_then (λ name. option_and_then (λ e. cell_of e name) (slice_get v k)) o ≡ option_and_then (λ n. cell_under r.attributes n row) o
+      one : (o : Option Text) → option_and_then (λ name. option_and_then (λ e. cell_of_element e name) (slice_get v k)) o ≡ option_and_then (λ n. cell_under r.attributes n row) o
       one None = refl
       one (Some n) =
-          ap (λ (o : Option Element). option_and_then (λ e. cell_of e n) o) at
+          ap (λ (o : Option Element). option_and_then (λ e. cell_of_element e n) o) at
           ∙ ap (λ (o : Option Row). option_and_then (cell_under r.attributes n) o) there
 
   pub cells_hold : (names cells : Row) → cells_under r.attributes names row ≡ Some cells → (t : Term) (s : Text) → Has (zip (map (cell_term k) names) cells) (t, s) → value_of v t ≡ Some s

@@ -12,7 +12,12 @@ use Rattle.plan_law.specs.Kinds.term
 use Rattle.plan_law.specs.Kinds.range
 use Rattle.view_def.specs.Query.{Query}
 use Rattle.view_def.specs.Profile.{lists_tuples}
-use Rattle.plan_law.specs.Flat.{SheetValue, keeps, rows_behind, has_all, place_of, places_of, cells_at, picked, pick_value, entry, entries, fold_value, values_of, names_of, sheet_of, flat}
+use Rattle.operator_law.specs.Rows.{cells_at}
+use Rattle.sheets.specs.Sheets.{SheetValue}
+use Rattle.unite_op.specs.NamedThings.{rows_behind}
+use Rattle.fold_op.specs.Cells.{has_all, place_of, places_of, picked}
+use Rattle.fold_op.specs.Flat.{pick_value, entry, entries, fold_value}
+use Rattle.schema_delta.specs.Flat.{keeps, values_of, names_of, sheet_of, flat}
 use Rattle.plan_law.specs.Columns.{Column, Combo, tested_terms, wanted, fold_of, spec_of, fold_header, header, columns, bases_from, text_under, found, read, headers_from, terms_over}
 use Rattle.plan_law.proofs.Columns.{Has, has_left, has_right, has_under}
 use Rattle.plan_law.proofs.Held.{IsColumn, Fits, is_wanted, is_fold}

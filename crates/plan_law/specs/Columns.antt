@@ -17,7 +17,8 @@ use Rattle.valuation_meaning.specs.Valuations.{counts}
 use Rattle.valuation_meaning.specs.Meaning.{term_of, fact_of}
 use Rattle.valuation_meaning.specs.Early.{members}
 use Rattle.valuation_meaning.specs.Lookups.{resolved}
-use Rattle.plan_law.specs.Flat.{FlatSpec, flat}
+use Rattle.schema_delta.specs.declared.spec.FlatSpec.{FlatSpec}
+use Rattle.schema_delta.specs.Flat.{flat}
 
 -- a text, and the term that it is the value of
 abbrev pub Column : Type 0

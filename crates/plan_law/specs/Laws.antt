@@ -4,7 +4,7 @@ use Rattle.schema_model.specs.Catalogue.{CatalogueValue}
 use Rattle.schema_model.specs.declared.change.Change.{Change}
 use Rattle.view_def.specs.Query.{Query}
 use Rattle.valuation_meaning.specs.Meaning.{facts}
-use Rattle.plan_law.specs.Flat.{flat}
+use Rattle.schema_delta.specs.Flat.{flat}
 use Rattle.plan_law.specs.Columns.{bases, combos, combo_facts}
 use Rattle.plan_law.specs.Chain.{Sides, SideMoves, Commits, walk_pairs}
 use Rattle.plan_law.specs.PlanRows.{specs_from, plan_joints, plan_rows, plan_header, row_facts}

@@ -1,5 +1,4 @@
 pub mod Kinds
-pub mod Flat
 pub mod Columns
 pub mod Links
 pub mod Net

@@ -9,7 +9,8 @@ use Rattle.schema_model.specs.declared.change.Change.{Change}
 use Rattle.schema_model.specs.declared.change.Change.TheVariants.{Insert, Delete}
 use Rattle.view_def.specs.Profile.{ranges_over_rows}
 use Rattle.view_def.specs.Query.{Query}
-use Rattle.plan_law.specs.Flat.{FlatSpec, part, own}
+use Rattle.schema_delta.specs.declared.spec.FlatSpec.{FlatSpec}
+use Rattle.schema_delta.specs.Flat.{part, own}
 use Rattle.plan_law.specs.Touched.{Marked, marked_bases, touched, flat_moved}
 
 -- a change of one row, and whether the row comes

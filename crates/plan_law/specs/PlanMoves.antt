@@ -9,7 +9,7 @@ use Rattle.valuation_meaning.specs.Valuations.{counts}
 use Rattle.valuation_meaning.specs.Meaning.{fact_of, facts}
 use Rattle.plan_law.specs.Kinds.{Term, Range}
 use Rattle.plan_law.specs.Kinds.range
-use Rattle.plan_law.specs.Flat.{flat}
+use Rattle.schema_delta.specs.Flat.{flat}
 use Rattle.plan_law.specs.Columns.{header, read}
 use Rattle.plan_law.specs.Links.{own_holds}
 use Rattle.plan_law.specs.Chain.{Joint, Sides, SideMoves, Keeps, Walks}

@@ -8,7 +8,8 @@ use Rattle.valuation_meaning.specs.Valuations.{counts}
 use Rattle.valuation_meaning.specs.Meaning.{fact_of}
 use Rattle.plan_law.specs.Kinds.{Term, Range}
 use Rattle.plan_law.specs.Kinds.range
-use Rattle.plan_law.specs.Flat.{FlatSpec, flat}
+use Rattle.schema_delta.specs.declared.spec.FlatSpec.{FlatSpec}
+use Rattle.schema_delta.specs.Flat.{flat}
 use Rattle.plan_law.specs.Columns.{Column, Combo, header, headers_from, spec_of, read}
 use Rattle.plan_law.specs.Links.{keys_hold, own_holds}
 use Rattle.plan_law.specs.Chain.{Joint, chain}

@@ -5,7 +5,7 @@ use Rattle.ss_text.specs.Texts.{Text}
 use Rattle.plan_law.specs.Kinds.{Term, Range}
 use Rattle.plan_law.specs.Kinds.range
 use Rattle.view_def.specs.Query.{Query}
-use Rattle.plan_law.specs.Flat.{FlatSpec}
+use Rattle.schema_delta.specs.declared.spec.FlatSpec.{FlatSpec}
 use Rattle.plan_law.specs.Columns.{Column, Combo, header, spec_of, is_tested}
 use Rattle.operator_law.specs.Bags.{weigh}
 

@@ -8,7 +8,8 @@ ghost use Rattle.schema_model.specs.declared.change.Change.TheVariants.{Insert, 
 ghost use Rattle.view_def.specs.Query.{Query};
 ghost use Rattle.view_def.specs.Profile.{IsViewOfProfile};
 ghost use Rattle.plan_law.specs.Net.{IsNet};
-ghost use Rattle.plan_law.specs.Flat.{FlatSpec, flat};
+ghost use Rattle.schema_delta.specs.declared.spec.FlatSpec.{FlatSpec};
+ghost use Rattle.schema_delta.specs.Flat.{flat};
 ghost use Rattle.plan_law.specs.Columns.{combos};
 ghost use Rattle.plan_law.specs.Chain.{Sides, SideMoves, AreNet};
 ghost use Rattle.plan_law.specs.Touched.{all_cells, plain_cells, marked_combos, marked_bases};

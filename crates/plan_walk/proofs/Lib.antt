@@ -1,0 +1,3 @@
+pub mod Cancelled
+pub mod Leftover
+pub mod Stages
