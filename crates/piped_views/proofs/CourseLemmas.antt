@@ -6,7 +6,7 @@ use Rattle.outside.specs.Tree.{Tree}
 use Rattle.effects.specs.Effects.{Effect}
 use Rattle.tab_lines.specs.Spelling.{unspell}
 use Rattle.course.specs.declared.status.Verdict.TheVariants as verdict
-use Rattle.course.specs.Machine.{Reply, Goes, ending, follow, prefixed}
+use Rattle.course.specs.Answering.{Reply, Continues, ending, follow, prefixed}
 use Rattle.flow_law.specs.declared.line.TableLine.{TableLine}
 use Rattle.flow_law.specs.declared.shape.Shape.{Shape}
 use Rattle.flow_law.specs.Tables.{TablesValue}
@@ -43,7 +43,7 @@ Ends lines r = (ending finish (follow step lines r)).status ≡ verdict.Done
 
 -- it does where these lines say a script that applies
 abbrev EndsSo : List (List ℕ) → Type 0
-EndsSo lines = (es : List Effect) (s : ApplyState) (script : List TableLine) (new : TablesValue) → script_said lines ≡ Some script → applied s.shape s.tables script ≡ Ok new → Ends lines (Goes es s)
+EndsSo lines = (es : List Effect) (s : ApplyState) (script : List TableLine) (new : TablesValue) → script_said lines ≡ Some script → applied s.shape s.tables script ≡ Ok new → Ends lines (Continues es s)
 
 -- and so it does with one line more
 module _ (lines : List (List ℕ)) (rest : EndsSo lines) (es : List Effect) (s : ApplyState) (script : List TableLine) (new : TablesValue) (applies : applied s.shape s.tables script ≡ Ok new) where

@@ -13,7 +13,7 @@ use Rattle.change_script.specs.declared.reading.ScriptLine.TheVariants.{Passed}
 use Rattle.change_script.specs.Printed.{printed}
 use Rattle.change_script.specs.Reading.{HasKeyText, script_line_of}
 use Rattle.change_script.proofs.ReadingLemmas.{line_read}
-use Rattle.run_lines.specs.Told.{lines_text}
+use Rattle.run_lines.specs.Printing.{lines_text}
 use Rattle.view_apply.specs.Scripts.{said_by, said_as, both, script_said}
 
 -- the line of a row has no LF

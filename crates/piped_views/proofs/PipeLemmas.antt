@@ -11,7 +11,7 @@ use Rattle.outside.specs.Tree.{Tree, file_at, files_of}
 use Rattle.effects.specs.Effects.{Effect, World}
 use Rattle.tab_lines.specs.Lines.{lines_of}
 use Rattle.course.specs.declared.status.Verdict.TheVariants as verdict
-use Rattle.course.specs.Machine.{Reply, Goes, Halts, follow}
+use Rattle.course.specs.Answering.{Reply, Continues, Finishes, follow}
 use Rattle.schema_model.specs.Catalogue.{CatalogueValue}
 use Rattle.view_def.specs.Profile.{IsViewOfProfile}
 use Rattle.view_def.specs.Query.{Query}
@@ -39,7 +39,7 @@ use Rattle.ss_top.specs.Open.{OpenValue}
 use Rattle.ss_top.specs.Opening.{IsDefinition}
 use Rattle.ss_top.specs.Promises.{EachTakes, IsMaintained, effects_so_far, folder_of, opening_of, printed_by, TakesBy, view_at_first}
 use Rattle.ss_top.specs.Runs.{course_of}
-use Rattle.ss_top.specs.Stages.{Definition, files_of_view}
+use Rattle.ss_top.specs.Stages.{DefinitionOrRefusal, files_of_view}
 use Rattle.ss_top.specs.declared.status.Status.{Status}
 use Rattle.ss_top.proofs.AnswerCases.{answer_query}
 use Rattle.ss_top.proofs.StageLemmas.{meaning_in_order}
@@ -104,8 +104,8 @@ module _ (q : Query) (some : q.constants ≢ []) (first : TablesValue) where
     same : o.session.query ≡ q
 
   abbrev IsReply : Reply OpenValue → Type 0
-  IsReply (Goes es o) = IsFollowing es o
-  IsReply (Halts es v) = Unit {0}
+  IsReply (Continues es o) = IsFollowing es o
+  IsReply (Finishes es v) = Unit {0}
 
   following_more : (line : List ℕ) (lines : List (List ℕ)) (es : List Effect) (o : OpenValue) → IsFollowing es o → EachTakes o (line ∷ lines) → IsFollowing (es ++ (answer o line).effects) (answer o line).view
   following_more line lines es o h each =
@@ -119,11 +119,11 @@ module _ (q : Query) (some : q.constants ≢ []) (first : TablesValue) where
         same = answer_query o line ∙ h.same;
       }
 
-  followed : (lines : List (List ℕ)) (es : List Effect) (o : OpenValue) → IsFollowing es o → EachTakes o lines → IsReply (follow step lines (Goes es o))
+  followed : (lines : List (List ℕ)) (es : List Effect) (o : OpenValue) → IsFollowing es o → EachTakes o lines → IsReply (follow step lines (Continues es o))
   followed [] es o h each = h
   followed (line ∷ lines) es o h each = followed lines (es ++ (answer o line).effects) (answer o line).view (following_more line lines es o h each) each.1
 
-module _ (name : Text) (bytes : Option (List ℕ)) (d : Definition) (t u : Tree) (lines : List (List ℕ)) (old new : World) (s : Status) (output : List ℕ) (did : IsMaintained d t lines old new s)
+module _ (name : Text) (bytes : Option (List ℕ)) (d : DefinitionOrRefusal) (t u : Tree) (lines : List (List ℕ)) (old new : World) (s : Status) (output : List ℕ) (did : IsMaintained d t lines old new s)
     (defined : IsDefinition name bytes d) (empty : old.output.held ≡ Some []) (printed : new.output.held ≡ Some output)
     (holds : Holds (folder_of did.opened.accepted) (files_of_view did.opened.catalogue did.opened.accepted.query) u) where
   abbrev q : Query
@@ -174,12 +174,12 @@ module _ (name : Text) (bytes : Option (List ℕ)) (d : Definition) (t u : Tree)
 
   ends : HavePlainHeaders (shape_of q) (meaning c q) → (view : Text) → ((course_of (Apply view) u d).whole (lines_of output)).status ≡ verdict.Done
   ends plain view =
-      ap (λ (x : Definition). ((by_lines applying.step applying.finish (apply_opening u x)).whole (lines_of output)).status) did.opened.defined
+      ap (λ (x : DefinitionOrRefusal). ((by_lines applying.step applying.finish (apply_opening u x)).whole (lines_of output)).status) did.opened.defined
       ∙ applying_ends q.view_db (shape_of q) u (lines_of output) following.script (meaning c q) (meaning e q) (opens plain) says takes
 
   -- where that was applied
   module _ (plain : HavePlainHeaders (shape_of q) (meaning c q)) (w v : World) (p : IsApplied d u (lines_of output) w v) where
-    abbrev query_in : Definition → Query
+    abbrev query_in : DefinitionOrRefusal → Query
     query_in (Ok a) = a.query
     query_in (Err fields) = q
 

@@ -21,7 +21,7 @@ use Rattle.view_folder.specs.Sync.{written, removed, later_sync}
 use Rattle.view_folder.specs.TableFiles.{table_text}
 use Rattle.kept_sources.proofs.AfterLemmas.{Silent}
 use Rattle.kept_sources.proofs.SavingLemmas.{saved_silent}
-use Rattle.run_lines.specs.Told.{says, lines_text, script_rows, tells_script, tells_synced}
+use Rattle.run_lines.specs.Printing.{says, lines_text, script_rows, prints_script, prints_synced}
 use Rattle.view_apply.specs.Scripts.{script_said}
 use Rattle.ss_top.specs.Answers.{Answer, Said, Refuses, Begins, Holds, Aborts, Scripts, Syncs, answer, end_effects, end_view, finish, sync_effects}
 use Rattle.ss_top.specs.Open.{OpenValue}
@@ -91,7 +91,7 @@ lines_said : (lines : List TableLine) (last : Row) (rest : List Row) (more : Lis
 lines_said [] last rest more passes h e = passed_first last rest passes ∙ e
 lines_said (line ∷ lines) last rest more passes h e = line_first line ((map printed lines ++ last ∷ []) ++ rest) (lines ++ more) h.0 (lines_said lines last rest more passes h.1 e)
 
-telling_script : (lines : List TableLine) → AllByRecursion HasKeyText lines → IsTelling (tells_script lines ∷ []) lines
+telling_script : (lines : List TableLine) → AllByRecursion HasKeyText lines → IsTelling (prints_script lines ∷ []) lines
 telling_script lines h =
     let done : Row = codes "done" ∷ decimal (length lines) ∷ [] in
     record { rows = script_rows lines; fields = lines_have lines done (omega arith); text = append-nil (lines_text (script_rows lines)); said = λ rest more e. lines_said lines done rest more refl h e }
@@ -105,12 +105,12 @@ removed_silent : (folder : Text) (names : List Text) → AllByRecursion Silent (
 removed_silent folder [] = tt
 removed_silent folder (n ∷ ns) = (tt, removed_silent folder ns)
 
-telling_synced : (count : ℕ) → IsTelling (tells_synced count ∷ []) []
+telling_synced : (count : ℕ) → IsTelling (prints_synced count ∷ []) []
 telling_synced count = telling_row (codes "synced") (decimal count ∷ []) refl
 
 pub opening_tells : (folder : Text) (files : List File) (names : List Text) → IsTelling (opening_effects folder files names) []
 opening_tells folder files names =
-    telling_more (written folder files ++ removed folder (other_names files names)) (tells_synced _ ∷ []) [] []
+    telling_more (written folder files ++ removed folder (other_names files names)) (prints_synced _ ∷ []) [] []
     (telling_more (written folder files) (removed folder (other_names files names)) [] [] (telling_silent (written folder files) (written_silent folder files)) (telling_silent (removed folder (other_names files names)) (removed_silent folder (other_names files names))))
     (telling_synced _)
 

@@ -28,7 +28,7 @@ use Rattle.ss_top.specs.Commands.{Apply}
 use Rattle.ss_top.specs.Opening.{IsDefinition}
 use Rattle.ss_top.specs.Promises.{IsMaintained, folder_of}
 use Rattle.ss_top.specs.Runs.{course_of}
-use Rattle.ss_top.specs.Stages.{Definition, files_of_view}
+use Rattle.ss_top.specs.Stages.{DefinitionOrRefusal, files_of_view}
 
 -- the headers of these tables do not begin with a byte order mark
 abbrev pub HavePlainHeaders : Shape → TablesValue → Type 0
@@ -40,7 +40,7 @@ TablesReadBack = (shape : Shape) (ts : TablesValue) (folder : Text) (t : Tree) �
     → Holds folder (table_files shape ts) t → held shape t folder ≡ Ok ts
 
 -- an output, piped to where the view's folder holds the tables over a first catalogue: these are read, the output says a script, which takes them to the tables over a last catalogue, nothing of it is refused there, and where it was applied the folder holds the files of these
-pub record IsPiped (d : Definition) (q : Query) (first last : CatalogueValue) (t : Tree) (output : List ℕ) : Type 0 where
+pub record IsPiped (d : DefinitionOrRefusal) (q : Query) (first last : CatalogueValue) (t : Tree) (output : List ℕ) : Type 0 where
   pub opens : HavePlainHeaders (shape_of q) (meaning first q) → held (shape_of q) t (view_folder q.view_db) ≡ Ok (meaning first q)
   pub script : List TableLine
   pub says : script_said (lines_of output) ≡ Some script
@@ -50,7 +50,7 @@ pub record IsPiped (d : Definition) (q : Query) (first last : CatalogueValue) (t
 
 -- where a view was kept up to date, with an output of its own, and a folder in another place holds what the view's folder held behind the opening, the output is piped there
 abbrev pub PipedViewsFollow : Type 0
-PipedViewsFollow = (name : Text) (bytes : Option (List ℕ)) (d : Definition) (t u : Tree) (lines : List (List ℕ)) (old new : World) (s : Status) (output : List ℕ) (did : IsMaintained d t lines old new s)
+PipedViewsFollow = (name : Text) (bytes : Option (List ℕ)) (d : DefinitionOrRefusal) (t u : Tree) (lines : List (List ℕ)) (old new : World) (s : Status) (output : List ℕ) (did : IsMaintained d t lines old new s)
     → IsDefinition name bytes d → old.output.held ≡ Some [] → new.output.held ≡ Some output
     → Holds (folder_of did.opened.accepted) (files_of_view did.opened.catalogue did.opened.accepted.query) u
     → IsPiped d did.opened.accepted.query did.opened.catalogue did.last.session.catalogue u output

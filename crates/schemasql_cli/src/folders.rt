@@ -4,7 +4,7 @@ ghost use Rattle.outside.specs.Counts.{Rose, risen};
 
 use crate::listing::{Wanted, list_at};
 use crate::paths::{file_path, folder_path, left_in};
-use crate::reading::read_at;
+use crate::reading::{front_at, read_at};
 use crate::writing::{
     Writing, make_folder_at, remove_folder_at, remove_what_is_left, remove_where_there,
 };
@@ -100,6 +100,19 @@ impl<R: Files + AllocGlobal + Clone + Drop> Folders for HostFolders<R> {
         file: &Text,
     ) -> Result<Option<Text>, StoreFault> {
         match read_at(&self.rt, folder, file) {
+            Ok(bytes) => Ok(bytes),
+            Err(error) => Err(fault_of(&error, &mut self.read_faults)),
+        }
+    }
+
+    fn front(
+        &mut self,
+        _alloc: Global,
+        folder: &Text,
+        file: &Text,
+        most: usize,
+    ) -> Result<Option<Text>, StoreFault> {
+        match front_at(&self.rt, folder, file, most) {
             Ok(bytes) => Ok(bytes),
             Err(error) => Err(fault_of(&error, &mut self.read_faults)),
         }

@@ -36,7 +36,7 @@ use Rattle.ss_print.specs.Fields.{escape_fields, first_field, line_fields, group
 use Rattle.ss_top.specs.declared.opening.Viewing.TheVariants as viewing
 use Rattle.ss_top.specs.Open.{OpenValue}
 use Rattle.ss_top.specs.declared.word.Word.{Word}
-use Rattle.run_lines.specs.Told.{refuses, tells_held, tells_script}
+use Rattle.run_lines.specs.Printing.{refuses, prints_held, prints_script}
 use Rattle.ss_top.specs.Stages.{refusal_of}
 use Rattle.ss_top.specs.Steps.{IsFieldsOf, IsHoldFieldsOf, IsStopFieldsOf, IsOpenFieldsOf, Views}
 use Rattle.ss_top.specs.Answers.{Answer, answer, by_spelling, by_row, by_first, by_fields, by_word, by_broken, by_group, by_open, by_change, by_fault, by_view, refusing, giving_up, keeping, changing, committing, word_in, sync_effects, end_effects, end_view, finish}
@@ -132,20 +132,20 @@ module _ {A : Type 0} (before v : World) (r : Result A Stop) where
   abbrev DoesBy : Answer → Type 0
   DoesBy a = Does a.effects before v r
 
-  pub accepted_does : (o : OpenValue) (g : Change) (lines : List TableLine) → o.session.held ≡ None → IsAccepted o.session g → lines ≡ lines_to o.session (after o.session.catalogue g) → Does (tells_script lines ∷ []) before v r → DoesBy (by_fault o g (fault (working o.session) g))
-  accepted_does o g lines none h e d = subst DoesBy (sym (accepted_is o g none h)) (subst (λ (ls : List TableLine). Does (tells_script ls ∷ []) before v r) e d)
+  pub accepted_does : (o : OpenValue) (g : Change) (lines : List TableLine) → o.session.held ≡ None → IsAccepted o.session g → lines ≡ lines_to o.session (after o.session.catalogue g) → Does (prints_script lines ∷ []) before v r → DoesBy (by_fault o g (fault (working o.session) g))
+  accepted_does o g lines none h e d = subst DoesBy (sym (accepted_is o g none h)) (subst (λ (ls : List TableLine). Does (prints_script ls ∷ []) before v r) e d)
 
   pub refused_does : (o : OpenValue) (g : Change) (e : Refused) (row : Row) → o.session.held ≡ None → IsRefused o.session g e → IsFieldsOf g e row → Does (refuses row ∷ []) before v r → DoesBy (by_fault o g (fault (working o.session) g))
   refused_does o g e row none h f d = subst DoesBy (sym (refused_is o g e row none h f)) d
 
-  pub held_does : (o : OpenValue) (g : Change) → is_some o.session.held ≡ true → fault (working o.session) g ≡ None → Does (tells_held ∷ []) before v r → DoesBy (by_fault o g (fault (working o.session) g))
+  pub held_does : (o : OpenValue) (g : Change) → is_some o.session.held ≡ true → fault (working o.session) g ≡ None → Does (prints_held ∷ []) before v r → DoesBy (by_fault o g (fault (working o.session) g))
   held_does o g inside fits d = subst DoesBy (sym (held_is o g inside fits)) d
 
   pub unheld_does : (o : OpenValue) (g : Change) (e : HoldRefused) (row : Row) → IsHoldRefused o.session g e → IsHoldFieldsOf g e row → Does (refuses row ∷ []) before v r → DoesBy (by_fault o g (fault (working o.session) g))
   unheld_does o g e row h f d = subst DoesBy (sym (unheld_is o g e row h f)) d
 
-  pub made_does : (o : OpenValue) (lines : List TableLine) → refusal (working o.session) o.session.query ≡ None → lines ≡ lines_to o.session (working o.session) → Does (tells_script lines ∷ []) before v r → DoesBy (by_group o (refusal_of (working o.session) o.session.query))
-  made_does o lines h e d = subst DoesBy (sym (made_is o h)) (subst (λ (ls : List TableLine). Does (tells_script ls ∷ []) before v r) e d)
+  pub made_does : (o : OpenValue) (lines : List TableLine) → refusal (working o.session) o.session.query ≡ None → lines ≡ lines_to o.session (working o.session) → Does (prints_script lines ∷ []) before v r → DoesBy (by_group o (refusal_of (working o.session) o.session.query))
+  made_does o lines h e d = subst DoesBy (sym (made_is o h)) (subst (λ (ls : List TableLine). Does (prints_script ls ∷ []) before v r) e d)
 
   pub stopped_does : (o : OpenValue) (e : GroupStop) (row : Row) → IsGroupStop (refusal (working o.session) o.session.query) e → IsStopFieldsOf e row → Does (refuses row ∷ []) before v r → DoesBy (by_group o (refusal_of (working o.session) o.session.query))
   stopped_does o e row h f d = subst DoesBy (sym (stopped_is o e row h f)) d

@@ -9,7 +9,7 @@ use Rattle.outside.specs.Tree.{Tree}
 use Rattle.effects.specs.Effects.{Effect, World, contents, performed}
 use Rattle.course.specs.declared.status.Verdict.{Verdict}
 use Rattle.course.specs.declared.status.Verdict.TheVariants as verdict
-use Rattle.course.specs.Machine.{course}
+use Rattle.course.specs.Answering.{course}
 use Rattle.flow_law.specs.Lines.{label_of}
 use Rattle.flow_law.specs.declared.shape.Shape.{Shape}
 use Rattle.flow_law.specs.Tables.{TablesValue, labels_of}
@@ -22,10 +22,10 @@ use Rattle.view_apply.proofs.CourseLemmas.{AllTook, done_took}
 use Rattle.view_apply.proofs.LeftLemmas.{is_left}
 use Rattle.ss_top.specs.declared.status.Status.{Status}
 use Rattle.ss_top.specs.declared.status.Status.TheVariants as status
-use Rattle.ss_top.specs.Stages.{Definition, Accepted}
+use Rattle.ss_top.specs.Stages.{DefinitionOrRefusal, Accepted}
 use Rattle.ss_top.specs.Promises.{folder_of}
 use Rattle.ss_top.specs.Commands.{Apply}
-use Rattle.ss_top.specs.Course.{Finished, Did, by_lines, number, is_done_status}
+use Rattle.ss_top.specs.Course.{Finished, Did, by_lines, verdict_status, is_done_status}
 use Rattle.ss_top.specs.Runs.{course_of}
 use Rattle.ss_top.specs.Applies.{IsApplied, apply_opening, named_by}
 use Rattle.ss_top.proofs.ShownLemmas.{done_finished}
@@ -40,7 +40,7 @@ state_is u view_db shape before named lines a b c d e =
     ∙ ap (λ (x : List Text). record { view_db = view_db; shape = shape; before = before; tables = u.tables; named = x; lines = u.lines }) d
     ∙ ap (λ (x : ℕ). record { view_db = view_db; shape = shape; before = before; tables = u.tables; named = named; lines = x }) e
 
-number_done : (v : Verdict) → number v ≡ status.Done → v ≡ verdict.Done
+number_done : (v : Verdict) → verdict_status v ≡ status.Done → v ≡ verdict.Done
 number_done verdict.Done e = refl
 number_done verdict.SomeRefused e = absurd (cc)
 number_done verdict.Usage e = absurd (cc)
@@ -49,7 +49,7 @@ number_done verdict.BadCatalogue e = absurd (cc)
 number_done verdict.NoView e = absurd (cc)
 
 module _ (t : Tree) (lines : List (List ℕ)) (old new : World) (s : Status) (told : old.store.tree ≡ Some t) (done : s ≡ status.Done) where
-  script_applied : (a : Accepted) (d : Definition) → d ≡ Ok a → (before : TablesValue) → held (shape_of a.query) t (folder_of a) ≡ Ok before
+  script_applied : (a : Accepted) (d : DefinitionOrRefusal) → d ≡ Ok a → (before : TablesValue) → held (shape_of a.query) t (folder_of a) ≡ Ok before
       → (u : ApplyState) → AllTook (just_read a.query.view_db (shape_of a.query) before) lines u → contents new ≡ performed (finish u).effects (contents old) → IsApplied d t lines old new
   script_applied a d defined before holds u took h =
       let applies = took.applies in
@@ -73,17 +73,17 @@ module _ (t : Tree) (lines : List (List ℕ)) (old new : World) (s : Status) (to
         printed = left.printed;
       }
 
-  by_held : (a : Accepted) (d : Definition) → d ≡ Ok a → (r : Result TablesValue TablesFault) → held (shape_of a.query) t (folder_of a) ≡ r → Finished ((by_lines step finish (by_folder a.query.view_db (shape_of a.query) r)).whole lines) old new s → IsApplied d t lines old new
+  by_held : (a : Accepted) (d : DefinitionOrRefusal) → d ≡ Ok a → (r : Result TablesValue TablesFault) → held (shape_of a.query) t (folder_of a) ≡ r → Finished ((by_lines step finish (by_folder a.query.view_db (shape_of a.query) r)).whole lines) old new s → IsApplied d t lines old new
   by_held a d defined (Err e) is f = absurd (cc (f.status))
   by_held a d defined (Ok before) is f =
       let s0 = just_read a.query.view_db (shape_of a.query) before in
       let took = done_took s0 lines (number_done (course step finish s0 lines).status (sym f.status ∙ done)) in
       script_applied a d defined before is took.0 took.1 (f.done ∙ ap (λ (es : List Effect). performed es (contents old)) took.2)
 
-  finished_applied : (d : Definition) → Finished ((by_lines step finish (apply_opening t d)).whole lines) old new s → IsApplied d t lines old new
+  finished_applied : (d : DefinitionOrRefusal) → Finished ((by_lines step finish (apply_opening t d)).whole lines) old new s → IsApplied d t lines old new
   finished_applied (Err fields) f = absurd (cc (f.status))
   finished_applied (Ok a) f = by_held a (Ok a) refl (held (shape_of a.query) t (folder_of a)) refl f
 
 -- the run of `apply` by its course
-pub did_apply : (name : Text) (t : Tree) (bytes : List ℕ) (d : Definition) (rest : Option (List ℕ)) (old new : World) (s : Status) → old.store.tree ≡ Some t → s ≡ status.Done → Did (course_of (Apply name) t d) bytes rest old new s → IsApplied d t (lines_of bytes) old new
+pub did_apply : (name : Text) (t : Tree) (bytes : List ℕ) (d : DefinitionOrRefusal) (rest : Option (List ℕ)) (old new : World) (s : Status) → old.store.tree ≡ Some t → s ≡ status.Done → Did (course_of (Apply name) t d) bytes rest old new s → IsApplied d t (lines_of bytes) old new
 did_apply name t bytes d rest old new s told done h = finished_applied t (lines_of bytes) old new s told done d (done_finished (course_of (Apply name) t d) bytes rest old new s (ap is_done_status done) h)

@@ -13,10 +13,10 @@ use Rattle.view_folder.specs.declared.comparison.Comparison.TheVariants as compa
 use Rattle.view_folder.proofs.ComparisonLemmas.{same_holds}
 use Rattle.ss_top.specs.declared.status.Status.{Status}
 use Rattle.ss_top.specs.declared.status.Status.TheVariants as status
-use Rattle.ss_top.specs.Stages.{Definition, Accepted, loaded_or_refused, refusal_of, files_of_view}
+use Rattle.ss_top.specs.Stages.{DefinitionOrRefusal, Accepted, loaded_or_refused, refusal_of, files_of_view}
 use Rattle.ss_top.specs.Checking.{checked}
 use Rattle.ss_top.specs.Verifying.{by_comparison, verified_view, verified_over, verified}
-use Rattle.run_lines.specs.Told.{same_line}
+use Rattle.run_lines.specs.Printing.{same_line}
 use Rattle.ss_top.specs.Course.{Finished, Did, is_done_status}
 use Rattle.ss_top.specs.Commands.{Check, Verify}
 use Rattle.ss_top.specs.Runs.{course_of}
@@ -24,13 +24,13 @@ use Rattle.ss_top.specs.Promises.{IsChecked, IsVerified}
 use Rattle.ss_top.proofs.ShownLemmas.{done_finished}
 
 module _ (old new : World) (s : Status) (done : s ≡ status.Done) where
-  finished_checked : (d : Definition) → Finished (checked d) old new s → IsChecked d old new
+  finished_checked : (d : DefinitionOrRefusal) → Finished (checked d) old new s → IsChecked d old new
   unfolding contents
   finished_checked (Err fields) f = absurd (cc (f.status))
   finished_checked (Ok a) f = record { accepted = a; defined = refl; printed = ap (λ (x : Contents). x.held) f.done }
 
   -- the folder is the same
-  compared_same : (d : Definition) (t : Tree) (a : Accepted) (c : CatalogueValue) → d ≡ Ok a → loaded_or_refused t ≡ Ok c → refusal_of c a.query ≡ None
+  compared_same : (d : DefinitionOrRefusal) (t : Tree) (a : Accepted) (c : CatalogueValue) → d ≡ Ok a → loaded_or_refused t ≡ Ok c → refusal_of c a.query ≡ None
       → (r : Comparison) → comparison (view_folder a.query.view_db) (files_of_view c a.query) t ≡ r → Finished (by_comparison r) old new s → IsVerified d t old new
   unfolding contents
   compared_same d t a c defined loaded judged (compared.Differs file held meant) is f = absurd (cc (f.status))
@@ -42,20 +42,20 @@ module _ (old new : World) (s : Status) (done : s ≡ status.Done) where
         printed = ap (λ (x : Contents). x.held) f.done ∙ ap (λ m. with_bytes (same_line m) old.output.held) holds.1;
       }
 
-  by_view : (d : Definition) (t : Tree) (a : Accepted) (c : CatalogueValue) → d ≡ Ok a → loaded_or_refused t ≡ Ok c → (o : Option Row) → refusal_of c a.query ≡ o → Finished (verified_view t a.query c o) old new s → IsVerified d t old new
+  by_view : (d : DefinitionOrRefusal) (t : Tree) (a : Accepted) (c : CatalogueValue) → d ≡ Ok a → loaded_or_refused t ≡ Ok c → (o : Option Row) → refusal_of c a.query ≡ o → Finished (verified_view t a.query c o) old new s → IsVerified d t old new
   by_view d t a c defined loaded (Some fields) judged f = absurd (cc (f.status))
   by_view d t a c defined loaded None judged f = compared_same d t a c defined loaded judged (comparison (view_folder a.query.view_db) (files_of_view c a.query) t) refl f
 
-  by_catalogue : (d : Definition) (t : Tree) (a : Accepted) → d ≡ Ok a → (r : Result CatalogueValue Row) → loaded_or_refused t ≡ r → Finished (verified_over t a.query r) old new s → IsVerified d t old new
+  by_catalogue : (d : DefinitionOrRefusal) (t : Tree) (a : Accepted) → d ≡ Ok a → (r : Result CatalogueValue Row) → loaded_or_refused t ≡ r → Finished (verified_over t a.query r) old new s → IsVerified d t old new
   by_catalogue d t a defined (Err fields) loaded f = absurd (cc (f.status))
   by_catalogue d t a defined (Ok c) loaded f = by_view d t a c defined loaded (refusal_of c a.query) refl f
 
-  finished_verified : (d : Definition) (t : Tree) → Finished (verified t d) old new s → IsVerified d t old new
+  finished_verified : (d : DefinitionOrRefusal) (t : Tree) → Finished (verified t d) old new s → IsVerified d t old new
   finished_verified (Err fields) t f = absurd (cc (f.status))
   finished_verified (Ok a) t f = by_catalogue (Ok a) t a refl (loaded_or_refused t) refl f
 
-pub did_check : (name : Text) (t : Tree) (d : Definition) (rest : Option (List ℕ)) (old new : World) (s : Status) → s ≡ status.Done → Did (course_of (Check name) t d) [] rest old new s → IsChecked d old new
+pub did_check : (name : Text) (t : Tree) (d : DefinitionOrRefusal) (rest : Option (List ℕ)) (old new : World) (s : Status) → s ≡ status.Done → Did (course_of (Check name) t d) [] rest old new s → IsChecked d old new
 did_check name t d rest old new s done h = finished_checked old new s done d (done_finished (course_of (Check name) t d) [] rest old new s (ap is_done_status done) h)
 
-pub did_verify : (name : Text) (t : Tree) (d : Definition) (rest : Option (List ℕ)) (old new : World) (s : Status) → s ≡ status.Done → Did (course_of (Verify name) t d) [] rest old new s → IsVerified d t old new
+pub did_verify : (name : Text) (t : Tree) (d : DefinitionOrRefusal) (rest : Option (List ℕ)) (old new : World) (s : Status) → s ≡ status.Done → Did (course_of (Verify name) t d) [] rest old new s → IsVerified d t old new
 did_verify name t d rest old new s done h = finished_verified old new s done d t (done_finished (course_of (Verify name) t d) [] rest old new s (ap is_done_status done) h)

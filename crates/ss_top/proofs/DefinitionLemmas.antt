@@ -17,35 +17,35 @@ use Rattle.ss_print.specs.Fields.{parse_fields, type_fields}
 use Rattle.ss_top.specs.Opening.{IsDefinition, definition_bytes}
 use Rattle.ss_top.specs.Commands.{Asked, Check, Show, Maintain, Verify, Apply, Load, Other}
 use Rattle.ss_top.specs.Runs.{IsDefined}
-use Rattle.ss_top.specs.Stages.{Definition, IsRead, typed_or_refused}
+use Rattle.ss_top.specs.Stages.{DefinitionOrRefusal, ReadsAs, typed_or_refused}
 
-pub has_type : (v : tree.Tree) (q : Query) → typed v ≡ Ok q → (let d : Definition = Ok (record { written = v; query = q }) in d ≡ typed_or_refused v)
+pub has_type : (v : tree.ViewTree) (q : Query) → typed v ≡ Ok q → (let d : DefinitionOrRefusal = Ok (record { written = v; query = q }) in d ≡ typed_or_refused v)
 unfolding typed_or_refused
 has_type v q e = rw e refl
 
-pub has_no_type : (v : tree.Tree) (f : TypeFault) → typed v ≡ Err f → (let d : Definition = Err (type_fields f) in d ≡ typed_or_refused v)
+pub has_no_type : (v : tree.ViewTree) (f : TypeFault) → typed v ≡ Err f → (let d : DefinitionOrRefusal = Err (type_fields f) in d ≡ typed_or_refused v)
 unfolding typed_or_refused
 has_no_type v f e = rw e refl
 
 -- bytes that are a view text are read as its tree is typed
-pub read_as : (bytes : List ℕ) (v : tree.Tree) (r d : Definition) → grammar.IsRead bytes v → ((t : tree.Tree) → grammar.IsRead bytes t → v ≡ t) → r ≡ typed_or_refused v → IsRead bytes d → r ≡ d
-unfolding IsRead
+pub read_as : (bytes : List ℕ) (v : tree.ViewTree) (r d : DefinitionOrRefusal) → grammar.IsRead bytes v → ((t : tree.ViewTree) → grammar.IsRead bytes t → v ≡ t) → r ≡ typed_or_refused v → ReadsAs bytes d → r ≡ d
+unfolding ReadsAs
 read_as bytes v r d read one is (inl (t, also, e)) = is ∙ ap typed_or_refused (one t also) ∙ sym e
 read_as bytes v r d read one is (inr (f, some, refused, e)) = absurd (read_not_refused bytes v f some read refused)
 
 -- bytes that are none are read as their refusal
-pub refused_as : (bytes : List ℕ) (f : ParseFault) (d : Definition) → f ≢ parse.NoMemory → grammar.IsRefused bytes f → ((t : tree.Tree) → grammar.IsRead bytes t → f ≡ parse.NoMemory) → IsRead bytes d → Err (parse_fields f) ≡ d
-unfolding IsRead
+pub refused_as : (bytes : List ℕ) (f : ParseFault) (d : DefinitionOrRefusal) → f ≢ parse.NoMemory → grammar.IsRefused bytes f → ((t : tree.ViewTree) → grammar.IsRead bytes t → f ≡ parse.NoMemory) → ReadsAs bytes d → Err (parse_fields f) ≡ d
+unfolding ReadsAs
 refused_as bytes f d some refused none (inl (t, read, e)) = absurd (some (none t read))
 refused_as bytes f d some refused none (inr (g, also, h, e)) = ap (λ x. Err (parse_fields x)) (one_refusal bytes f g some also refused h) ∙ sym e
 
 -- every text is read as something, so that each name has its definition over each tree
-reading : (bytes : List ℕ) → HasReading bytes → (d : Definition) × IsRead bytes d
-unfolding IsRead
+reading : (bytes : List ℕ) → HasReading bytes → (d : DefinitionOrRefusal) × ReadsAs bytes d
+unfolding ReadsAs
 reading bytes (inl (v, read)) = (typed_or_refused v, inl (v, read, refl))
 reading bytes (inr (f, some, refused)) = (Err (parse_fields f), inr (f, some, refused, refl))
 
-pub some_definition : (name : Text) (o : Option (List ℕ)) → (d : Definition) × IsDefinition name o d
+pub some_definition : (name : Text) (o : Option (List ℕ)) → (d : DefinitionOrRefusal) × IsDefinition name o d
 some_definition name None = (Err (codes "no-definition" ∷ name ∷ []), refl)
 some_definition name (Some bytes) = reading bytes (every_text bytes)
 

@@ -7,8 +7,8 @@ use Rattle.tab_lines.specs.Lines.{lines_of}
 use Rattle.course.specs.declared.status.Verdict.{Verdict}
 use Rattle.course.specs.declared.status.Halt.{Halt}
 use Rattle.course.specs.declared.status.Halt.TheVariants as halt
-use Rattle.course.specs.Machine.{Reply, Goes, Ending, course, Ran, CutOff, EndedOver}
-use Rattle.course.specs.Machine as lines
+use Rattle.course.specs.Answering.{Reply, Continues, Ending, course, Ran, CutOff, EndedOver}
+use Rattle.course.specs.Answering as lines
 use Rattle.ss_top.specs.Course.{GaveOut, RanBy, Took, by_lines, first}
 
 -- an ending behind an opening
@@ -18,7 +18,7 @@ ended_later es e old mid new (Err x) h ran = partly_later es e.effects (contents
 
 module _ {A : Type 0} (step : A → List ℕ → Reply A) (finish : A → Ending) where
   -- the input gave out behind an opening
-  abbrev gave_out : (es : List Effect) (o : A) (bytes : List ℕ) (rest : Option (List ℕ)) (old mid new : World) → contents mid ≡ performed es (contents old) → CutOff step o bytes rest mid new → GaveOut (by_lines step finish (Goes es o)) bytes rest old new
+  abbrev gave_out : (es : List Effect) (o : A) (bytes : List ℕ) (rest : Option (List ℕ)) (old mid new : World) → contents mid ≡ performed es (contents old) → CutOff step o bytes rest mid new → GaveOut (by_lines step finish (Continues es o)) bytes rest old new
   gave_out es o bytes rest old mid new h cut = record {
     taken = cut.taken;
     left = cut.left;
@@ -29,7 +29,7 @@ module _ {A : Type 0} (step : A → List ℕ → Reply A) (finish : A → Ending
     done = cut.done ∙ ap (performed cut.effects) h ∙ sym (performed_append es cut.effects (contents old));
   }
 
-  pub went_on : (es : List Effect) (o : A) (bytes : List ℕ) (rest : Option (List ℕ)) (old mid new : World) (r : Result Verdict Halt) → contents mid ≡ performed es (contents old) → Ran step finish o bytes rest mid new r → RanBy (by_lines step finish (Goes es o)) bytes rest old new r
+  pub went_on : (es : List Effect) (o : A) (bytes : List ℕ) (rest : Option (List ℕ)) (old mid new : World) (r : Result Verdict Halt) → contents mid ≡ performed es (contents old) → Ran step finish o bytes rest mid new r → RanBy (by_lines step finish (Continues es o)) bytes rest old new r
   went_on es o bytes rest old mid new (Ok v) h ran =
       let e = course step finish o (lines_of bytes) in
       (ran.0 ∙ ap (performed e.effects) h ∙ sym (performed_append es e.effects (contents old)), ran.1)
@@ -38,7 +38,7 @@ module _ {A : Type 0} (step : A → List ℕ → Reply A) (finish : A → Ending
   went_on es o bytes rest old mid new (Err (halt.Stopped e)) h ran = partly_later es (course step finish o (lines_of bytes)).effects (contents old) (contents mid) (contents new) h ran
 
   -- what was taken of the input
-  pub took_behind : (es : List Effect) (o : A) (bytes : List ℕ) (rest : Option (List ℕ)) (old mid new : World) → contents mid ≡ performed es (contents old) → lines.TookLittle step finish o bytes rest mid new → Took (by_lines step finish (Goes es o)) bytes rest old new
+  pub took_behind : (es : List Effect) (o : A) (bytes : List ℕ) (rest : Option (List ℕ)) (old mid new : World) → contents mid ≡ performed es (contents old) → lines.TookLittle step finish o bytes rest mid new → Took (by_lines step finish (Continues es o)) bytes rest old new
   took_behind es o bytes rest old mid new h took = inr (record {
     answered = took.answered;
     line = took.line;

@@ -13,7 +13,7 @@ use Rattle.course.specs.declared.status.Verdict.TheVariants as verdict
 use Rattle.course.specs.declared.status.Halt.{Halt}
 use Rattle.course.specs.declared.status.Halt.TheVariants as halt
 use Rattle.ss_top.specs.Commands.{can_show}
-use Rattle.ss_top.specs.Course.{number, is_refused_status}
+use Rattle.ss_top.specs.Course.{verdict_status, is_refused_status}
 use Rattle.ss_top.specs.Steps.{Idle, IdleStop, IdleRun}
 
 -- a call on the sink does not fail in reading
@@ -57,7 +57,7 @@ unfolding contents
 idle_contents w v h = rw (h.store.tree, h.store.writes, h.output) refl
 
 -- the verdicts of `show` and `verify`
-pub refused_can_show : (v : Verdict) → is_refused_status (number v) ≡ true → can_show (number v) ≡ true
+pub refused_can_show : (v : Verdict) → is_refused_status (verdict_status v) ≡ true → can_show (verdict_status v) ≡ true
 refused_can_show verdict.Done h = refl
 refused_can_show verdict.SomeRefused h = absurd (cc)
 refused_can_show verdict.Usage h = absurd (cc)

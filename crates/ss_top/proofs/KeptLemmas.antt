@@ -44,10 +44,10 @@ use Rattle.kept_sources.specs.Synced.{Synced, unsaved, synced, saving}
 use Rattle.kept_sources.proofs.AfterLemmas.{Silent, stored_by, stored_after, silent_after}
 use Rattle.kept_sources.proofs.LoadedLemmas.{sound_loaded}
 use Rattle.kept_sources.proofs.SavingLemmas.{SourcesKept, Pending, InView, kept_first, pending_first, pending_change, pending_committed, kept_synced, kept_beside, saved_silent, tree_saved}
-use Rattle.course.specs.Machine.{Goes, follow}
+use Rattle.course.specs.Answering.{Continues, follow}
 use Rattle.ss_top.specs.Open.{OpenValue, just_opened}
 use Rattle.ss_top.specs.Opening.{opening_effects}
-use Rattle.run_lines.specs.Told.{tells_synced}
+use Rattle.run_lines.specs.Printing.{prints_synced}
 use Rattle.ss_top.specs.Stages.{files_of_view}
 use Rattle.ss_top.specs.Answers.{Answer, answer, refusing, giving_up, beginning, keeping, aborting, scripting, changing, committing, syncing, view_effects, sync_effects, sync_count, sync_writes, writes_by, synced_by, last_synced, step, end_effects, end_view}
 use Rattle.ss_top.proofs.AnswerCases.{answer_case, answer_query, end_case}
@@ -301,7 +301,7 @@ module _ (t : Tree) (c0 : CatalogueValue) (first : loaded t ≡ Ok c0) (whole : 
   view_done : (held : Option (List ℕ)) → performed (view_effects o) (record { stored = Some saved_store; held = held }) ≡ record { stored = Some synced_store; held = with_bytes (printed_by (view_effects o)) held }
   view_done held =
       let files = later_sync d (shape_of q) (tables_of o.session) o.session.changed.labels in
-      let line = tells_synced (sync_count o) ∷ [] in
+      let line = prints_synced (sync_count o) ∷ [] in
       performed_append files line (record { stored = Some saved_store; held = held })
       ∙ ap (performed line) (later_synced d (shape_of q) tables_held (tables_of o.session) o.session.changed.labels saved_store held)
       ∙ printing synced_store _ held
@@ -378,7 +378,7 @@ opening_keeps s q c first whole =
     let d : Text = view_folder q.view_db in
     let fs : List File = files_of_view c q in
     let last : Stored = now d fs s (are_view_files c q) in
-    let line : List Effect = tells_synced (opening_count fs (files_of s.tree d)) ∷ [] in
+    let line : List Effect = prints_synced (opening_count fs (files_of s.tree d)) ∷ [] in
     let es : List Effect = opening_effects d fs (files_of s.tree d) in
     let done : (held : Option (List ℕ)) → performed es (record { stored = Some s; held = held }) ≡ record { stored = Some last; held = with_bytes (printed_by es) held }
     = λ held.
@@ -430,7 +430,7 @@ keeps_yet t c0 o y s k = record { writes = none_risen s.writes; stored = s; done
 pub record Followed (t : Tree) (c0 : CatalogueValue) (s : Stored) (lines : List (List ℕ)) (es : List Effect) (o : OpenValue) (y : Synced) (n : ℕ) : Type 0 where
   pub effects : List Effect
   pub last : OpenValue
-  pub answered : follow step lines (Goes es o) ≡ Goes effects last
+  pub answered : follow step lines (Continues es o) ≡ Continues effects last
   pub query : last.session.query ≡ o.session.query
   pub keeps : Keeps t c0 s effects last (last_synced o y lines) n
 

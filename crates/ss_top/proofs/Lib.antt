@@ -22,4 +22,7 @@ pub mod VerifyLemmas
 pub mod ViewLemmas
 pub mod AnswerLemmas
 pub mod RefusedLemmas
+pub mod BetweenLemmas
+pub mod SyncLemmas
+pub mod StopLemmas
 pub mod TopLemmas

@@ -7,37 +7,37 @@ use Rattle.effects.specs.declared.stop.Stop.{Stop}
 use Rattle.effects.specs.declared.stop.Stop.TheVariants as stop
 use Rattle.effects.proofs.EffectLemmas.{performed_append, partly_more, partly_later}
 use Rattle.tab_lines.specs.Lines.{lines_of}
-use Rattle.course.proofs.MachineLemmas.{steady_more}
+use Rattle.course.proofs.AnsweringLemmas.{steady_more}
 use Rattle.course.specs.declared.status.Verdict.{Verdict}
 use Rattle.course.specs.declared.status.Verdict.TheVariants as verdict
 use Rattle.course.specs.declared.status.Halt.{Halt}
 use Rattle.course.specs.declared.status.Halt.TheVariants as halt
-use Rattle.course.specs.Machine.{Reply, Goes, Halts, Ending, ending, follow, course, Ran, CutOff, AnsweredSome, EndedOver, IsReadOut, BlamesRun}
-use Rattle.course.specs.Machine as lines
+use Rattle.course.specs.Answering.{Reply, Continues, Finishes, Ending, ending, follow, course, Ran, CutOff, AnsweredSome, EndedOver, IsReadOut, BlamesRun}
+use Rattle.course.specs.Answering as lines
 use Rattle.ss_top.specs.declared.opening.Opened.TheVariants as opened_as
 use Rattle.ss_top.specs.Open.{OpenValue}
 use Rattle.ss_top.specs.Steps.{Opens, IsRefusal}
 use Rattle.ss_top.specs.Commands.{can_maintain}
-use Rattle.ss_top.specs.Course.{Course, GaveOut, RanBy, RanSome, Took, by_lines, first, number, status_of, is_refused_status, IsWholeInput}
+use Rattle.ss_top.specs.Course.{Course, GaveOut, RanBy, RanSome, Took, by_lines, first, verdict_status, status_of, is_refused_status, IsWholeInput}
 use Rattle.ss_top.specs.Answers.{step, finish, answer, end_view}
 use Rattle.ss_top.proofs.DriveLemmas.{went_on, ended_later, took_behind}
 
 -- an opening that ended the run, and one that stopped
 pub opening_ended : (r : Reply OpenValue) (bytes : List ℕ) (rest : Option (List ℕ)) (old new : World) (v : Verdict) → Opens r old new (Ok (opened_as.Ended v)) → RanBy (by_lines step finish r) bytes rest old new (Ok v)
-opening_ended (Halts es w) bytes rest old new v h = h
-opening_ended (Goes es o) bytes rest old new v h = absurd h
+opening_ended (Finishes es w) bytes rest old new v h = h
+opening_ended (Continues es o) bytes rest old new v h = absurd h
 
 pub opening_stopped : (r : Reply OpenValue) (bytes : List ℕ) (rest : Option (List ℕ)) (old new : World) (e : Stop) → Opens r old new (Err e) → RanBy (by_lines step finish r) bytes rest old new (Err (halt.Stopped e))
-opening_stopped (Halts es w) bytes rest old new e h = h
-opening_stopped (Goes es o) bytes rest old new e h = partly_more es (course step finish o (lines_of bytes)).effects (contents old) (contents new) h
+opening_stopped (Finishes es w) bytes rest old new e h = h
+opening_stopped (Continues es o) bytes rest old new e h = partly_more es (course step finish o (lines_of bytes)).effects (contents old) (contents new) h
 
 -- an opened view answered the lines
 pub opening_drove : (r : Reply OpenValue) (o : OpenValue) (bytes : List ℕ) (rest : Option (List ℕ)) (old mid new : World) (s : Result Verdict Halt) → Opens r old mid (Ok (opened_as.Open o)) → Ran step finish o bytes rest mid new s → RanBy (by_lines step finish r) bytes rest old new s
-opening_drove (Halts es w) o bytes rest old mid new s h ran = absurd h
-opening_drove (Goes es p) o bytes rest old mid new s h ran = went_on step finish es p bytes rest old mid new s h.0 (subst (λ (x : OpenValue). Ran step finish x bytes rest mid new s) h.1 ran)
+opening_drove (Finishes es w) o bytes rest old mid new s h ran = absurd h
+opening_drove (Continues es p) o bytes rest old mid new s h ran = went_on step finish es p bytes rest old mid new s h.0 (subst (λ (x : OpenValue). Ran step finish x bytes rest mid new s) h.1 ran)
 
 -- no line ends the run, so that the whole input was read where all was done
-goes_always : (lines : List (List ℕ)) (es : List Effect) (o : OpenValue) → (fs : List Effect) × (p : OpenValue) × (follow step lines (Goes es o) ≡ Goes fs p)
+goes_always : (lines : List (List ℕ)) (es : List Effect) (o : OpenValue) → (fs : List Effect) × (p : OpenValue) × (follow step lines (Continues es o) ≡ Continues fs p)
 goes_always [] es o = (es, o, refl)
 goes_always (line ∷ lines) es o = goes_always lines (es ++ (answer o line).effects) (answer o line).view
 
@@ -55,27 +55,27 @@ ended_whole bytes rest verdict.NoView h done = absurd (cc)
 
 -- what was done, whatever the input tells
 pub some_ended : (r : Reply OpenValue) (old new : World) (v : Verdict) → Opens r old new (Ok (opened_as.Ended v)) → RanSome (by_lines step finish r) old new (Ok v)
-some_ended (Halts es w) old new v h = record { lines = []; ran = h }
-some_ended (Goes es o) old new v h = absurd h
+some_ended (Finishes es w) old new v h = record { lines = []; ran = h }
+some_ended (Continues es o) old new v h = absurd h
 
 pub some_stopped : (r : Reply OpenValue) (old new : World) (e : Stop) → Opens r old new (Err e) → RanSome (by_lines step finish r) old new (Err (halt.Stopped e))
-some_stopped (Halts es w) old new e h = record { lines = []; ran = h }
-some_stopped (Goes es o) old new e h = record { lines = []; ran = partly_more es (course step finish o []).effects (contents old) (contents new) h }
+some_stopped (Finishes es w) old new e h = record { lines = []; ran = h }
+some_stopped (Continues es o) old new e h = record { lines = []; ran = partly_more es (course step finish o []).effects (contents old) (contents new) h }
 
 pub some_drove : (r : Reply OpenValue) (o : OpenValue) (old mid new : World) (s : Result Verdict Halt) → Opens r old mid (Ok (opened_as.Open o)) → AnsweredSome step finish o mid new s → RanSome (by_lines step finish r) old new s
-some_drove (Halts es w) o old mid new s h ran = absurd h
-some_drove (Goes es p) o old mid new s h ran = record { lines = ran.lines; ran = ended_later es (course step finish p ran.lines) old mid new s h.0 (subst (λ (x : OpenValue). EndedOver (course step finish x ran.lines) mid new s) h.1 ran.ran) }
+some_drove (Finishes es w) o old mid new s h ran = absurd h
+some_drove (Continues es p) o old mid new s h ran = record { lines = ran.lines; ran = ended_later es (course step finish p ran.lines) old mid new s h.0 (subst (λ (x : OpenValue). EndedOver (course step finish x ran.lines) mid new s) h.1 ran.ran) }
 
 -- what was taken of the input
 pub took_nothing : (c : Course) (bytes : List ℕ) (rest : Option (List ℕ)) (old new : World) → rest ≡ Some bytes → Took c bytes rest old new
 took_nothing c bytes rest old new told = inl told
 
 took_drove : (r : Reply OpenValue) (o : OpenValue) (bytes : List ℕ) (rest : Option (List ℕ)) (old mid new : World) → Opens r old mid (Ok (opened_as.Open o)) → lines.TookLittle step finish o bytes rest mid new → Took (by_lines step finish r) bytes rest old new
-took_drove (Halts es w) o bytes rest old mid new h took = absurd h
-took_drove (Goes es p) o bytes rest old mid new h took = took_behind step finish es p bytes rest old mid new h.0 (subst (λ (x : OpenValue). lines.TookLittle step finish x bytes rest mid new) h.1 took)
+took_drove (Finishes es w) o bytes rest old mid new h took = absurd h
+took_drove (Continues es p) o bytes rest old mid new h took = took_behind step finish es p bytes rest old mid new h.0 (subst (λ (x : OpenValue). lines.TookLittle step finish x bytes rest mid new) h.1 took)
 
 -- the statuses of `maintain`
-pub refused_can : (v : Verdict) → is_refused_status (number v) ≡ true → can_maintain (number v) ≡ true
+pub refused_can : (v : Verdict) → is_refused_status (verdict_status v) ≡ true → can_maintain (verdict_status v) ≡ true
 refused_can verdict.Done h = refl
 refused_can verdict.SomeRefused h = refl
 refused_can verdict.Usage h = absurd (cc)
@@ -88,14 +88,14 @@ stopped_can stop.ReadFault = refl
 stopped_can stop.WriteFault = refl
 stopped_can stop.NoMemory = refl
 
-done_can : (b : Bool) → can_maintain (number (if b then verdict.SomeRefused else verdict.Done)) ≡ true
+done_can : (b : Bool) → can_maintain (verdict_status (if b then verdict.SomeRefused else verdict.Done)) ≡ true
 done_can true = refl
 done_can false = refl
 
 pub drove_can : (o : OpenValue) (w v : World) (r : Result Verdict Halt) → AnsweredSome step finish o w v r → can_maintain (status_of r) ≡ true
 drove_can o w v (Ok s) h =
     let all = goes_always h.lines [] o in
-    ap (λ (x : Verdict). can_maintain (number x)) (h.ran.1 ∙ ap (λ (r : Reply OpenValue). (ending finish r).status) all.2) ∙ done_can (end_view all.1).refused
+    ap (λ (x : Verdict). can_maintain (verdict_status x)) (h.ran.1 ∙ ap (λ (r : Reply OpenValue). (ending finish r).status) all.2) ∙ done_can (end_view all.1).refused
 drove_can o w v (Err halt.InputFault) h = refl
 drove_can o w v (Err halt.TooLong) h = refl
 drove_can o w v (Err (halt.Stopped e)) h = stopped_can e

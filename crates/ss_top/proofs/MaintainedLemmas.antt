@@ -22,15 +22,15 @@ use Rattle.view_folder.specs.TableFiles.{table_files}
 use Rattle.view_folder.specs.Sync.{Holds}
 use Rattle.view_folder.specs.declared.file.File.{File}
 use Rattle.course.specs.declared.status.Verdict.TheVariants as verdict
-use Rattle.course.specs.Machine.{Reply, Goes, Halts, Ending, ending, follow, course}
+use Rattle.course.specs.Answering.{Reply, Continues, Finishes, Ending, ending, follow, course}
 use Rattle.ss_top.specs.declared.status.Status.{Status}
 use Rattle.ss_top.specs.declared.status.Status.TheVariants as status
 use Rattle.ss_top.specs.Open.{OpenValue, just_opened}
 use Rattle.ss_top.specs.Places.{Exempt, CsvFiles, OthersStay, sources_of}
-use Rattle.ss_top.specs.Stages.{Definition, Accepted, by_loading, loaded_or_refused, refusal_of, files_of_view}
+use Rattle.ss_top.specs.Stages.{DefinitionOrRefusal, Accepted, by_loading, loaded_or_refused, refusal_of, files_of_view}
 use Rattle.ss_top.specs.Opening.{IsDefinition, definition_bytes, opening, with_catalogue, with_view}
 use Rattle.ss_top.specs.Answers.{step, finish, writes_by, sync_writes, sync_effects, last_synced, end_effects, end_view}
-use Rattle.ss_top.specs.Course.{Finished, Did, GaveOut, GaveOutStatus, by_lines, first as first_course, goes_so_far, number, is_done_status}
+use Rattle.ss_top.specs.Course.{Finished, Did, GaveOut, GaveOutStatus, by_lines, first as first_course, goes_so_far, verdict_status, is_done_status}
 use Rattle.ss_top.specs.Commands.{Maintain}
 use Rattle.ss_top.specs.Runs.{course_of}
 use Rattle.ss_top.specs.Promises.{IsMaintained, IsCutOff, EachTakes, folder_of, printed_by, opening_writes, opening_of, effects_so_far, writes_so_far}
@@ -47,7 +47,7 @@ from_none : (n : ℕ) → 0 + n ≡ n
 from_none n = omega arith
 
 -- what was loaded
-loaded_is : (t : Tree) (c : CatalogueValue) → loaded_or_refused t ≡ Ok c → loaded t ≡ Ok c
+pub loaded_is : (t : Tree) (c : CatalogueValue) → loaded_or_refused t ≡ Ok c → loaded t ≡ Ok c
 unfolding loaded_or_refused
 loaded_is t c h = by_result (loaded t) refl h
   where
@@ -168,14 +168,14 @@ module _ (old new : World) (t : Tree) (told : old.store.tree ≡ Some t) (whole 
 
     answers_within : AllWithin Others answers.effects
     answers_within =
-        lines_within q z lines [] o y (λ r. r ≡ Goes answers.effects last → AllWithin Others answers.effects) refl grows tt
+        lines_within q z lines [] o y (λ r. r ≡ Continues answers.effects last → AllWithin Others answers.effects) refl grows tt
         (λ fs v is after h e. subst (AllWithin Others) (effects_are fs answers.effects v last e) h) answers.answered
       where
         effects_of : Reply OpenValue → List Effect
-        effects_of (Goes fs v) = fs
-        effects_of (Halts fs v) = fs
+        effects_of (Continues fs v) = fs
+        effects_of (Finishes fs v) = fs
 
-        effects_are : (fs gs : List Effect) (v w : OpenValue) → ◌≡◌ {A = Reply OpenValue} (Goes fs v) (Goes gs w) → fs ≡ gs
+        effects_are : (fs gs : List Effect) (v w : OpenValue) → ◌≡◌ {A = Reply OpenValue} (Continues fs v) (Continues gs w) → fs ≡ gs
         effects_are fs gs v w e = ap effects_of e
 
     so_far_within : AllWithin Others so_far
@@ -193,7 +193,7 @@ module _ (old new : World) (t : Tree) (told : old.store.tree ≡ Some t) (whole 
       stays synced_end grows (so_far ++ at_end) at_last
       (both_within (CsvFiles (folder_of a) ∷ sources_of synced_end) so_far at_end (so_far_within synced_end grows) (end_within q synced_end last synced_at answers.query (grows_itself synced_end))) did left
 
-  maintained : (d : Definition) → d ≡ Ok a → refusal_of c q ≡ None → Finished (first_course es (course step finish o lines)) old new s → IsMaintained d t lines old new s
+  maintained : (d : DefinitionOrRefusal) → d ≡ Ok a → refusal_of c q ≡ None → Finished (first_course es (course step finish o lines)) old new s → IsMaintained d t lines old new s
   unfolding contents
   maintained d defined judged f =
       let all : es ++ (course step finish o lines).effects ≡ so_far ++ at_end = ap (λ (e : Ending). es ++ e.effects) course_is ∙ sym (append_assoc es answers.effects (at_end)) in
@@ -215,12 +215,12 @@ module _ (old new : World) (t : Tree) (told : old.store.tree ≡ Some t) (whole 
         others = others_at_end did left;
         writes = stored.1 ∙ all_written;
         printed = ap (λ (x : Contents). x.held) is;
-        status = f.status ∙ ap (λ (e : Ending). number e.status) course_is;
+        status = f.status ∙ ap (λ (e : Ending). verdict_status e.status) course_is;
       }
 
   -- where the input gave out behind these lines
-  cut_off : (d : Definition) (bytes taken left : List ℕ) (rest : Option (List ℕ)) (effects : List Effect) → d ≡ Ok a → refusal_of c q ≡ None
-      → bytes ≡ taken ++ left → rest ≡ Some left → lines ≡ whole_lines taken → goes_so_far es (follow step lines (Goes [] o)) ≡ Some effects → contents new ≡ performed effects (contents old) → IsCutOff d t bytes rest old new
+  cut_off : (d : DefinitionOrRefusal) (bytes taken left : List ℕ) (rest : Option (List ℕ)) (effects : List Effect) → d ≡ Ok a → refusal_of c q ≡ None
+      → bytes ≡ taken ++ left → rest ≡ Some left → lines ≡ whole_lines taken → goes_so_far es (follow step lines (Continues [] o)) ≡ Some effects → contents new ≡ performed effects (contents old) → IsCutOff d t bytes rest old new
   unfolding contents
   cut_off d bytes taken left rest effects defined judged split remains are meant done =
       let same : effects ≡ so_far = some_same (sym meant ∙ ap (goes_so_far es) answers.answered) in
@@ -239,7 +239,7 @@ module _ (old new : World) (t : Tree) (told : old.store.tree ≡ Some t) (whole 
         last = last;
         tree = at_answers.tree;
         takes = subst (λ (ls : List (List ℕ)). EachTakes o ls) are (each_takes lines o p judged);
-        answered = subst (λ (ls : List (List ℕ)). follow step ls (Goes [] o) ≡ Goes answers.effects last) are answers.answered;
+        answered = subst (λ (ls : List (List ℕ)). follow step ls (Continues [] o) ≡ Continues answers.effects last) are answers.answered;
         told = stored.0;
         files = subst (λ (ls : List (List ℕ)). Holds (folder_of a) (files_of_view (last_synced o y ls).catalogue q) at_answers.tree) are files_synced;
         sources = subst (λ (ls : List (List ℕ)). SourcesHold (last_synced o y ls) t at_answers.tree) are sources_so_far;
@@ -251,7 +251,7 @@ module _ (old new : World) (t : Tree) (told : old.store.tree ≡ Some t) (whole 
       some_same : {A : Type 0} {x y : A} → Some x ≡ Some y → x ≡ y
       some_same e = cc e
 
-module _ (old new : World) (t : Tree) (told : old.store.tree ≡ Some t) (whole : IsWhole t) (bytes : List ℕ) (s : Status) (done : is_done_status s ≡ true) (d : Definition) (p : (a : Accepted) → d ≡ Ok a → IsViewOfProfile a.query) where
+module _ (old new : World) (t : Tree) (told : old.store.tree ≡ Some t) (whole : IsWhole t) (bytes : List ℕ) (s : Status) (done : is_done_status s ≡ true) (d : DefinitionOrRefusal) (p : (a : Accepted) → d ≡ Ok a → IsViewOfProfile a.query) where
   by_view : (a : Accepted) (c : CatalogueValue) (r : Option Row) → d ≡ Ok a → loaded_or_refused t ≡ Ok c → refusal_of c a.query ≡ r → Finished ((by_lines step finish (with_view t a.query c r)).whole (lines_of bytes)) old new s → IsMaintained d t (lines_of bytes) old new s
   by_view a c (Some fields) defined loaded judged f = absurd (cc (f.status))
   by_view a c None defined loaded judged f = maintained old new t told whole (lines_of bytes) s a (p a defined) c loaded d defined judged f
@@ -260,22 +260,22 @@ module _ (old new : World) (t : Tree) (told : old.store.tree ≡ Some t) (whole 
   by_catalogue a (Err fields) defined loaded f = absurd (cc (f.status))
   by_catalogue a (Ok c) defined loaded f = by_view a c (refusal_of c a.query) defined loaded refl f
 
-  by_definition : (x : Definition) → d ≡ x → Finished ((by_lines step finish (opening t x)).whole (lines_of bytes)) old new s → IsMaintained d t (lines_of bytes) old new s
+  by_definition : (x : DefinitionOrRefusal) → d ≡ x → Finished ((by_lines step finish (opening t x)).whole (lines_of bytes)) old new s → IsMaintained d t (lines_of bytes) old new s
   by_definition (Err fields) is f = absurd (cc (f.status))
   by_definition (Ok a) is f = by_catalogue a (loaded_or_refused t) is refl f
 
   finished_maintained : Finished ((by_lines step finish (opening t d)).whole (lines_of bytes)) old new s → IsMaintained d t (lines_of bytes) old new s
   finished_maintained f = by_definition d refl f
 
-profile_of : (name : Text) (t : Tree) (d : Definition) → IsDefinition name (definition_bytes t name) d → (a : Accepted) → d ≡ Ok a → IsViewOfProfile a.query
+profile_of : (name : Text) (t : Tree) (d : DefinitionOrRefusal) → IsDefinition name (definition_bytes t name) d → (a : Accepted) → d ≡ Ok a → IsViewOfProfile a.query
 profile_of name t d defined a is = definition_of_profile name (definition_bytes t name) a (subst (IsDefinition name (definition_bytes t name)) is defined)
 
 -- the run of `maintain` by its course
-pub did_maintain : (name : Text) (t : Tree) (bytes : List ℕ) (d : Definition) (rest : Option (List ℕ)) (old new : World) (s : Status) → IsDefinition name (definition_bytes t name) d → old.store.tree ≡ Some t → IsWhole t → is_done_status s ≡ true → Did (course_of (Maintain name) t d) bytes rest old new s → IsMaintained d t (lines_of bytes) old new s
+pub did_maintain : (name : Text) (t : Tree) (bytes : List ℕ) (d : DefinitionOrRefusal) (rest : Option (List ℕ)) (old new : World) (s : Status) → IsDefinition name (definition_bytes t name) d → old.store.tree ≡ Some t → IsWhole t → is_done_status s ≡ true → Did (course_of (Maintain name) t d) bytes rest old new s → IsMaintained d t (lines_of bytes) old new s
 did_maintain name t bytes d rest old new s defined told whole done h = finished_maintained old new t told whole bytes s done d (profile_of name t d defined) (done_finished (course_of (Maintain name) t d) bytes rest old new s done h)
 
 -- where its input gave out, by its course
-module _ (old new : World) (t : Tree) (told : old.store.tree ≡ Some t) (whole : IsWhole t) (bytes : List ℕ) (rest : Option (List ℕ)) (d : Definition) (p : (a : Accepted) → d ≡ Ok a → IsViewOfProfile a.query) where
+module _ (old new : World) (t : Tree) (told : old.store.tree ≡ Some t) (whole : IsWhole t) (bytes : List ℕ) (rest : Option (List ℕ)) (d : DefinitionOrRefusal) (p : (a : Accepted) → d ≡ Ok a → IsViewOfProfile a.query) where
   cut_view : (a : Accepted) (c : CatalogueValue) (r : Option Row) → d ≡ Ok a → loaded_or_refused t ≡ Ok c → refusal_of c a.query ≡ r → GaveOut (by_lines step finish (with_view t a.query c r)) bytes rest old new → IsCutOff d t bytes rest old new
   cut_view a c (Some fields) defined loaded judged g = absurd (cc (g.meant))
   cut_view a c None defined loaded judged g = cut_off old new t told whole (whole_lines g.taken) status.TooLong a (p a defined) c loaded d bytes g.taken g.left rest g.effects defined judged g.split g.remains refl g.meant g.done
@@ -284,7 +284,7 @@ module _ (old new : World) (t : Tree) (told : old.store.tree ≡ Some t) (whole 
   cut_catalogue a (Err fields) defined loaded g = absurd (cc (g.meant))
   cut_catalogue a (Ok c) defined loaded g = cut_view a c (refusal_of c a.query) defined loaded refl g
 
-  cut_definition : (x : Definition) → d ≡ x → GaveOut (by_lines step finish (opening t x)) bytes rest old new → IsCutOff d t bytes rest old new
+  cut_definition : (x : DefinitionOrRefusal) → d ≡ x → GaveOut (by_lines step finish (opening t x)) bytes rest old new → IsCutOff d t bytes rest old new
   cut_definition (Err fields) is g = absurd (cc (g.meant))
   cut_definition (Ok a) is g = cut_catalogue a (loaded_or_refused t) is refl g
 
@@ -303,5 +303,5 @@ module _ (old new : World) (t : Tree) (told : old.store.tree ≡ Some t) (whole 
   did_give_out name status.WriteFault gave h = absurd gave
   did_give_out name status.NoMemory gave h = absurd gave
 
-pub did_cut_off : (name : Text) (t : Tree) (bytes : List ℕ) (d : Definition) (rest : Option (List ℕ)) (old new : World) (s : Status) → IsDefinition name (definition_bytes t name) d → old.store.tree ≡ Some t → IsWhole t → GaveOutStatus old new s → Did (course_of (Maintain name) t d) bytes rest old new s → IsCutOff d t bytes rest old new
+pub did_cut_off : (name : Text) (t : Tree) (bytes : List ℕ) (d : DefinitionOrRefusal) (rest : Option (List ℕ)) (old new : World) (s : Status) → IsDefinition name (definition_bytes t name) d → old.store.tree ≡ Some t → IsWhole t → GaveOutStatus old new s → Did (course_of (Maintain name) t d) bytes rest old new s → IsCutOff d t bytes rest old new
 did_cut_off name t bytes d rest old new s defined told whole gave h = did_give_out old new t told whole bytes rest d (profile_of name t d defined) name s gave h

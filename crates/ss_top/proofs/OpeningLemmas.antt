@@ -4,7 +4,7 @@ use Rattle.std.specs.Prelude.{Err}
 use Rattle.effects.specs.Effects.{World, contents, Partly}
 use Rattle.effects.specs.declared.stop.Stop.{Stop}
 use Rattle.effects.proofs.EffectLemmas.{partly_more}
-use Rattle.course.specs.Machine.{Reply, Goes, Halts}
+use Rattle.course.specs.Answering.{Reply, Continues, Finishes}
 use Rattle.ss_top.specs.Open.{OpenValue}
 use Rattle.ss_top.specs.Steps.{Opens, Views}
 use Rattle.ss_top.specs.Opening.{opening_effects, with_view}
@@ -18,8 +18,8 @@ use Rattle.view_folder.specs.Files.{view_folder}
 
 -- nothing was done
 pub nothing_opened : (r : Reply OpenValue) (old new : World) (e : Stop) → Partly [] (contents old) (contents new) → Opens r old new (Err e)
-nothing_opened (Goes es a) old new e h = partly_more [] es (contents old) (contents new) h
-nothing_opened (Halts es v) old new e h = partly_more [] es (contents old) (contents new) h
+nothing_opened (Continues es a) old new e h = partly_more [] es (contents old) (contents new) h
+nothing_opened (Finishes es v) old new e h = partly_more [] es (contents old) (contents new) h
 
 -- the folder of a view was not filled
 pub filling_stopped : (t : Tree) (q : Query) (c : CatalogueValue) (o : Option Row) (v : OpenValue) (old new : World) (e : Stop) → Views (viewing.View v) q c o

@@ -54,12 +54,12 @@ at_first_stays exempt t w told = record {
   others = record { stay = λ p ne. refl; folders = λ d ne. refl };
 }
 
-removed_others : (folder file : Text) (t : Tree) (p : Place) → p ≢ (folder, file) → map.get (map.remove t.files (folder, file)) p ≡ map.get t.files p
+pub removed_others : (folder file : Text) (t : Tree) (p : Place) → p ≢ (folder, file) → map.get (map.remove t.files (folder, file)) p ≡ map.get t.files p
 removed_others folder file t p ne =
     map.get-remove place_total t.files (folder, file) p
     ∙ ap (λ b. cond b None (map.get t.files p)) (false_from_ne_true _ (λ e. ne (place_exact p (folder, file) (is_eq_true _ e))))
 
-removed_folder : (folder : Text) (t : Tree) (d : Text) → d ≢ folder → map.contains_key (map.remove t.folders folder) d ≡ has_folder t d
+pub removed_folder : (folder : Text) (t : Tree) (d : Text) → d ≢ folder → map.contains_key (map.remove t.folders folder) d ≡ has_folder t d
 removed_folder folder t d ne =
     ap is_some (map.get-remove nat_list_cmp_total t.folders folder d
     ∙ ap (λ b. cond b None (map.get t.folders d)) (sym (texts_ties d folder) ∙ false_from_ne_true _ (λ e. ne (text_order.same d folder (is_eq_true _ (sym (text_order.ties d folder) ∙ e))))))

@@ -21,21 +21,21 @@ use Rattle.view_apply.proofs.CourseLemmas.{halts_so}
 use Rattle.view_folder.proofs.ComparisonLemmas.{holds_same}
 use Rattle.course.specs.declared.status.Verdict.{Verdict}
 use Rattle.course.specs.declared.status.Verdict.TheVariants as verdict
-use Rattle.course.specs.Machine.{Reply, Goes, Halts, Ending, Ended, EndedOver, ending, follow}
+use Rattle.course.specs.Answering.{Reply, Continues, Finishes, Ending, Ended, EndedOver, ending, follow}
 use Rattle.course.specs.declared.status.Halt.{Halt}
 use Rattle.course.specs.declared.status.Halt.TheVariants as halt
 use Rattle.effects.specs.declared.stop.Stop.TheVariants as stop
 use Rattle.ss_top.specs.declared.status.Status.{Status}
 use Rattle.ss_top.specs.declared.status.Status.TheVariants as status
 use Rattle.ss_top.specs.Open.{OpenValue}
-use Rattle.ss_top.specs.Stages.{Definition, loaded_or_refused, refusal_of, files_of_view}
-use Rattle.run_lines.specs.Told.{refuses}
+use Rattle.ss_top.specs.Stages.{DefinitionOrRefusal, loaded_or_refused, refusal_of, files_of_view}
+use Rattle.run_lines.specs.Printing.{refuses}
 use Rattle.ss_top.specs.Opening.{opening, with_catalogue, with_view, done_at_once}
 use Rattle.ss_top.specs.Checking.{checked}
 use Rattle.ss_top.specs.Loads.{loaded}
 use Rattle.ss_top.specs.Verifying.{by_comparison, verified, verified_over, verified_view}
 use Rattle.ss_top.specs.Answers.{step, finish, answer, end_view}
-use Rattle.ss_top.specs.Course.{Course, Finished, Did, RanSome, by_lines, number, status_of, is_refused_status}
+use Rattle.ss_top.specs.Course.{Course, Finished, Did, RanSome, by_lines, verdict_status, status_of, is_refused_status}
 use Rattle.ss_top.specs.Applies.{apply_opening}
 use Rattle.ss_top.specs.Commands.{Asked, Check, Show, Maintain, Verify, Apply, Load, Other, uses_store}
 use Rattle.ss_top.specs.Runs.{course_of, Told}
@@ -56,12 +56,12 @@ refused_finished c bytes rest old new status.WriteFault r h = absurd (cc)
 refused_finished c bytes rest old new status.NoMemory r h = absurd (cc)
 refused_finished c bytes rest old new status.TooLong r h = absurd (cc)
 
-end_unrefused : (b : Bool) → is_refused_status (number (if b then verdict.SomeRefused else verdict.Done)) ≡ false
+end_unrefused : (b : Bool) → is_refused_status (verdict_status (if b then verdict.SomeRefused else verdict.Done)) ≡ false
 end_unrefused true = refl
 end_unrefused false = refl
 
 -- the end of the input refuses nothing, whatever the lines were
-lines_unrefused : (lines : List (List ℕ)) (es : List Effect) (o : OpenValue) → is_refused_status (number (ending finish (follow step lines (Goes es o))).status) ≡ false
+lines_unrefused : (lines : List (List ℕ)) (es : List Effect) (o : OpenValue) → is_refused_status (verdict_status (ending finish (follow step lines (Continues es o))).status) ≡ false
 lines_unrefused [] es o = end_unrefused (end_view o).refused
 lines_unrefused (line ∷ lines) es o = lines_unrefused lines (es ++ (answer o line).effects) (answer o line).view
 
@@ -72,10 +72,10 @@ module _ (t : Tree) (old new : World) (told : old.store.tree ≡ Some t) (s : St
       let stored = told_tree new.store.tree new.store.writes (record { tree = t; writes = old.store.writes }) (h ∙ ap (λ (o : Option Tree). stored_of o old.store.writes) told) in
       record { tree = stored.0 ∙ sym told; writes = stored.1 }
 
-  not_so : {A : Type 0} (v : Verdict) → s ≡ number v → is_refused_status (number v) ≡ false → A
+  not_so : {A : Type 0} (v : Verdict) → s ≡ verdict_status v → is_refused_status (verdict_status v) ≡ false → A
   not_so v e h = absurd (false≢true (sym h ∙ ap is_refused_status (sym e) ∙ refused))
 
-  check_unchanged : (d : Definition) → Finished (checked d) old new s → Unchanged old new
+  check_unchanged : (d : DefinitionOrRefusal) → Finished (checked d) old new s → Unchanged old new
   check_unchanged (Err fields) f = same_stored (ap (λ (x : Contents). x.stored) f.done)
   check_unchanged (Ok a) f = not_so verdict.Done f.status refl
 
@@ -91,28 +91,28 @@ module _ (t : Tree) (old new : World) (told : old.store.tree ≡ Some t) (s : St
   over_unchanged q (Err fields) f = same_stored (ap (λ (x : Contents). x.stored) f.done)
   over_unchanged q (Ok c) f = view_unchanged q c (refusal_of c q) f
 
-  verify_unchanged : (d : Definition) → Finished (verified t d) old new s → Unchanged old new
+  verify_unchanged : (d : DefinitionOrRefusal) → Finished (verified t d) old new s → Unchanged old new
   verify_unchanged (Err fields) f = same_stored (ap (λ (x : Contents). x.stored) f.done)
   verify_unchanged (Ok a) f = over_unchanged a.query (loaded_or_refused t) f
 
   -- a script that is refused was printed about, and nothing was written
   apply_unchanged_over : (lines : List (List ℕ)) (view_db : Text) (shape : Shape) (r : Result TablesValue TablesFault) → Finished ((by_lines applying.step applying.finish (by_folder view_db shape r)).whole lines) old new s → Unchanged old new
   apply_unchanged_over lines view_db shape (Err e) f = same_stored (ap (λ (x : Contents). x.stored) f.done)
-  apply_unchanged_over lines view_db shape (Ok ts) f = by_reply (follow applying.step lines (Goes [] (just_read view_db shape ts))) refl f
+  apply_unchanged_over lines view_db shape (Ok ts) f = by_reply (follow applying.step lines (Continues [] (just_read view_db shape ts))) refl f
     where
-      by_reply : (r : Reply ApplyState) → follow applying.step lines (Goes [] (just_read view_db shape ts)) ≡ r → Finished (ending applying.finish r) old new s → Unchanged old new
-      by_reply (Goes es u) e f = not_so verdict.Done f.status refl
-      by_reply (Halts es v) e f =
+      by_reply : (r : Reply ApplyState) → follow applying.step lines (Continues [] (just_read view_db shape ts)) ≡ r → Finished (ending applying.finish r) old new s → Unchanged old new
+      by_reply (Continues es u) e f = not_so verdict.Done f.status refl
+      by_reply (Finishes es v) e f =
           let halts = halts_so lines (just_read view_db shape ts) es v e in
           same_stored (ap (λ (x : Contents). x.stored) (f.done ∙ ap (λ (fs : List Effect). performed fs (contents old)) halts.1.1))
 
-  apply_unchanged : (lines : List (List ℕ)) (d : Definition) → Finished ((by_lines applying.step applying.finish (apply_opening t d)).whole lines) old new s → Unchanged old new
+  apply_unchanged : (lines : List (List ℕ)) (d : DefinitionOrRefusal) → Finished ((by_lines applying.step applying.finish (apply_opening t d)).whole lines) old new s → Unchanged old new
   apply_unchanged lines (Err fields) f = same_stored (ap (λ (x : Contents). x.stored) f.done)
   apply_unchanged lines (Ok a) f = apply_unchanged_over lines a.query.view_db (shape_of a.query) (held (shape_of a.query) t (folder_of a)) f
 
   -- what goes on behind an opening refuses nothing
-  module _ (behind : Reply OpenValue → Ending) (halts : (es : List Effect) (v : Verdict) → behind (Halts es v) ≡ record { effects = es; status = v })
-      (goes : (es : List Effect) (o : OpenValue) → is_refused_status (number (behind (Goes es o)).status) ≡ false) where
+  module _ (behind : Reply OpenValue → Ending) (halts : (es : List Effect) (v : Verdict) → behind (Finishes es v) ≡ record { effects = es; status = v })
+      (goes : (es : List Effect) (o : OpenValue) → is_refused_status (verdict_status (behind (Continues es o)).status) ≡ false) where
     halted : (fields : Row) (v : Verdict) (e : Ending) → e ≡ record { effects = refuses fields ∷ []; status = v } → Finished e old new s → Unchanged old new
     halted fields v e is f = same_stored (ap (λ (x : Contents). x.stored) (f.done ∙ ap (λ (x : Ending). performed x.effects (contents old)) is))
 
@@ -124,14 +124,14 @@ module _ (t : Tree) (old new : World) (told : old.store.tree ≡ Some t) (s : St
     opened_over q (Err fields) f = halted fields verdict.BadCatalogue _ (halts _ verdict.BadCatalogue) f
     opened_over q (Ok c) f = opened_view q c (refusal_of c q) f
 
-    opening_unchanged : (d : Definition) → Finished (behind (opening t d)) old new s → Unchanged old new
+    opening_unchanged : (d : DefinitionOrRefusal) → Finished (behind (opening t d)) old new s → Unchanged old new
     opening_unchanged (Err fields) f = halted fields verdict.BadDefinition _ (halts _ verdict.BadDefinition) f
     opening_unchanged (Ok a) f = opened_over a.query (loaded_or_refused t) f
 
 -- nothing is changed where a run is refused
 module _ (old new : World) (r : Result Verdict Halt) (refused : is_refused_status (status_of r) ≡ true) where
   refused_ended : (e : Ending) (v : Verdict) → r ≡ Ok v → Ended e old new (Ok v) → Finished e old new (status_of r)
-  refused_ended e v is h = record { status = ap status_of is ∙ ap number h.1; done = h.0 }
+  refused_ended e v is h = record { status = ap status_of is ∙ ap verdict_status h.1; done = h.0 }
 
   some_refused : (e : Ending) (x : Result Verdict Halt) → r ≡ x → EndedOver e old new x → Finished e old new (status_of r)
   some_refused e (Ok v) is h = refused_ended e v is h
@@ -141,7 +141,7 @@ module _ (old new : World) (r : Result Verdict Halt) (refused : is_refused_statu
   some_refused e (Err (halt.Stopped stop.WriteFault)) is h = absurd (false≢true (ap (λ (x : Result Verdict Halt). is_refused_status (status_of x)) (sym is) ∙ refused))
   some_refused e (Err (halt.Stopped stop.NoMemory)) is h = absurd (false≢true (ap (λ (x : Result Verdict Halt). is_refused_status (status_of x)) (sym is) ∙ refused))
 
-  pub did_refuse : (a : Asked) (t : Tree) (d : Definition) → Told (uses_store a) old.store.tree t → RanSome (course_of a t d) old new r → Unchanged old new
+  pub did_refuse : (a : Asked) (t : Tree) (d : DefinitionOrRefusal) → Told (uses_store a) old.store.tree t → RanSome (course_of a t d) old new r → Unchanged old new
   did_refuse (Check name) t d told h = check_unchanged t old new (told refl) (status_of r) refused d (some_refused (checked d) r refl h.ran)
   did_refuse (Show name) t d told h = opening_unchanged t old new (told refl) (status_of r) refused (ending done_at_once) (λ es v. refl) (λ es o. refl) d (some_refused (ending done_at_once (opening t d)) r refl h.ran)
   did_refuse (Maintain name) t d told h =
@@ -158,13 +158,13 @@ module _ (old new : World) (r : Result Verdict Halt) (refused : is_refused_statu
       absurd (false≢true (ap is_refused_status (sym f.status) ∙ refused))
 
 -- a folder that was said to differ from an accepted view does
-pub did_differ : (name : Text) (t : Tree) (d : Definition) (rest : Option (List ℕ)) (old new : World) (s : Status) → s ≡ status.NoView → Did (course_of (Verify name) t d) [] rest old new s → Differs d t
+pub did_differ : (name : Text) (t : Tree) (d : DefinitionOrRefusal) (rest : Option (List ℕ)) (old new : World) (s : Status) → s ≡ status.NoView → Did (course_of (Verify name) t d) [] rest old new s → Differs d t
 did_differ name t d rest old new s is h = λ o held.
     let a = o.accepted in
     let c = o.catalogue in
     let f = refused_finished (course_of (Verify name) t d) [] rest old new s (ap is_refused_status is) h in
     let same : (verified t d).status ≡ verdict.Done =
-    ap (λ (x : Definition). (verified t x).status) o.defined ∙ ap (λ (r : Result CatalogueValue Row). (verified_over t a.query r).status) o.loaded
+    ap (λ (x : DefinitionOrRefusal). (verified t x).status) o.defined ∙ ap (λ (r : Result CatalogueValue Row). (verified_over t a.query r).status) o.loaded
     ∙ ap (λ (r : Option Row). (verified_view t a.query c r).status) o.unrefused
     ∙ ap (λ (r : Comparison). (by_comparison r).status) (holds_same (folder_of a) (files_of_view c a.query) t (are_view_files c a.query) held) in
-    absurd (cc (sym is ∙ f.status ∙ ap number same))
+    absurd (cc (sym is ∙ f.status ∙ ap verdict_status same))

@@ -4,7 +4,7 @@ use Rattle.ss_text.specs.Label.{is_table_label}
 use Rattle.ss_top.specs.Commands.{asked_of, command_named, command_counted, can_check, can_show, can_load, can_refuse}
 use Rattle.std.proofs.Common.{◌≡◌, ◌≢◌, ℕ, ◌+◌, ◌<◌, length-append, true, false, length, get_or, List, [], ◌∷◌, ◌++◌, Option, refl, sym, ap, ◌∙◌, arith, inl, inr}
 use Rattle.std.specs.Prelude.{Result, Ok, Err, OnErr}
-use Rattle.course.specs.Machine.{Ending}
+use Rattle.course.specs.Answering.{Ending}
 use Rattle.effects.specs.Effects.{Effect, World, contents}
 use Rattle.effects.specs.declared.stop.Stop.{Stop}
 use Rattle.effects.specs.declared.stop.Stop.TheVariants as stop
@@ -13,7 +13,7 @@ use Rattle.course.specs.declared.status.Halt.{Halt}
 use Rattle.course.specs.declared.status.Halt.TheVariants as halt
 use Rattle.course.specs.declared.status.Verdict.{Verdict}
 use Rattle.course.specs.declared.status.Verdict.TheVariants as verdict
-use Rattle.course.specs.Machine.{Reply, Goes, Halts, Ended, ending, BlamesRun}
+use Rattle.course.specs.Answering.{Reply, Continues, Finishes, Ended, ending, BlamesRun}
 use Rattle.ss_top.specs.declared.opening.Opened.TheVariants as opened_as
 use Rattle.ss_top.specs.Open.{OpenValue}
 use Rattle.ss_top.specs.Opening.{done_at_once}
@@ -24,7 +24,7 @@ use Rattle.std.proofs.lemmas.Bool.{false≢true}
 use Rattle.ss_top.proofs.IdleLemmas.{idle_contents}
 use Rattle.ss_top.specs.declared.status.Status.{Status}
 use Rattle.ss_top.specs.declared.status.Status.TheVariants as status
-use Rattle.ss_top.specs.Course.{Course, unread, number, status_of, Did, Cause, RanBy, RanSome, NoFault, Finished, is_fault_status}
+use Rattle.ss_top.specs.Course.{Course, unread, verdict_status, status_of, Did, Cause, RanBy, RanSome, NoFault, Finished, is_fault_status}
 
 pub append_none : (xs : List Effect) → xs ++ [] ≡ xs
 append_none [] = refl
@@ -32,16 +32,16 @@ append_none (x ∷ xs) = ap (λ t. x ∷ t) (append_none xs)
 
 -- `show`
 pub shown_ends : (r : Reply OpenValue) (old new : World) (v : Verdict) → Opens r old new (Ok (opened_as.Ended v)) → Ended (ending done_at_once r) old new (Ok v)
-shown_ends (Halts es w) old new v h = h
-shown_ends (Goes es a) old new v h = absurd h
+shown_ends (Finishes es w) old new v h = h
+shown_ends (Continues es a) old new v h = absurd h
 
 pub shown_done : (r : Reply OpenValue) (old new : World) (s : OpenValue) → Opens r old new (Ok (opened_as.Open s)) → Ended (ending done_at_once r) old new (Ok verdict.Done)
-shown_done (Halts es w) old new s h = absurd h
-shown_done (Goes es a) old new s h = (rw (append_none es) h.0, refl)
+shown_done (Finishes es w) old new s h = absurd h
+shown_done (Continues es a) old new s h = (rw (append_none es) h.0, refl)
 
 pub shown_stops : (r : Reply OpenValue) (old new : World) (e : Stop) → Opens r old new (Err e) → Ended (ending done_at_once r) old new (Err e)
-shown_stops (Halts es w) old new e h = h
-shown_stops (Goes es a) old new e h = partly_more es [] (contents old) (contents new) h
+shown_stops (Finishes es w) old new e h = h
+shown_stops (Continues es a) old new e h = partly_more es [] (contents old) (contents new) h
 
 -- a command without an input that ended, and one that stopped
 pub ended_ran : (e : Ending) (bytes : List ℕ) (rest : Option (List ℕ)) (old new : World) (v : Verdict) → Ended e old new (Ok v) → RanBy (unread e) bytes rest old new (Ok v)
@@ -84,12 +84,12 @@ idle_other stop.NoMemory w v none = tt
 
 -- the table of statuses
 pub by_status : (c : Course) (bytes : List ℕ) (rest : Option (List ℕ)) (old new : World) (i j : ℕ) (r : Result Verdict Halt) → RanBy c bytes rest old new r → BlamesRun i j old new r → IdleRun r old new → Did c bytes rest old new (status_of r)
-by_status c bytes rest old new i j (Ok verdict.Done) h b idle = record { status = ap number h.1; done = h.0 }
-by_status c bytes rest old new i j (Ok verdict.SomeRefused) h b idle = record { status = ap number h.1; done = h.0 }
-by_status c bytes rest old new i j (Ok verdict.Usage) h b idle = record { status = ap number h.1; done = h.0 }
-by_status c bytes rest old new i j (Ok verdict.BadDefinition) h b idle = record { status = ap number h.1; done = h.0 }
-by_status c bytes rest old new i j (Ok verdict.BadCatalogue) h b idle = record { status = ap number h.1; done = h.0 }
-by_status c bytes rest old new i j (Ok verdict.NoView) h b idle = record { status = ap number h.1; done = h.0 }
+by_status c bytes rest old new i j (Ok verdict.Done) h b idle = record { status = ap verdict_status h.1; done = h.0 }
+by_status c bytes rest old new i j (Ok verdict.SomeRefused) h b idle = record { status = ap verdict_status h.1; done = h.0 }
+by_status c bytes rest old new i j (Ok verdict.Usage) h b idle = record { status = ap verdict_status h.1; done = h.0 }
+by_status c bytes rest old new i j (Ok verdict.BadDefinition) h b idle = record { status = ap verdict_status h.1; done = h.0 }
+by_status c bytes rest old new i j (Ok verdict.BadCatalogue) h b idle = record { status = ap verdict_status h.1; done = h.0 }
+by_status c bytes rest old new i j (Ok verdict.NoView) h b idle = record { status = ap verdict_status h.1; done = h.0 }
 by_status c bytes rest old new i j (Err halt.InputFault) h b idle = inr h
 by_status c bytes rest old new i j (Err halt.TooLong) h b idle = h
 by_status c bytes rest old new i j (Err (halt.Stopped stop.ReadFault)) h b idle = inl (b.because, idle_contents old new idle)
@@ -144,7 +144,7 @@ pub finishes : (c : Course) (bytes : List ℕ) (rest : Option (List ℕ)) (old n
 finishes c bytes rest old new i j r h b idle none few some = by_no_fault c bytes rest old new i j (status_of r) (by_status c bytes rest old new i j r h b idle) (by_cause i j old new r b) none few some
 
 -- a run that gave up
-no_fault_number : (v : Verdict) → is_fault_status (number v) ≡ false
+no_fault_number : (v : Verdict) → is_fault_status (verdict_status v) ≡ false
 no_fault_number verdict.Done = refl
 no_fault_number verdict.SomeRefused = refl
 no_fault_number verdict.Usage = refl

@@ -13,12 +13,12 @@ use Rattle.view_def.specs.Query.{Query}
 use Rattle.view_folder.specs.Files.{view_folder}
 use Rattle.view_folder.specs.Sync.{opening_sync}
 use Rattle.view_folder.proofs.FolderLemmas.{now, synced, holds_exactly, counted}
-use Rattle.course.specs.Machine.{ending}
+use Rattle.course.specs.Answering.{ending}
 use Rattle.ss_top.specs.declared.status.Status.{Status}
 use Rattle.ss_top.specs.declared.status.Status.TheVariants as status
-use Rattle.ss_top.specs.Stages.{Definition, Accepted}
+use Rattle.ss_top.specs.Stages.{DefinitionOrRefusal, Accepted}
 use Rattle.ss_top.specs.Opening.{opening, with_catalogue, with_view, opening_effects, done_at_once}
-use Rattle.run_lines.specs.Told.{tells_synced}
+use Rattle.run_lines.specs.Printing.{prints_synced}
 use Rattle.ss_top.specs.Course.{Course, Finished, Did, is_done_status}
 use Rattle.ss_top.specs.Commands.{Show}
 use Rattle.ss_top.specs.Runs.{course_of}
@@ -53,10 +53,10 @@ module _ (t : Tree) (old new : World) (told : old.store.tree ≡ Some t) (a : Ac
       → contents new ≡ record { stored = Some at_last; held = with_bytes line old.output.held }
   left h =
       h ∙ ap (performed (opening_effects (view_folder q.view_db) (files_of_view c q) (files_of t (view_folder q.view_db)))) (contents_told old t told)
-      ∙ performed_append (opening_sync (view_folder q.view_db) (files_of_view c q) (files_of t (view_folder q.view_db))) (tells_synced (synced_count t c q) ∷ []) (record { stored = Some at_first; held = old.output.held })
-      ∙ ap (performed (tells_synced (synced_count t c q) ∷ [])) (synced (view_folder q.view_db) (files_of_view c q) at_first (are_view_files c q) old.output.held)
+      ∙ performed_append (opening_sync (view_folder q.view_db) (files_of_view c q) (files_of t (view_folder q.view_db))) (prints_synced (synced_count t c q) ∷ []) (record { stored = Some at_first; held = old.output.held })
+      ∙ ap (performed (prints_synced (synced_count t c q) ∷ [])) (synced (view_folder q.view_db) (files_of_view c q) at_first (are_view_files c q) old.output.held)
 
-  shown : (d : Definition) → d ≡ Ok a → loaded_or_refused t ≡ Ok c → refusal_of c q ≡ None
+  shown : (d : DefinitionOrRefusal) → d ≡ Ok a → loaded_or_refused t ≡ Ok c → refusal_of c q ≡ None
       → contents new ≡ performed (opening_effects (view_folder q.view_db) (files_of_view c q) (files_of t (view_folder q.view_db))) (contents old) → IsShown d t old new
   unfolding contents
   shown d defined loaded accepted h =
@@ -75,15 +75,15 @@ module _ (t : Tree) (old new : World) (told : old.store.tree ≡ Some t) (a : Ac
 
 -- the status 0 comes where the view was opened
 module _ (t : Tree) (old new : World) (s : Status) (told : old.store.tree ≡ Some t) (done : s ≡ status.Done) where
-  by_view : (a : Accepted) (c : CatalogueValue) (o : Option Row) (d : Definition) → d ≡ Ok a → loaded_or_refused t ≡ Ok c → refusal_of c a.query ≡ o → Finished (ending done_at_once (with_view t a.query c o)) old new s → IsShown d t old new
+  by_view : (a : Accepted) (c : CatalogueValue) (o : Option Row) (d : DefinitionOrRefusal) → d ≡ Ok a → loaded_or_refused t ≡ Ok c → refusal_of c a.query ≡ o → Finished (ending done_at_once (with_view t a.query c o)) old new s → IsShown d t old new
   by_view a c (Some fields) d defined loaded judged f = absurd (cc (f.status))
   by_view a c None d defined loaded judged f = shown t old new told a c d defined loaded judged (f.done ∙ ap (λ es. performed es (contents old)) (append_none (opening_effects (view_folder a.query.view_db) (files_of_view c a.query) (files_of t (view_folder a.query.view_db)))))
 
-  by_catalogue : (a : Accepted) (r : Result CatalogueValue Row) (d : Definition) → d ≡ Ok a → loaded_or_refused t ≡ r → Finished (ending done_at_once (with_catalogue t a.query r)) old new s → IsShown d t old new
+  by_catalogue : (a : Accepted) (r : Result CatalogueValue Row) (d : DefinitionOrRefusal) → d ≡ Ok a → loaded_or_refused t ≡ r → Finished (ending done_at_once (with_catalogue t a.query r)) old new s → IsShown d t old new
   by_catalogue a (Err fields) d defined loaded f = absurd (cc (f.status))
   by_catalogue a (Ok c) d defined loaded f = by_view a c (refusal_of c a.query) d defined loaded refl f
 
-  pub finished_shown : (d : Definition) → Finished (ending done_at_once (opening t d)) old new s → IsShown d t old new
+  pub finished_shown : (d : DefinitionOrRefusal) → Finished (ending done_at_once (opening t d)) old new s → IsShown d t old new
   finished_shown (Err fields) f = absurd (cc (f.status))
   finished_shown (Ok a) f = by_catalogue a (loaded_or_refused t) (Ok a) refl refl f
 
@@ -101,5 +101,5 @@ done_finished c bytes rest old new status.NoMemory e h = absurd (cc)
 done_finished c bytes rest old new status.TooLong e h = absurd (cc)
 
 -- the run of `show` by its course
-pub did_show : (name : Text) (t : Tree) (d : Definition) (rest : Option (List ℕ)) (old new : World) (s : Status) → old.store.tree ≡ Some t → s ≡ status.Done → Did (course_of (Show name) t d) [] rest old new s → IsShown d t old new
+pub did_show : (name : Text) (t : Tree) (d : DefinitionOrRefusal) (rest : Option (List ℕ)) (old new : World) (s : Status) → old.store.tree ≡ Some t → s ≡ status.Done → Did (course_of (Show name) t d) [] rest old new s → IsShown d t old new
 did_show name t d rest old new s told done h = finished_shown t old new s told done d (done_finished (course_of (Show name) t d) [] rest old new s (ap is_done_status done) h)

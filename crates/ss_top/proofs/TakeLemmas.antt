@@ -29,11 +29,11 @@ use Rattle.change_script.proofs.AppliedLaw.{script_applies}
 use Rattle.valuation_meaning.specs.Terms.{Reading, value_of}
 use Rattle.valuation_meaning.specs.Elements.{Valuation}
 use Rattle.valuation_meaning.specs.Valuations.{valuations}
-use Rattle.valuation_meaning.specs.Meaning.{facts, fact_of, cell_of, constant_label, shape_of, meaning, given}
+use Rattle.valuation_meaning.specs.Meaning.{facts, fact_of, cell_of_reading, constant_label, shape_of, meaning, given}
 use Rattle.view_session.specs.Session.{tables_of, lines_to, working}
 use Rattle.ss_print.specs.Fields.{illegal_fields, clash_fields}
 use Rattle.ss_top.specs.Open.{OpenValue}
-use Rattle.ss_top.specs.Stages.{Definition, Accepted, IsRead, by_typing, typed_or_refused, refusal_of}
+use Rattle.ss_top.specs.Stages.{DefinitionOrRefusal, Accepted, ReadsAs, by_typing, typed_or_refused, refusal_of}
 use Rattle.ss_top.specs.Opening.{IsDefinition}
 use Rattle.ss_top.specs.Answers.{Answer, answer}
 use Rattle.ss_top.specs.Promises.{TakesBy, EachTakes}
@@ -42,7 +42,7 @@ use Rattle.ss_top.proofs.StageLemmas.{meaning_in_order, all_mapped}
 
 -- the facts of a view of the profile fit its form
 module _ (q : Query) (p : IsViewOfProfile q) where
-  column_there : (r : Reading) (c : Option Place) (v : Option Term) (column : Text) → option_map (λ (x : Text × Text). x.0) (cell_of r c v) ≡ Some column → is_some c ≡ true
+  column_there : (r : Reading) (c : Option Place) (v : Option Term) (column : Text) → option_map (λ (x : Text × Text). x.0) (cell_of_reading r c v) ≡ Some column → is_some c ≡ true
   column_there r (Some x) v column is = refl
   column_there r None v column is = absurd (cc)
 
@@ -70,16 +70,16 @@ module _ (q : Query) (p : IsViewOfProfile q) where
   meaning_fits_form c none = tables_fit (shape_of q) (facts c q) (label_legal q.decls q.label p.label) (none_illegal (illegal (shape_of q) (facts c q)) (conflict (facts c q)) none) (facts_fit c)
 
 -- the definition of an accepted view is of the profile
-typed_as : (v : tree.Tree) (a : Accepted) (r : Result Query TypeFault) → typed v ≡ r → Ok a ≡ by_typing v r → typed v ≡ Ok a.query
+typed_as : (v : tree.ViewTree) (a : Accepted) (r : Result Query TypeFault) → typed v ≡ r → Ok a ≡ by_typing v r → typed v ≡ Ok a.query
 typed_as v a (Ok q) e is = e ∙ ap Ok (ap query_in (sym is))
   where
-    query_in : Definition → Query
+    query_in : DefinitionOrRefusal → Query
     query_in (Ok b) = b.query
     query_in (Err fields) = q
 typed_as v a (Err f) e is = absurd (cc)
 
-read_of_profile : (bytes : List ℕ) (a : Accepted) (d : Definition) → d ≡ Ok a → IsRead bytes d → IsViewOfProfile a.query
-unfolding IsRead typed_or_refused
+read_of_profile : (bytes : List ℕ) (a : Accepted) (d : DefinitionOrRefusal) → d ≡ Ok a → ReadsAs bytes d → IsViewOfProfile a.query
+unfolding ReadsAs typed_or_refused
 read_of_profile bytes a d is (inl (v, read, e)) = profile v a.query (typed_as v a (typed v) refl (sym is ∙ e)) (read_is_written bytes v read)
 read_of_profile bytes a d is (inr (f, some, refused, e)) = absurd (cc)
 

@@ -9,13 +9,13 @@ use Rattle.outside.specs.Whole.{IsWhole}
 use Rattle.effects.specs.Effects.{World}
 use Rattle.course.specs.declared.status.Verdict.{Verdict}
 use Rattle.course.specs.declared.status.Halt.{Halt}
-use Rattle.course.specs.Machine.{BlamesRun}
+use Rattle.course.specs.Answering.{BlamesRun}
 use Rattle.ss_top.specs.Commands.{Asked, Check, Show, Maintain, Verify, Apply, Load, asked_of, uses_store, reads_input}
-use Rattle.ss_top.specs.Stages.{Definition}
+use Rattle.ss_top.specs.Stages.{DefinitionOrRefusal}
 use Rattle.ss_top.specs.Course.{Course, Did, RanBy, RanSome, Took, Finished, status_of}
 use Rattle.ss_top.specs.Runs.{IsAsked, course_of, Told}
 use Rattle.ss_top.specs.Steps.{IdleRun}
-use Rattle.ss_top.specs.Clauses.{DoesCourse, IsComplete, Checks, Shows, Maintains, StopsAtSync, Verifies, TellsDifference, Applies, Loads, KeepsAll, KeepsOthers, TakesLittle}
+use Rattle.ss_top.specs.Clauses.{DoesCourse, IsComplete, Checks, Shows, Maintains, StopsAtSync, Verifies, TellsDifference, Applies, AppliesNothing, Loads, KeepsAll, KeepsOthers, LeavesBetween, TakesLittle}
 use Rattle.ss_top.proofs.RunLemmas.{by_status, finishes, by_fault}
 use Rattle.ss_top.proofs.ShownLemmas.{did_show}
 use Rattle.ss_top.proofs.CheckedLemmas.{did_check, did_verify}
@@ -24,6 +24,7 @@ use Rattle.ss_top.proofs.MaintainedLemmas.{did_maintain, did_cut_off}
 use Rattle.ss_top.proofs.AppliedLemmas.{did_apply}
 use Rattle.ss_top.proofs.RefusedLemmas.{did_differ, did_refuse}
 use Rattle.ss_top.proofs.WithinLemmas.{did_keep}
+use Rattle.ss_top.proofs.StopLemmas.{did_leave, did_nothing}
 use Rattle.ss_top.proofs.DefinitionLemmas.{is_defined}
 
 -- a tree where nothing is
@@ -34,14 +35,14 @@ no_tree = record { folders = empty; files = empty }
 module _ (words : List Text) (input rest : Option (List ℕ)) (i j : ℕ) (old new : World) (r : Result Verdict Halt) where
   -- what the command did, by the course of a definition
   abbrev Ran : Type 0
-  Ran = (t : Tree) (bytes : List ℕ) (d : Definition) → Told (uses_store (asked_of words)) old.store.tree t → Told (reads_input (asked_of words)) input bytes → IsAsked (asked_of words) t d → RanBy (course_of (asked_of words) t d) bytes rest old new r
+  Ran = (t : Tree) (bytes : List ℕ) (d : DefinitionOrRefusal) → Told (uses_store (asked_of words)) old.store.tree t → Told (reads_input (asked_of words)) input bytes → IsAsked (asked_of words) t d → RanBy (course_of (asked_of words) t d) bytes rest old new r
 
   -- a tree that is told has no file outside a folder
   abbrev Whole : Type 0
   Whole = (t : Tree) → old.store.tree ≡ Some t → IsWhole t
 
   module _ (ran : Ran) (blames : BlamesRun i j old new r) (idle : IdleRun r old new) where
-    did_by : (t : Tree) (bytes : List ℕ) (d : Definition) → Told (uses_store (asked_of words)) old.store.tree t → Told (reads_input (asked_of words)) input bytes → IsAsked (asked_of words) t d → Did (course_of (asked_of words) t d) bytes rest old new (status_of r)
+    did_by : (t : Tree) (bytes : List ℕ) (d : DefinitionOrRefusal) → Told (uses_store (asked_of words)) old.store.tree t → Told (reads_input (asked_of words)) input bytes → IsAsked (asked_of words) t d → Did (course_of (asked_of words) t d) bytes rest old new (status_of r)
     did_by t bytes d stored read asked = by_status (course_of (asked_of words) t d) bytes rest old new i j r (ran t bytes d stored read asked) blames idle
 
     pub does_course : DoesCourse words input rest old new (status_of r)
@@ -53,7 +54,7 @@ module _ (words : List Text) (input rest : Option (List ℕ)) (i j : ℕ) (old n
         (finishes (course_of (asked_of words) has.tree has.is.definition) bytes rest old new i j r (ran has.tree bytes has.is.definition has.told read has.is.asked) blames idle none few some)
 
     -- a command by its name
-    named : (a : Asked) (t : Tree) (bytes : List ℕ) (d : Definition) → asked_of words ≡ a → Told (uses_store a) old.store.tree t → Told (reads_input a) input bytes → IsAsked a t d → Did (course_of a t d) bytes rest old new (status_of r)
+    named : (a : Asked) (t : Tree) (bytes : List ℕ) (d : DefinitionOrRefusal) → asked_of words ≡ a → Told (uses_store a) old.store.tree t → Told (reads_input a) input bytes → IsAsked a t d → Did (course_of a t d) bytes rest old new (status_of r)
     named a t bytes d is stored read asked =
         subst (λ (x : Asked). Told (uses_store x) old.store.tree t → Told (reads_input x) input bytes → IsAsked x t d → Did (course_of x t d) bytes rest old new (status_of r)) is (did_by t bytes d) stored read asked
 
@@ -75,29 +76,35 @@ module _ (words : List Text) (input rest : Option (List ℕ)) (i j : ℕ) (old n
     pub applies : Applies words input old new (status_of r)
     applies name t bytes d is defines given done = did_apply name t bytes d rest old new (status_of r) defines.told done (named (Apply name) t bytes d is (λ _. defines.told) (λ _. given) defines.is)
 
+    pub applies_nothing : AppliesNothing words input old new (status_of r)
+    applies_nothing name t bytes d is defines given unread = did_nothing name t d bytes rest old new (status_of r) unread (named (Apply name) t bytes d is (λ _. defines.told) (λ _. given) defines.is)
+
     pub loads : Loads words old new (status_of r)
     loads changes seed is done = did_load changes seed no_tree (Err []) rest old new (status_of r) done (named (Load changes seed) no_tree [] (Err []) is (λ no. absurd (cc)) (λ no. absurd (cc)) tt)
 
-    pub tells_difference : TellsDifference words old (status_of r)
-    tells_difference name t d is defines refused = did_differ name t d rest old new (status_of r) refused (named (Verify name) t [] d is (λ _. defines.told) (λ no. absurd (cc)) defines.is)
+    pub prints_difference : TellsDifference words old (status_of r)
+    prints_difference name t d is defines refused = did_differ name t d rest old new (status_of r) refused (named (Verify name) t [] d is (λ _. defines.told) (λ no. absurd (cc)) defines.is)
 
 -- what it did whatever its input tells, and what it took
 module _ (words : List Text) (old new : World) (r : Result Verdict Halt) where
   abbrev RanSomehow : Type 0
-  RanSomehow = (t : Tree) (d : Definition) → Told (uses_store (asked_of words)) old.store.tree t → IsAsked (asked_of words) t d → RanSome (course_of (asked_of words) t d) old new r
+  RanSomehow = (t : Tree) (d : DefinitionOrRefusal) → Told (uses_store (asked_of words)) old.store.tree t → IsAsked (asked_of words) t d → RanSome (course_of (asked_of words) t d) old new r
 
   pub keeps_all : RanSomehow → KeepsAll words old new (status_of r)
   keeps_all ran t told refused = let d = is_defined (asked_of words) t in did_refuse old new r refused (asked_of words) t d.definition told (ran t d.definition told d.is)
 
   module _ (input rest : Option (List ℕ)) where
     abbrev Taken : Type 0
-    Taken = (t : Tree) (bytes : List ℕ) (d : Definition) → Told (uses_store (asked_of words)) old.store.tree t → reads_input (asked_of words) ≡ true → input ≡ Some bytes → IsAsked (asked_of words) t d → OnErr r (Took (course_of (asked_of words) t d) bytes rest old new)
+    Taken = (t : Tree) (bytes : List ℕ) (d : DefinitionOrRefusal) → Told (uses_store (asked_of words)) old.store.tree t → reads_input (asked_of words) ≡ true → input ≡ Some bytes → IsAsked (asked_of words) t d → OnErr r (Took (course_of (asked_of words) t d) bytes rest old new)
 
     abbrev RanTold : Type 0
-    RanTold = (t : Tree) (bytes : List ℕ) (d : Definition) → Told (uses_store (asked_of words)) old.store.tree t → Told (reads_input (asked_of words)) input bytes → IsAsked (asked_of words) t d → RanBy (course_of (asked_of words) t d) bytes rest old new r
+    RanTold = (t : Tree) (bytes : List ℕ) (d : DefinitionOrRefusal) → Told (uses_store (asked_of words)) old.store.tree t → Told (reads_input (asked_of words)) input bytes → IsAsked (asked_of words) t d → RanBy (course_of (asked_of words) t d) bytes rest old new r
 
     pub keeps_others : RanSomehow → RanTold → KeepsOthers words input old new
     keeps_others some ran t d told asked = did_keep (asked_of words) t d input rest old new r told (some t d (λ _. told) asked) (λ bytes given. ran t bytes d (λ _. told) (λ _. given) asked)
+
+    pub leaves_between : RanSomehow → RanTold → LeavesBetween words input old new
+    leaves_between some ran t d told asked = did_leave (asked_of words) t d input rest old new r told (some t d (λ _. told) asked) (λ bytes given. ran t bytes d (λ _. told) (λ _. given) asked)
 
     pub takes_little : Taken → TakesLittle words input rest old new (status_of r)
     takes_little taken c bytes has reads given fault =

@@ -6,7 +6,7 @@ use Rattle.effects.specs.declared.stop.Stop.{Stop}
 use Rattle.effects.proofs.EffectLemmas.{partly_more}
 use Rattle.view_folder.specs.declared.comparison.Comparison.{Comparison}
 use Rattle.course.specs.declared.status.Verdict.{Verdict}
-use Rattle.course.specs.Machine.{Ending, Ended}
+use Rattle.course.specs.Answering.{Ending, Ended}
 use Rattle.ss_top.specs.Verifying.{by_comparison}
 
 pub ended_later : (e : Ending) (old mid new : World) (r : Result Verdict Stop) → contents mid ≡ contents old → Ended e mid new r → Ended e old new r

@@ -35,7 +35,7 @@ use Rattle.view_session.specs.Session.{SessionState, tables_of}
 use Rattle.course.specs.declared.status.Verdict.{Verdict}
 use Rattle.course.specs.declared.status.Halt.{Halt}
 use Rattle.course.specs.declared.status.Halt.TheVariants as halt
-use Rattle.course.specs.Machine.{Reply, Goes, Halts, EndedOver, ending, follow}
+use Rattle.course.specs.Answering.{Reply, Continues, Finishes, EndedOver, ending, follow}
 use Rattle.tab_lines.specs.Lines.{has_feed, lines_of, whole_lines}
 use Rattle.tab_lines.specs.Parts.{has}
 use Rattle.tab_lines.proofs.LineLemmas.{has_append, lines_first, whole_first, whole_none}
@@ -44,10 +44,10 @@ use Rattle.view_folder.specs.Held.{held}
 use Rattle.view_apply.specs.Applying as applying
 use Rattle.view_apply.specs.Applying.{ApplyState, by_folder, just_read, synced_count}
 use Rattle.view_apply.proofs.CourseLemmas.{went_on, halts_so}
-use Rattle.run_lines.specs.Told.{tells_applied}
+use Rattle.run_lines.specs.Printing.{prints_applied}
 use Rattle.ss_top.specs.Open.{OpenValue, just_opened}
 use Rattle.ss_top.specs.Places.{Exempt, CsvFiles, RelationFile, DatabaseFolder, is_exempt, is_exempt_folder, sources_of}
-use Rattle.ss_top.specs.Stages.{Definition, Accepted, loaded_or_refused, refusal_of, files_of_view}
+use Rattle.ss_top.specs.Stages.{DefinitionOrRefusal, Accepted, loaded_or_refused, refusal_of, files_of_view}
 use Rattle.ss_top.specs.Opening.{opening, with_catalogue, with_view, opening_effects, done_at_once}
 use Rattle.ss_top.specs.Verifying.{by_comparison, verified_over, verified_view}
 use Rattle.ss_top.specs.Answers.{Answer, answer, step, finish, view_effects, sync_effects, synced_by, last_synced, view_after, end_synced, end_effects, end_view}
@@ -247,7 +247,7 @@ module _ (q : Query) (z : Synced) where
 
   -- the answers to lines, and what follows them
   pub lines_within : (lines : List (List ℕ)) (es : List Effect) (o : OpenValue) (y : Synced) (P : Reply OpenValue → Type 0) → o.session.query ≡ q → Grows (last_synced o y lines) z → Of es
-      → ((fs : List Effect) (p : OpenValue) → p.session.query ≡ q → p ≡ view_after o lines → Of fs → P (Goes fs p)) → P (follow step lines (Goes es o))
+      → ((fs : List Effect) (p : OpenValue) → p.session.query ≡ q → p ≡ view_after o lines → Of fs → P (Continues fs p)) → P (follow step lines (Continues es o))
   lines_within [] es o y P is g h then = then es o is refl h
   lines_within (line ∷ lines) es o y P is g h then =
       let x = synced_by (answer o line).said o.session y in
@@ -290,7 +290,7 @@ module _ (t : Tree) (a : Accepted) where
     maintain_over (Ok c) = maintain_view c (refusal_of c a.query)
 
     -- and until these lines are answered
-    so_far_is : (es fs gs : List Effect) (p : OpenValue) → goes_so_far es (Goes fs p) ≡ Some gs → es ++ fs ≡ gs
+    so_far_is : (es fs gs : List Effect) (p : OpenValue) → goes_so_far es (Continues fs p) ≡ Some gs → es ++ fs ≡ gs
     so_far_is es fs gs p e = cc e
 
     so_far_view : (c : CatalogueValue) (r : Option Row) (gs : List Effect) → (by_lines step finish (with_view t a.query c r)).so_far lines ≡ Some gs → Maintaining (with_view t a.query c r) gs
@@ -311,32 +311,32 @@ module _ (t : Tree) (a : Accepted) where
     abbrev Applying : List Effect → Type 0
     Applying es = AllWithin (CsvFiles (folder_of a) ∷ []) es
 
-    apply_lines : (s0 : ApplyState) → s0.view_db ≡ a.query.view_db → (r : Reply ApplyState) → follow applying.step lines (Goes [] s0) ≡ r → Applying (ending applying.finish r).effects
-    apply_lines s0 named (Goes es u) e =
+    apply_lines : (s0 : ApplyState) → s0.view_db ≡ a.query.view_db → (r : Reply ApplyState) → follow applying.step lines (Continues [] s0) ≡ r → Applying (ending applying.finish r).effects
+    apply_lines s0 named (Continues es u) e =
         let went = went_on lines s0 es u e in
         let last : AllWithin (CsvFiles (view_folder u.view_db) ∷ []) (applying.finish u).effects =
-        both_within (CsvFiles (view_folder u.view_db) ∷ []) (later_sync (view_folder u.view_db) u.shape u.tables u.named) (tells_applied u.lines (synced_count u) ∷ [])
+        both_within (CsvFiles (view_folder u.view_db) ∷ []) (later_sync (view_folder u.view_db) u.shape u.tables u.named) (prints_applied u.lines (synced_count u) ∷ [])
         (later_within (view_folder u.view_db) [] u.shape u.tables u.named) (tt, tt) in
         let here = subst (λ (v : Text). AllWithin (CsvFiles (view_folder v) ∷ []) (applying.finish u).effects) (went.1.applies.view_db ∙ named) last in
         subst (λ (fs : List Effect). Applying (fs ++ (applying.finish u).effects)) (sym went.0) here
-    apply_lines s0 named (Halts es v) e = subst Applying (sym (halts_so lines s0 es v e).1.1) (tt, tt)
+    apply_lines s0 named (Finishes es v) e = subst Applying (sym (halts_so lines s0 es v e).1.1) (tt, tt)
 
     apply_over : (r : Result TablesValue TablesFault) → Applying ((by_lines applying.step applying.finish (by_folder a.query.view_db (shape_of a.query) r)).whole lines).effects
     apply_over (Err f) = (tt, tt)
     apply_over (Ok ts) =
         let s0 = just_read a.query.view_db (shape_of a.query) ts in
-        apply_lines s0 refl (follow applying.step lines (Goes [] s0)) refl
+        apply_lines s0 refl (follow applying.step lines (Continues [] s0)) refl
 
     -- until the end they do nothing
-    nothing_so_far : (s0 : ApplyState) (r : Reply ApplyState) → follow applying.step lines (Goes [] s0) ≡ r → (gs : List Effect) → goes_so_far [] r ≡ Some gs → Applying gs
-    nothing_so_far s0 (Goes es u) e gs meant = let same : es ≡ gs = cc meant in subst Applying ((sym (went_on lines s0 es u e).0) ∙ same) tt
-    nothing_so_far s0 (Halts es v) e gs meant = absurd (cc meant)
+    nothing_so_far : (s0 : ApplyState) (r : Reply ApplyState) → follow applying.step lines (Continues [] s0) ≡ r → (gs : List Effect) → goes_so_far [] r ≡ Some gs → Applying gs
+    nothing_so_far s0 (Continues es u) e gs meant = let same : es ≡ gs = cc meant in subst Applying ((sym (went_on lines s0 es u e).0) ∙ same) tt
+    nothing_so_far s0 (Finishes es v) e gs meant = absurd (cc meant)
 
     apply_so_far : (r : Result TablesValue TablesFault) (gs : List Effect) → (by_lines applying.step applying.finish (by_folder a.query.view_db (shape_of a.query) r)).so_far lines ≡ Some gs → Applying gs
     apply_so_far (Err f) gs e = absurd (cc e)
     apply_so_far (Ok ts) gs e =
         let s0 = just_read a.query.view_db (shape_of a.query) ts in
-        nothing_so_far s0 (follow applying.step lines (Goes [] s0)) refl gs e
+        nothing_so_far s0 (follow applying.step lines (Continues [] s0)) refl gs e
 
   compared_within : (r : Comparison) → AllWithin (CsvFiles (folder_of a) ∷ []) (by_comparison r).effects
   compared_within (compared.Same n) = (tt, tt)
@@ -350,7 +350,7 @@ module _ (t : Tree) (a : Accepted) where
   verify_over (Err fields) = (tt, tt)
   verify_over (Ok c) = verify_view c (refusal_of c a.query)
 
-course_within : (a : Asked) (t : Tree) (d : Definition) (lines : List (List ℕ)) → AllWithin (exempt_of a t d lines) ((course_of a t d).whole lines).effects
+course_within : (a : Asked) (t : Tree) (d : DefinitionOrRefusal) (lines : List (List ℕ)) → AllWithin (exempt_of a t d lines) ((course_of a t d).whole lines).effects
 course_within (Check name) t (Err fields) lines = (tt, tt)
 course_within (Check name) t (Ok a) lines = (tt, tt)
 course_within (Show name) t (Err fields) lines = (tt, tt)
@@ -366,7 +366,7 @@ course_within (Load changes seed) t (Ok a) lines = (tt, tt)
 course_within Other t (Err fields) lines = (tt, tt)
 course_within Other t (Ok a) lines = (tt, tt)
 
-so_far_within : (a : Asked) (t : Tree) (d : Definition) (lines : List (List ℕ)) (gs : List Effect) → (course_of a t d).so_far lines ≡ Some gs → AllWithin (exempt_of a t d lines) gs
+so_far_within : (a : Asked) (t : Tree) (d : DefinitionOrRefusal) (lines : List (List ℕ)) (gs : List Effect) → (course_of a t d).so_far lines ≡ Some gs → AllWithin (exempt_of a t d lines) gs
 so_far_within (Check name) t d lines gs e = absurd (cc e)
 so_far_within (Show name) t d lines gs e = absurd (cc e)
 so_far_within (Maintain name) t (Err fields) lines gs e = absurd (cc e)
@@ -403,11 +403,11 @@ first_lines line (x ∷ xs) left none = by_byte (x == 10) refl (first_lines [] x
         let all = later (has_last line x none e) in
         (all.0, subst (λ (ys : List ℕ). lines_of (ys ++ left) ≡ whole_lines ys ++ all.0) (append_assoc line (x ∷ []) xs) all.1)
 
-taken_lines : (bytes taken left : List ℕ) → bytes ≡ taken ++ left → (more : List (List ℕ)) × (lines_of bytes ≡ whole_lines taken ++ more)
+pub taken_lines : (bytes taken left : List ℕ) → bytes ≡ taken ++ left → (more : List (List ℕ)) × (lines_of bytes ≡ whole_lines taken ++ more)
 taken_lines bytes taken left is = let all = first_lines [] taken left refl in (all.0, ap lines_of is ∙ all.1)
 
 -- a run leaves all others as they were
-module _ (a : Asked) (t : Tree) (d : Definition) (old new : World) (told : old.store.tree ≡ Some t) where
+module _ (a : Asked) (t : Tree) (d : DefinitionOrRefusal) (old new : World) (told : old.store.tree ≡ Some t) where
   kept : (lines : List (List ℕ)) → StaysIn (exempt_of a t d lines) t (contents new) → Keeps (exempt_of a t d lines) t new
   unfolding contents
   kept lines s = record { tree = s.store.tree; told = (told_tree new.store.tree new.store.writes s.store s.told).0; others = s.others }
@@ -452,7 +452,7 @@ module _ (a : Asked) (t : Tree) (d : Definition) (old new : World) (told : old.s
     did_told (Err halt.TooLong) h = gave_out h.0
     did_told (Err (halt.Stopped e)) h = all_lines (done_partly (lines_of bytes) h)
 
-pub did_keep : (a : Asked) (t : Tree) (d : Definition) (input rest : Option (List ℕ)) (old new : World) (r : Result Verdict Halt) → old.store.tree ≡ Some t → RanSome (course_of a t d) old new r
+pub did_keep : (a : Asked) (t : Tree) (d : DefinitionOrRefusal) (input rest : Option (List ℕ)) (old new : World) (r : Result Verdict Halt) → old.store.tree ≡ Some t → RanSome (course_of a t d) old new r
     → ((bytes : List ℕ) → input ≡ Some bytes → RanBy (course_of a t d) bytes rest old new r) → KeepsBut a t d input new
 did_keep a t d None rest old new r told some ran = did_some a t d old new told r some
 did_keep a t d (Some bytes) rest old new r told some ran = did_told a t d old new told bytes rest r (ran bytes refl)

@@ -22,12 +22,12 @@ use Rattle.view_session.specs.Session.{SessionState, cleared, tables_of, lines_t
 use Rattle.kept_sources.specs.Counted.{tree_after, counted}
 use Rattle.kept_sources.specs.Synced.{Synced, synced, saving}
 use Rattle.course.specs.declared.status.Verdict.TheVariants as verdict
-use Rattle.course.specs.Machine.{Reply, Goes, Ending}
+use Rattle.course.specs.Answering.{Reply, Continues, Ending}
 use Rattle.ss_print.specs.Fields.{escape_fields, first_field, line_fields, refusal_fields, group_broken_fields, open_group_fields, in_group_fields, no_group_fields}
 use Rattle.ss_top.specs.Open.{OpenValue}
 use Rattle.ss_top.specs.declared.word.Word.{Word}
 use Rattle.ss_top.specs.declared.word.Word.TheVariants as word
-use Rattle.run_lines.specs.Told.{refuses, tells_begun, tells_held, tells_aborted, tells_script, tells_synced}
+use Rattle.run_lines.specs.Printing.{refuses, prints_begun, prints_held, prints_aborted, prints_script, prints_synced}
 use Rattle.ss_top.specs.Stages.{refusal_of}
 
 -- what is said to a line: a refusal with its fields, a group that opens, a change that it holds, a group that is given up, the lines of a script, or the count of a sync
@@ -66,7 +66,7 @@ refusing o fields = record {
 abbrev pub beginning : OpenValue → Answer
 beginning o = record {
   said = Begins;
-  effects = tells_begun ∷ [];
+  effects = prints_begun ∷ [];
   view = record { session = begun o.session; synced = o.synced; refused = o.refused; broken = 0 };
   writes = λ t. 0;
 }
@@ -74,7 +74,7 @@ beginning o = record {
 abbrev pub keeping : OpenValue → Change → Answer
 keeping o g = record {
   said = Holds;
-  effects = tells_held ∷ [];
+  effects = prints_held ∷ [];
   view = record { session = holding o.session g; synced = o.synced; refused = o.refused; broken = o.broken };
   writes = λ t. 0;
 }
@@ -82,7 +82,7 @@ keeping o g = record {
 abbrev pub aborting : OpenValue → Answer
 aborting o = record {
   said = Aborts;
-  effects = tells_aborted ∷ [];
+  effects = prints_aborted ∷ [];
   view = record { session = closed o.session; synced = o.synced; refused = o.refused; broken = 0 };
   writes = λ t. 0;
 }
@@ -101,7 +101,7 @@ scripting o c s broken =
     let lines : List TableLine = lines_to o.session c in
     record {
       said = Scripts lines;
-      effects = tells_script lines ∷ [];
+      effects = prints_script lines ∷ [];
       view = record { session = s; synced = o.synced; refused = o.refused; broken = broken };
       writes = λ t. 0;
     }
@@ -125,7 +125,7 @@ sync_writes t o = counted (saving o.session) t + sync_count o
 abbrev pub view_effects : OpenValue → List Effect
 view_effects o =
     later_sync (view_folder o.session.query.view_db) (shape_of o.session.query) (tables_of o.session) o.session.changed.labels
-    ++ tells_synced (sync_count o) ∷ []
+    ++ prints_synced (sync_count o) ∷ []
 
 -- before them the sources that were named are saved
 abbrev pub sync_effects : OpenValue → List Effect
@@ -207,7 +207,7 @@ answer o line = by_spelling o (unspell line)
 
 -- each line is answered, and the run goes on
 abbrev pub step : OpenValue → List ℕ → Reply OpenValue
-step o line = Goes (answer o line).effects (answer o line).view
+step o line = Continues (answer o line).effects (answer o line).view
 
 -- how many files and folders the answers to these lines write, make or remove over a tree
 abbrev pub writes_by : Tree → OpenValue → List (List ℕ) → ℕ

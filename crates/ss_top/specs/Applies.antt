@@ -6,7 +6,7 @@ use Rattle.outside.specs.Streams.{with_bytes}
 use Rattle.outside.specs.Tree.{Tree}
 use Rattle.effects.specs.Effects.{World}
 use Rattle.course.specs.declared.status.Verdict.TheVariants as verdict
-use Rattle.course.specs.Machine.{Reply, Halts}
+use Rattle.course.specs.Answering.{Reply, Finishes}
 use Rattle.flow_law.specs.declared.line.TableLine.{TableLine}
 use Rattle.flow_law.specs.Lines.{label_of}
 use Rattle.flow_law.specs.Tables.{TablesValue, labels_of, table_of}
@@ -14,15 +14,15 @@ use Rattle.change_script.specs.Applied.{applied}
 use Rattle.valuation_meaning.specs.Meaning.{shape_of}
 use Rattle.view_folder.specs.Held.{held}
 use Rattle.view_folder.specs.Sync.{HoldsNamed}
-use Rattle.run_lines.specs.Told.{refuses, lines_text, applied_rows}
+use Rattle.run_lines.specs.Printing.{refuses, lines_text, applied_rows}
 use Rattle.view_apply.specs.Applying.{ApplyState, opening}
 use Rattle.view_apply.specs.Scripts.{script_said}
-use Rattle.ss_top.specs.Stages.{Definition, Accepted}
+use Rattle.ss_top.specs.Stages.{DefinitionOrRefusal, Accepted}
 use Rattle.ss_top.specs.Promises.{folder_of}
 
 -- the definition is refused, or the tables of the view's folder are read
-abbrev pub apply_opening : Tree → Definition → Reply ApplyState
-apply_opening t (Err fields) = Halts (refuses fields ∷ []) verdict.BadDefinition
+abbrev pub apply_opening : Tree → DefinitionOrRefusal → Reply ApplyState
+apply_opening t (Err fields) = Finishes (refuses fields ∷ []) verdict.BadDefinition
 apply_opening t (Ok a) = opening a.query.view_db (shape_of a.query) t
 
 -- the labels that lines of a script name
@@ -34,7 +34,7 @@ abbrev pub named_count : TablesValue → TablesValue → List Text → ℕ
 named_count before after labels = length (filter (λ label. is_some (table_of after label) || is_in label (labels_of before)) labels)
 
 -- a script was applied: the definition was accepted, the view's folder holds tables, the lines of the input say a script, each line of which applied in turn; the files of the labels that it names are those of the tables after it, every other file is as it was, and the two numbers were printed
-pub record IsApplied (d : Definition) (t : Tree) (lines : List (List ℕ)) (old new : World) : Type 0 where
+pub record IsApplied (d : DefinitionOrRefusal) (t : Tree) (lines : List (List ℕ)) (old new : World) : Type 0 where
   pub accepted : Accepted
   pub defined : d ≡ Ok accepted
   pub before : TablesValue

@@ -4,15 +4,15 @@ use Rattle.effects.specs.Effects.{Effect, Print}
 use Rattle.view_def.specs.Print.{print}
 use Rattle.course.specs.declared.status.Verdict.{Verdict}
 use Rattle.course.specs.declared.status.Verdict.TheVariants as verdict
-use Rattle.course.specs.Machine.{Ending}
-use Rattle.run_lines.specs.Told.{refuses}
-use Rattle.ss_top.specs.Stages.{Definition}
+use Rattle.course.specs.Answering.{Ending}
+use Rattle.run_lines.specs.Printing.{refuses}
+use Rattle.ss_top.specs.Stages.{DefinitionOrRefusal}
 
 -- one effect, and the end
 abbrev pub ends : Effect → Verdict → Ending
 ends effect v = record { effects = effect ∷ []; status = v }
 
 -- the canonical text of a definition, as it is, or its refusal
-abbrev pub checked : Definition → Ending
+abbrev pub checked : DefinitionOrRefusal → Ending
 checked (Err fields) = ends (refuses fields) verdict.BadDefinition
 checked (Ok a) = ends (Print (print a.written)) verdict.Done

@@ -4,20 +4,21 @@ use Rattle.ss_text.specs.Texts.{Text}
 use Rattle.tab_lines.specs.Lines.{lines_of}
 use Rattle.tab_lines.specs.Taking.{most_taken}
 use Rattle.outside.specs.Tree.{Tree}
-use Rattle.effects.specs.Effects.{World}
+use Rattle.effects.specs.Effects.{World, contents}
 use Rattle.ss_top.specs.declared.status.Status.{Status}
 use Rattle.ss_top.specs.declared.status.Status.TheVariants as status
 use Rattle.ss_top.specs.Commands.{Check, Show, Maintain, Verify, Apply, Load, asked_of, uses_store, reads_input}
-use Rattle.ss_top.specs.Stages.{Definition}
+use Rattle.ss_top.specs.Stages.{DefinitionOrRefusal}
 use Rattle.ss_top.specs.Opening.{IsDefinition, definition_bytes}
-use Rattle.ss_top.specs.Course.{Course, Did, Took, NoFault, Finished, IsReadWhole, is_done_status, is_fault_status, is_refused_status, GaveOutStatus}
+use Rattle.ss_top.specs.Course.{Course, Did, Took, NoFault, Finished, IsReadWhole, is_done_status, is_fault_status, is_refused_status, is_unread_status, GaveOutStatus}
 use Rattle.ss_top.specs.Runs.{IsAsked, IsCourse, Told}
+use Rattle.ss_top.specs.Between.{IsLeftBetween}
 use Rattle.ss_top.specs.Applies.{IsApplied}
 use Rattle.ss_top.specs.Loads.{IsLoaded}
 use Rattle.ss_top.specs.Promises.{IsChecked, IsShown, IsMaintained, IsCutOff, IsVerified, Differs, Unchanged, KeepsBut}
 
 -- the definition of a name, over a store that tells its tree
-pub record Defines (name : Text) (w : World) (t : Tree) (d : Definition) : Type 0 where
+pub record Defines (name : Text) (w : World) (t : Tree) (d : DefinitionOrRefusal) : Type 0 where
   pub told : w.store.tree ≡ Some t
   pub is : IsDefinition name (definition_bytes t name) d
 
@@ -39,37 +40,43 @@ IsComplete words input i j old new s =
 
 -- `check` is done where the definition was accepted
 abbrev pub Checks : List Text → World → World → Status → Type 0
-Checks words old new s = (name : Text) (t : Tree) (d : Definition) → asked_of words ≡ Check name → Defines name old t d → s ≡ status.Done → IsChecked d old new
+Checks words old new s = (name : Text) (t : Tree) (d : DefinitionOrRefusal) → asked_of words ≡ Check name → Defines name old t d → s ≡ status.Done → IsChecked d old new
 
 -- `show` is done where the view is shown
 abbrev pub Shows : List Text → World → World → Status → Type 0
-Shows words old new s = (name : Text) (t : Tree) (d : Definition) → asked_of words ≡ Show name → Defines name old t d → s ≡ status.Done → IsShown d t old new
+Shows words old new s = (name : Text) (t : Tree) (d : DefinitionOrRefusal) → asked_of words ≡ Show name → Defines name old t d → s ≡ status.Done → IsShown d t old new
 
 -- `maintain` is done where the view is kept up to date over all lines of the input
 abbrev pub Maintains : List Text → Option (List ℕ) → World → World → Status → Type 0
 Maintains words input old new s =
-    (name : Text) (t : Tree) (bytes : List ℕ) (d : Definition) → asked_of words ≡ Maintain name → Defines name old t d → input ≡ Some bytes
+    (name : Text) (t : Tree) (bytes : List ℕ) (d : DefinitionOrRefusal) → asked_of words ≡ Maintain name → Defines name old t d → input ≡ Some bytes
     → is_done_status s ≡ true → IsMaintained d t (lines_of bytes) old new s
 
 -- where the input gave out, the view's folder and the sources are those of the last sync: at 9, or at 6 where no read of the store failed
 abbrev pub StopsAtSync : List Text → Option (List ℕ) → Option (List ℕ) → World → World → Status → Type 0
 StopsAtSync words input rest old new s =
-    (name : Text) (t : Tree) (bytes : List ℕ) (d : Definition) → asked_of words ≡ Maintain name → Defines name old t d → input ≡ Some bytes
+    (name : Text) (t : Tree) (bytes : List ℕ) (d : DefinitionOrRefusal) → asked_of words ≡ Maintain name → Defines name old t d → input ≡ Some bytes
     → GaveOutStatus old new s → IsCutOff d t bytes rest old new
 
 -- `verify` is done where the folder holds what is meant
 abbrev pub Verifies : List Text → World → World → Status → Type 0
-Verifies words old new s = (name : Text) (t : Tree) (d : Definition) → asked_of words ≡ Verify name → Defines name old t d → s ≡ status.Done → IsVerified d t old new
+Verifies words old new s = (name : Text) (t : Tree) (d : DefinitionOrRefusal) → asked_of words ≡ Verify name → Defines name old t d → s ≡ status.Done → IsVerified d t old new
 
 -- and it says that a folder differs where it does
 abbrev pub TellsDifference : List Text → World → Status → Type 0
-TellsDifference words old s = (name : Text) (t : Tree) (d : Definition) → asked_of words ≡ Verify name → Defines name old t d → s ≡ status.NoView → Differs d t
+TellsDifference words old s = (name : Text) (t : Tree) (d : DefinitionOrRefusal) → asked_of words ≡ Verify name → Defines name old t d → s ≡ status.NoView → Differs d t
 
 -- `apply` is done where the script that the input says is applied to the view's folder
 abbrev pub Applies : List Text → Option (List ℕ) → World → World → Status → Type 0
 Applies words input old new s =
-    (name : Text) (t : Tree) (bytes : List ℕ) (d : Definition) → asked_of words ≡ Apply name → Defines name old t d → input ≡ Some bytes
+    (name : Text) (t : Tree) (bytes : List ℕ) (d : DefinitionOrRefusal) → asked_of words ≡ Apply name → Defines name old t d → input ≡ Some bytes
     → s ≡ status.Done → IsApplied d t (lines_of bytes) old new
+
+-- where it could not read on, `apply` has done nothing
+abbrev pub AppliesNothing : List Text → Option (List ℕ) → World → World → Status → Type 0
+AppliesNothing words input old new s =
+    (name : Text) (t : Tree) (bytes : List ℕ) (d : DefinitionOrRefusal) → asked_of words ≡ Apply name → Defines name old t d → input ≡ Some bytes
+    → is_unread_status s ≡ true → contents new ≡ contents old
 
 -- `load` is done where the line of its run is printed
 abbrev pub Loads : List Text → World → World → Status → Type 0
@@ -85,7 +92,11 @@ KeepsAll words old new s = (t : Tree) → Told (uses_store (asked_of words)) old
 
 -- whatever the status, only the `.csv` files of the view's folder are changed, and the sources that accepted changes named
 abbrev pub KeepsOthers : List Text → Option (List ℕ) → World → World → Type 0
-KeepsOthers words input old new = (t : Tree) (d : Definition) → old.store.tree ≡ Some t → IsAsked (asked_of words) t d → KeepsBut (asked_of words) t d input new
+KeepsOthers words input old new = (t : Tree) (d : DefinitionOrRefusal) → old.store.tree ≡ Some t → IsAsked (asked_of words) t d → KeepsBut (asked_of words) t d input new
+
+-- wherever a run ends or breaks off, each file and each folder is as a sync found it or as it leaves it, but for one that was being written, made or removed
+abbrev pub LeavesBetween : List Text → Option (List ℕ) → World → World → Type 0
+LeavesBetween words input old new = (t : Tree) (d : DefinitionOrRefusal) → old.store.tree ≡ Some t → IsAsked (asked_of words) t d → IsLeftBetween (asked_of words) t d input new
 
 -- a run that gave up took no more of its input than it answered, the line under way and what one read gives
 abbrev pub TakesLittle : List Text → Option (List ℕ) → Option (List ℕ) → World → World → Status → Type 0

@@ -9,7 +9,7 @@ use Rattle.course.specs.declared.status.Halt.{Halt}
 use Rattle.course.specs.declared.status.Halt.TheVariants as halt
 use Rattle.tab_lines.specs.Lines.{has_feed, lines_of, whole_lines}
 use Rattle.tab_lines.specs.Taking.{most_taken}
-use Rattle.course.specs.Machine.{Reply, Goes, Halts, Ending, Ended, EndedOver, follow, course}
+use Rattle.course.specs.Answering.{Reply, Continues, Finishes, Ending, Ended, EndedOver, follow, course}
 use Rattle.ss_top.specs.declared.status.Status.{Status}
 use Rattle.ss_top.specs.declared.status.Status.TheVariants as status
 
@@ -27,15 +27,15 @@ abbrev pub first : List Effect → Ending → Ending
 first es e = record { effects = es ++ e.effects; status = e.status }
 
 abbrev pub goes_so_far : {A : Type 0} → List Effect → Reply A → Option (List Effect)
-goes_so_far es (Goes fs a) = Some (es ++ fs)
-goes_so_far es (Halts fs s) = None
+goes_so_far es (Continues fs a) = Some (es ++ fs)
+goes_so_far es (Finishes fs s) = None
 
 -- an opening, and then the lines of the input
 abbrev pub by_lines : {A : Type 0} → (A → List ℕ → Reply A) → (A → Ending) → Reply A → Course
-by_lines step finish (Halts es s) = unread (record { effects = es; status = s })
-by_lines step finish (Goes es a) = record {
+by_lines step finish (Finishes es s) = unread (record { effects = es; status = s })
+by_lines step finish (Continues es a) = record {
   whole = λ lines. first es (course step finish a lines);
-  so_far = λ lines. goes_so_far es (follow step lines (Goes [] a));
+  so_far = λ lines. goes_so_far es (follow step lines (Continues [] a));
 }
 
 -- whether all was done, though some line may have been refused
@@ -45,17 +45,17 @@ is_done verdict.SomeRefused = true
 is_done v = false
 
 -- the status of a verdict
-abbrev pub number : Verdict → Status
-number verdict.Done = status.Done
-number verdict.SomeRefused = status.SomeRefused
-number verdict.Usage = status.Usage
-number verdict.BadDefinition = status.BadDefinition
-number verdict.BadCatalogue = status.BadCatalogue
-number verdict.NoView = status.NoView
+abbrev pub verdict_status : Verdict → Status
+verdict_status verdict.Done = status.Done
+verdict_status verdict.SomeRefused = status.SomeRefused
+verdict_status verdict.Usage = status.Usage
+verdict_status verdict.BadDefinition = status.BadDefinition
+verdict_status verdict.BadCatalogue = status.BadCatalogue
+verdict_status verdict.NoView = status.NoView
 
 -- the status of an ending
 abbrev pub status_of : Result Verdict Halt → Status
-status_of (Ok v) = number v
+status_of (Ok v) = verdict_status v
 status_of (Err halt.InputFault) = status.ReadFault
 status_of (Err halt.TooLong) = status.TooLong
 status_of (Err (halt.Stopped stop.ReadFault)) = status.ReadFault
@@ -74,7 +74,7 @@ pub record GaveOut (c : Course) (bytes : List ℕ) (rest : Option (List ℕ)) (o
 
 -- all of it was done, and the status is that of its end
 pub record Finished (e : Ending) (old new : World) (s : Status) : Type 0 where
-  pub status : s ≡ number e.status
+  pub status : s ≡ verdict_status e.status
   pub done : contents new ≡ performed e.effects (contents old)
 
 -- what was done where a run ends so: all of it; or up to some place, where the one effect under way may have broken off; or exactly what the bytes taken ask for, which are 2^32 where the input is too long; or nothing, where the store could not be read
@@ -160,6 +160,12 @@ is_refused_status status.BadDefinition = true
 is_refused_status status.BadCatalogue = true
 is_refused_status status.NoView = true
 is_refused_status s = false
+
+-- whether a status says that a run ended since it could not read on
+abbrev pub is_unread_status : Status → Bool
+is_unread_status status.ReadFault = true
+is_unread_status status.TooLong = true
+is_unread_status s = false
 
 -- the input gave out, by its status: it was too long, or reading failed, though not that of the store
 abbrev pub GaveOutStatus : World → World → Status → Type 0

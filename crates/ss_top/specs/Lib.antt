@@ -14,4 +14,5 @@ pub mod Exit
 pub mod Places
 pub mod Promises
 pub mod Applies
+pub mod Between
 pub mod Clauses

@@ -3,9 +3,9 @@ use Rattle.std.specs.Prelude.{◌≡◌, ℕ, [], ◌∷◌, ◌++◌}
 use Rattle.outside.specs.Streams.{with_bytes}
 use Rattle.tab_lines.specs.Spelling.{spell}
 use Rattle.effects.specs.Effects.{World}
-use Rattle.course.specs.Machine.{Ending}
+use Rattle.course.specs.Answering.{Ending}
 use Rattle.course.specs.declared.status.Verdict.TheVariants as verdict
-use Rattle.run_lines.specs.Told.{says}
+use Rattle.run_lines.specs.Printing.{says}
 use Rattle.load_run.specs.Runs.{summary_of}
 use Rattle.load_run.specs.Summaries.{summary_row}
 

@@ -10,29 +10,29 @@ use Rattle.view_folder.specs.Files.{view_folder}
 use Rattle.view_folder.specs.Sync.{opening_sync, opening_count}
 use Rattle.course.specs.declared.status.Verdict.{Verdict}
 use Rattle.course.specs.declared.status.Verdict.TheVariants as verdict
-use Rattle.course.specs.Machine.{Reply, Goes, Halts, Ending}
+use Rattle.course.specs.Answering.{Reply, Continues, Finishes, Ending}
 use Rattle.ss_top.specs.Open.{OpenValue, just_opened}
-use Rattle.run_lines.specs.Told.{refuses, tells_synced}
-use Rattle.ss_top.specs.Stages.{Definition, IsRead, loaded_or_refused, refusal_of, files_of_view}
+use Rattle.run_lines.specs.Printing.{refuses, prints_synced}
+use Rattle.ss_top.specs.Stages.{DefinitionOrRefusal, ReadsAs, loaded_or_refused, refusal_of, files_of_view}
 
 -- the bytes of a definition, where it is there
 abbrev pub definition_bytes : Tree → Text → Option (List ℕ)
 definition_bytes t name = file_at t (codes "defs") (name ++ codes ".ssql")
 
 -- what a definition is: missing, or what its bytes are read as
-abbrev pub IsDefinition : Text → Option (List ℕ) → Definition → Type 0
+abbrev pub IsDefinition : Text → Option (List ℕ) → DefinitionOrRefusal → Type 0
 IsDefinition name None d = d ≡ Err (codes "no-definition" ∷ name ∷ [])
-IsDefinition name (Some bytes) d = IsRead bytes d
+IsDefinition name (Some bytes) d = ReadsAs bytes d
 
 abbrev pub halts : Row → Verdict → Reply OpenValue
-halts fields v = Halts (refuses fields ∷ []) v
+halts fields v = Finishes (refuses fields ∷ []) v
 
 -- the opening sync, and its count
 abbrev pub opening_effects : Text → List File → List Text → List Effect
-opening_effects folder files names = opening_sync folder files names ++ tells_synced (opening_count files names) ∷ []
+opening_effects folder files names = opening_sync folder files names ++ prints_synced (opening_count files names) ∷ []
 
 abbrev pub opened : Tree → Query → CatalogueValue → Reply OpenValue
-opened t q c = Goes (opening_effects (view_folder q.view_db) (files_of_view c q) (files_of t (view_folder q.view_db))) (just_opened q c)
+opened t q c = Continues (opening_effects (view_folder q.view_db) (files_of_view c q) (files_of t (view_folder q.view_db))) (just_opened q c)
 
 -- the view over a catalogue is refused, or it is opened
 abbrev pub with_view : Tree → Query → CatalogueValue → Option Row → Reply OpenValue
@@ -45,7 +45,7 @@ with_catalogue t q (Err fields) = halts fields verdict.BadCatalogue
 with_catalogue t q (Ok c) = with_view t q c (refusal_of c q)
 
 -- the definition is refused, or the catalogue is loaded
-abbrev pub opening : Tree → Definition → Reply OpenValue
+abbrev pub opening : Tree → DefinitionOrRefusal → Reply OpenValue
 opening t (Err fields) = halts fields verdict.BadDefinition
 opening t (Ok a) = with_catalogue t a.query (loaded_or_refused t)
 

@@ -2,10 +2,10 @@
 use Rattle.std.specs.Prelude.{◌≡◌, Bool, true, [], ◌∷◌, Option, Some}
 use Rattle.outside.specs.Tree.{Tree}
 use Rattle.course.specs.declared.status.Verdict.TheVariants as verdict
-use Rattle.course.specs.Machine.{ending}
+use Rattle.course.specs.Answering.{ending}
 use Rattle.ss_top.specs.Commands.{Asked, Check, Show, Maintain, Verify, Apply, Load, Other}
-use Rattle.run_lines.specs.Told.{tells_usage}
-use Rattle.ss_top.specs.Stages.{Definition}
+use Rattle.run_lines.specs.Printing.{prints_usage}
+use Rattle.ss_top.specs.Stages.{DefinitionOrRefusal}
 use Rattle.ss_top.specs.Opening.{IsDefinition, definition_bytes, opening, done_at_once}
 use Rattle.ss_top.specs.Checking.{checked}
 use Rattle.ss_top.specs.Verifying.{verified}
@@ -16,7 +16,7 @@ use Rattle.view_apply.specs.Applying as applying
 use Rattle.ss_top.specs.Course.{Course, unread, by_lines}
 
 -- what the definition that is asked for is
-abbrev pub IsAsked : Asked → Tree → Definition → Type 0
+abbrev pub IsAsked : Asked → Tree → DefinitionOrRefusal → Type 0
 IsAsked (Check name) t d = IsDefinition name (definition_bytes t name) d
 IsAsked (Show name) t d = IsDefinition name (definition_bytes t name) d
 IsAsked (Maintain name) t d = IsDefinition name (definition_bytes t name) d
@@ -27,22 +27,22 @@ IsAsked Other t d = Unit {0}
 
 -- the definition that is asked for is there to be judged
 pub record IsDefined (a : Asked) (t : Tree) : Type 0 where
-  pub definition : Definition
+  pub definition : DefinitionOrRefusal
   pub is : IsAsked a t definition
 
 -- and the course of a run with it
-abbrev pub course_of : Asked → Tree → Definition → Course
+abbrev pub course_of : Asked → Tree → DefinitionOrRefusal → Course
 course_of (Check name) t d = unread (checked d)
 course_of (Show name) t d = unread (ending done_at_once (opening t d))
 course_of (Maintain name) t d = by_lines step finish (opening t d)
 course_of (Verify name) t d = unread (verified t d)
 course_of (Apply name) t d = by_lines applying.step applying.finish (apply_opening t d)
 course_of (Load changes seed) t d = unread (loaded changes seed)
-course_of Other t d = unread (record { effects = tells_usage ∷ []; status = verdict.Usage })
+course_of Other t d = unread (record { effects = prints_usage ∷ []; status = verdict.Usage })
 
 -- this is the course of what is asked, over this tree
 pub record IsCourse (a : Asked) (t : Tree) (c : Course) : Type 0 where
-  pub definition : Definition
+  pub definition : DefinitionOrRefusal
   pub asked : IsAsked a t definition
   pub course : c ≡ course_of a t definition
 

@@ -20,25 +20,25 @@ use Rattle.ss_print.specs.Fields.{parse_fields, type_fields, load_fields, illega
 
 -- a definition that is accepted: as it is written, and as it is typed
 pub record Accepted : Type 0 where
-  pub written : tree.Tree
+  pub written : tree.ViewTree
   pub query : Query
 
 -- a definition, or the fields of its refusal
-abbrev pub Definition : Type 0
-Definition = Result Accepted Row
+abbrev pub DefinitionOrRefusal : Type 0
+DefinitionOrRefusal = Result Accepted Row
 
-abbrev pub by_typing : tree.Tree → Result Query TypeFault → Definition
+abbrev pub by_typing : tree.ViewTree → Result Query TypeFault → DefinitionOrRefusal
 by_typing v (Ok q) = Ok (record { written = v; query = q })
 by_typing v (Err f) = Err (type_fields f)
 
 -- a written view as it is typed
-unfoldable pub typed_or_refused : tree.Tree → Definition
+unfoldable pub typed_or_refused : tree.ViewTree → DefinitionOrRefusal
 typed_or_refused v = by_typing v (typed v)
 
 -- what bytes are read as: they are a view text, whose tree has a type or not; or they are none, and are refused where they cease to be one
-unfoldable pub IsRead : List ℕ → Definition → Type 0
-IsRead bytes d =
-    ((v : tree.Tree) × grammar.IsRead bytes v × (d ≡ typed_or_refused v))
+unfoldable pub ReadsAs : List ℕ → DefinitionOrRefusal → Type 0
+ReadsAs bytes d =
+    ((v : tree.ViewTree) × grammar.IsRead bytes v × (d ≡ typed_or_refused v))
     ⊎ ((f : ParseFault) × (f ≢ parse.NoMemory) × grammar.IsRefused bytes f × (d ≡ Err (parse_fields f)))
 
 abbrev pub by_loading : Result CatalogueValue LoadFault → Result CatalogueValue Row

@@ -13,7 +13,7 @@ use Rattle.course.specs.declared.status.Verdict.{Verdict}
 use Rattle.course.specs.declared.status.Verdict.TheVariants as verdict
 use Rattle.course.specs.declared.status.Halt.{Halt}
 use Rattle.course.specs.declared.status.Halt.TheVariants as halt
-use Rattle.course.specs.Machine.{Reply, Goes, Halts, effects_of}
+use Rattle.course.specs.Answering.{Reply, Continues, Finishes, effects_of}
 use Rattle.schema_model.specs.declared.change.Change.{Change}
 use Rattle.view_session.specs.declared.fault.OpenFault.{OpenFault}
 use Rattle.view_session.specs.declared.fault.OpenFault.TheVariants as open_fault
@@ -24,9 +24,9 @@ use Rattle.view_session.specs.declared.fault.HoldRefused.TheVariants as hold
 use Rattle.view_session.specs.declared.fault.Refused.{Refused}
 use Rattle.view_session.specs.declared.fault.Refused.TheVariants as refused
 use Rattle.ss_print.specs.Fields.{refusal_fields, illegal_fields, clash_fields}
-use Rattle.ss_top.specs.Course.{number, is_refused_status}
+use Rattle.ss_top.specs.Course.{verdict_status, is_refused_status}
 use Rattle.ss_top.specs.Open.{OpenValue, just_opened}
-use Rattle.ss_top.specs.Stages.{Definition}
+use Rattle.ss_top.specs.Stages.{DefinitionOrRefusal}
 use Rattle.ss_top.specs.declared.definition.Understood.{Understood}
 use Rattle.ss_top.specs.declared.definition.Understood.TheVariants as understood
 use Rattle.ss_top.specs.declared.sources.Loading.{Loading}
@@ -42,7 +42,7 @@ use Rattle.ss_top.specs.declared.opening.Opened.{Opened}
 use Rattle.ss_top.specs.declared.opening.Opened.TheVariants as opened_as
 
 -- a definition
-abbrev pub definition_of : Understood → Definition
+abbrev pub definition_of : Understood → DefinitionOrRefusal
 definition_of (understood.Accepted d) = Ok (record { written = tree_of d.text.value; query = query_of d.view.value })
 definition_of (understood.Refused fields) = Err fields
 
@@ -91,7 +91,7 @@ IsStopFieldsOf group_stop.NoMemory row = ⊥
 -- a run that an opening ended was refused
 abbrev pub IsRefusal : Opened → Type 0
 IsRefusal (opened_as.Open v) = Unit {0}
-IsRefusal (opened_as.Ended v) = is_refused_status (number v) ≡ true
+IsRefusal (opened_as.Ended v) = is_refused_status (verdict_status v) ≡ true
 
 -- nothing was done: the store was only read, and nothing was printed
 pub record Idle (old new : World) : Type 0 where
@@ -114,18 +114,18 @@ IdleRun r old new = Unit {0}
 
 -- what an opening did
 abbrev pub Opens : Reply OpenValue → World → World → Result Opened Stop → Type 0
-Opens (Goes es a) old new (Ok (opened_as.Open s)) = (contents new ≡ performed es (contents old)) × (s ≡ a)
-Opens (Goes es a) old new (Ok (opened_as.Ended v)) = ⊥
-Opens (Halts es w) old new (Ok (opened_as.Open s)) = ⊥
-Opens (Halts es w) old new (Ok (opened_as.Ended v)) = (contents new ≡ performed es (contents old)) × (v ≡ w)
+Opens (Continues es a) old new (Ok (opened_as.Open s)) = (contents new ≡ performed es (contents old)) × (s ≡ a)
+Opens (Continues es a) old new (Ok (opened_as.Ended v)) = ⊥
+Opens (Finishes es w) old new (Ok (opened_as.Open s)) = ⊥
+Opens (Finishes es w) old new (Ok (opened_as.Ended v)) = (contents new ≡ performed es (contents old)) × (v ≡ w)
 Opens r old new (Err e) = Partly (effects_of r) (contents old) (contents new)
 
 -- what the opening of a view's folder did
 abbrev pub FolderOpens : Reply ApplyState → World → World → Result Folder Stop → Type 0
-FolderOpens (Goes es a) old new (Ok (folder.Open s)) = (contents new ≡ performed es (contents old)) × (s ≡ a)
-FolderOpens (Goes es a) old new (Ok (folder.Ended v)) = ⊥
-FolderOpens (Halts es w) old new (Ok (folder.Open s)) = ⊥
-FolderOpens (Halts es w) old new (Ok (folder.Ended v)) = (contents new ≡ performed es (contents old)) × (v ≡ w)
+FolderOpens (Continues es a) old new (Ok (folder.Open s)) = (contents new ≡ performed es (contents old)) × (s ≡ a)
+FolderOpens (Continues es a) old new (Ok (folder.Ended v)) = ⊥
+FolderOpens (Finishes es w) old new (Ok (folder.Open s)) = ⊥
+FolderOpens (Finishes es w) old new (Ok (folder.Ended v)) = (contents new ≡ performed es (contents old)) × (v ≡ w)
 FolderOpens r old new (Err e) = Partly (effects_of r) (contents old) (contents new)
 
 -- a run that such an opening ended was refused for its definition or for the folder

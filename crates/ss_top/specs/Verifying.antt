@@ -9,15 +9,15 @@ use Rattle.view_folder.specs.Comparison.{comparison}
 use Rattle.view_folder.specs.declared.comparison.Comparison.{Comparison}
 use Rattle.view_folder.specs.declared.comparison.Comparison.TheVariants as compared
 use Rattle.course.specs.declared.status.Verdict.TheVariants as verdict
-use Rattle.course.specs.Machine.{Ending}
+use Rattle.course.specs.Answering.{Ending}
 use Rattle.ss_top.specs.Checking.{ends}
-use Rattle.run_lines.specs.Told.{refuses, tells_same, tells_difference}
-use Rattle.ss_top.specs.Stages.{Definition, loaded_or_refused, refusal_of, files_of_view}
+use Rattle.run_lines.specs.Printing.{refuses, prints_same, prints_difference}
+use Rattle.ss_top.specs.Stages.{DefinitionOrRefusal, loaded_or_refused, refusal_of, files_of_view}
 
 -- how a folder compares, and the end
 abbrev pub by_comparison : Comparison → Ending
-by_comparison (compared.Same count) = ends (tells_same count) verdict.Done
-by_comparison (compared.Differs file held meant) = ends (tells_difference file held meant) verdict.NoView
+by_comparison (compared.Same count) = ends (prints_same count) verdict.Done
+by_comparison (compared.Differs file held meant) = ends (prints_difference file held meant) verdict.NoView
 
 -- the view over a catalogue is refused, or its folder is compared with its files
 abbrev pub verified_view : Tree → Query → CatalogueValue → Option Row → Ending
@@ -30,6 +30,6 @@ verified_over t q (Err fields) = ends (refuses fields) verdict.BadCatalogue
 verified_over t q (Ok c) = verified_view t q c (refusal_of c q)
 
 -- the definition is refused, or the catalogue is loaded
-abbrev pub verified : Tree → Definition → Ending
+abbrev pub verified : Tree → DefinitionOrRefusal → Ending
 verified t (Err fields) = ends (refuses fields) verdict.BadDefinition
 verified t (Ok a) = verified_over t a.query (loaded_or_refused t)

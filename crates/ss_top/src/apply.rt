@@ -3,11 +3,11 @@ ghost use Rattle.std.specs.Prelude.{◌≡◌, true, List, ℕ, Some, IfOk, OnEr
 ghost use Rattle.effects.specs.Effects.{world_of};
 ghost use Rattle.effects.specs.Blame.{Blames};
 ghost use Rattle.outside.specs.Tree.{Tree};
-ghost use Rattle.course.specs.Machine.{BlamesRun};
+ghost use Rattle.course.specs.Answering.{BlamesRun};
 ghost use Rattle.view_def.specs.Query.{query_of};
 ghost use Rattle.valuation_meaning.specs.Meaning.{shape_of};
 ghost use Rattle.view_apply.specs.Applying.{step, finish, opening};
-ghost use Rattle.ss_top.specs.Stages.{Definition};
+ghost use Rattle.ss_top.specs.Stages.{DefinitionOrRefusal};
 ghost use Rattle.ss_top.specs.Opening.{IsDefinition, definition_bytes};
 ghost use Rattle.ss_top.specs.Applies.{apply_opening};
 ghost use Rattle.ss_top.specs.Commands.{can_apply};
@@ -16,7 +16,7 @@ ghost use Rattle.ss_top.specs.Course.{RanBy, RanSome, Took, by_lines, status_of,
 
 use crate::accepted;
 use crate::definition::{Understood, read_definition};
-use course::{Halt, Verdict, drive};
+use course::{Halt, Verdict, answer_lines};
 use effects::Stop;
 use outside::{Folders, Sink, Source};
 use run_lines::refuse;
@@ -41,7 +41,7 @@ fn open<F: Folders, K: Sink>(
     output: &mut K,
     name: &Text,
 ) -> Result<Folder, Stop>
-    ensures opens { (t : Tree) (d : Definition) → (F.state store.old).tree ≡ Some t → IsDefinition name.now (definition_bytes t name.now) d → FolderOpens (apply_opening t d) (world_of (F.state store.old) (K.state output.old)) (world_of (F.state store.new) (K.state output.new)) result }
+    ensures opens { (t : Tree) (d : DefinitionOrRefusal) → (F.state store.old).tree ≡ Some t → IsDefinition name.now (definition_bytes t name.now) d → FolderOpens (apply_opening t d) (world_of (F.state store.old) (K.state output.old)) (world_of (F.state store.new) (K.state output.new)) result }
     ensures refused { IfOk result IsFolderRefusal }
     ensures idle { IdleUnread result (world_of (F.state store.old) (K.state output.old)) (world_of (F.state store.new) (K.state output.new)) }
     ensures blames { Blames (world_of (F.state store.old) (K.state output.old)) (world_of (F.state store.new) (K.state output.new)) result }
@@ -89,17 +89,17 @@ pub(crate) fn apply<F: Folders, S: Source, K: Sink, L: Ledger>(
     name: &Text,
     steps: &mut Steps<L>,
 ) -> Result<Verdict, Halt>
-    ensures ran { (t : Tree) (bytes : List ℕ) (d : Definition) → (F.state store.old).tree ≡ Some t → S.rest input.old ≡ Some bytes → IsDefinition name.now (definition_bytes t name.now) d → RanBy (by_lines step finish (apply_opening t d)) bytes (S.rest input.new) (world_of (F.state store.old) (K.state output.old)) (world_of (F.state store.new) (K.state output.new)) result }
+    ensures ran { (t : Tree) (bytes : List ℕ) (d : DefinitionOrRefusal) → (F.state store.old).tree ≡ Some t → S.rest input.old ≡ Some bytes → IsDefinition name.now (definition_bytes t name.now) d → RanBy (by_lines step finish (apply_opening t d)) bytes (S.rest input.new) (world_of (F.state store.old) (K.state output.old)) (world_of (F.state store.new) (K.state output.new)) result }
     ensures can { can_apply (status_of result) ≡ true }
-    ensures some { (t : Tree) (d : Definition) → (F.state store.old).tree ≡ Some t → IsDefinition name.now (definition_bytes t name.now) d → RanSome (by_lines step finish (apply_opening t d)) (world_of (F.state store.old) (K.state output.old)) (world_of (F.state store.new) (K.state output.new)) result }
-    ensures took { (t : Tree) (bytes : List ℕ) (d : Definition) → (F.state store.old).tree ≡ Some t → S.rest input.old ≡ Some bytes → IsDefinition name.now (definition_bytes t name.now) d → OnErr result (Took (by_lines step finish (apply_opening t d)) bytes (S.rest input.new) (world_of (F.state store.old) (K.state output.old)) (world_of (F.state store.new) (K.state output.new))) }
+    ensures some { (t : Tree) (d : DefinitionOrRefusal) → (F.state store.old).tree ≡ Some t → IsDefinition name.now (definition_bytes t name.now) d → RanSome (by_lines step finish (apply_opening t d)) (world_of (F.state store.old) (K.state output.old)) (world_of (F.state store.new) (K.state output.new)) result }
+    ensures took { (t : Tree) (bytes : List ℕ) (d : DefinitionOrRefusal) → (F.state store.old).tree ≡ Some t → S.rest input.old ≡ Some bytes → IsDefinition name.now (definition_bytes t name.now) d → OnErr result (Took (by_lines step finish (apply_opening t d)) bytes (S.rest input.new) (world_of (F.state store.old) (K.state output.old)) (world_of (F.state store.new) (K.state output.new))) }
     ensures idle { IdleRun result (world_of (F.state store.old) (K.state output.old)) (world_of (F.state store.new) (K.state output.new)) }
     ensures whole { (bytes : List ℕ) → S.rest input.old ≡ Some bytes → IsWholeInput bytes (S.rest input.new) result }
     ensures blames { BlamesRun (S.faults input.old) (S.faults input.new) (world_of (F.state store.old) (K.state output.old)) (world_of (F.state store.new) (K.state output.new)) result }
     ensures steps { steps.new ≡ steps.old }
 {
     match open(alloc, store, output, name)? {
-        Folder::Open(mut tables) => drive(alloc, &mut tables, store, input, output, steps),
+        Folder::Open(mut tables) => answer_lines(alloc, &mut tables, store, input, output, steps),
         Folder::Ended(verdict) => Ok(verdict),
     }
 }

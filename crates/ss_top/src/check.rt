@@ -4,12 +4,12 @@ ghost use Rattle.effects.specs.Effects.{world_of};
 ghost use Rattle.outside.specs.Reading.{OnlyRead};
 ghost use Rattle.outside.specs.Tree.{Tree};
 ghost use Rattle.effects.specs.Blame.{Blames};
-ghost use Rattle.course.specs.Machine.{Ended};
-ghost use Rattle.ss_top.specs.Stages.{Definition};
+ghost use Rattle.course.specs.Answering.{Ended};
+ghost use Rattle.ss_top.specs.Stages.{DefinitionOrRefusal};
 ghost use Rattle.ss_top.specs.Opening.{IsDefinition, definition_bytes};
 ghost use Rattle.ss_top.specs.Checking.{checked};
 ghost use Rattle.ss_top.specs.Commands.{can_check};
-ghost use Rattle.ss_top.specs.Course.{number};
+ghost use Rattle.ss_top.specs.Course.{verdict_status};
 ghost use Rattle.ss_top.specs.Steps.{IdleUnread};
 
 use crate::definition::{Understood, read_definition};
@@ -29,8 +29,8 @@ pub(crate) fn check<F: Folders, K: Sink>(
     output: &mut K,
     name: &Text,
 ) -> Result<Verdict, Stop>
-    ensures ended { (t : Tree) (d : Definition) → (F.state store.old).tree ≡ Some t → IsDefinition name.now (definition_bytes t name.now) d → Ended (checked d) (world_of (F.state store.old) (K.state output.old)) (world_of (F.state store.new) (K.state output.new)) result }
-    ensures can { IfOk result (λ v. can_check (number v) ≡ true) }
+    ensures ended { (t : Tree) (d : DefinitionOrRefusal) → (F.state store.old).tree ≡ Some t → IsDefinition name.now (definition_bytes t name.now) d → Ended (checked d) (world_of (F.state store.old) (K.state output.old)) (world_of (F.state store.new) (K.state output.new)) result }
+    ensures can { IfOk result (λ v. can_check (verdict_status v) ≡ true) }
     ensures idle { IdleUnread result (world_of (F.state store.old) (K.state output.old)) (world_of (F.state store.new) (K.state output.new)) }
     ensures only_read { OnlyRead (F.state store.old) (F.state store.new) }
     ensures blames { Blames (world_of (F.state store.old) (K.state output.old)) (world_of (F.state store.new) (K.state output.new)) result }

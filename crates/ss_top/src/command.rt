@@ -3,12 +3,12 @@ ghost use Rattle.std.specs.Prelude.{◌≡◌, ◌≢◌, List, ℕ, [], ◌∷�
 ghost use Rattle.effects.specs.Effects.{world_of};
 ghost use Rattle.outside.specs.Reading.{OnlyRead};
 ghost use Rattle.outside.specs.Tree.{Tree};
-ghost use Rattle.course.specs.Machine.{Ended, BlamesRun};
+ghost use Rattle.course.specs.Answering.{Ended, BlamesRun};
 ghost use Rattle.course.specs.declared.status.Verdict.TheVariants.{Usage};
 ghost use Rattle.effects.specs.Blame.{Blames};
-ghost use Rattle.run_lines.specs.Told.{tells_usage};
+ghost use Rattle.run_lines.specs.Printing.{prints_usage};
 ghost use Rattle.ss_top.specs.Commands.{Asked, asked_of, command_named, command_counted, uses_store, only_reads, reads_input, can_end};
-ghost use Rattle.ss_top.specs.Stages.{Definition};
+ghost use Rattle.ss_top.specs.Stages.{DefinitionOrRefusal};
 ghost use Rattle.ss_top.specs.Course.{RanBy, RanSome, Took, status_of, IsWholeInput};
 ghost use Rattle.ss_top.specs.Runs.{IsAsked, course_of, Told};
 ghost use Rattle.ss_top.specs.Steps.{IdleRun};
@@ -22,7 +22,7 @@ use crate::verify::verify;
 use course::{Halt, Verdict};
 use effects::Stop;
 use outside::{Folders, Sink, Source};
-use run_lines::tell_usage;
+use run_lines::print_usage;
 use ss_text::{Steps, Text, table_label_legal};
 use std::alloc::Global;
 use std::sync::ledger::Ledger;
@@ -34,13 +34,13 @@ fn usage<F: Folders, K: Sink>(
     _store: &mut F,
     output: &mut K,
 ) -> Result<Verdict, Stop>
-    ensures ended { Ended (record { effects = tells_usage ∷ []; status = Usage }) (world_of (F.state _store.old) (K.state output.old)) (world_of (F.state _store.new) (K.state output.new)) result }
+    ensures ended { Ended (record { effects = prints_usage ∷ []; status = Usage }) (world_of (F.state _store.old) (K.state output.old)) (world_of (F.state _store.new) (K.state output.new)) result }
     ensures blames { Blames (world_of (F.state _store.old) (K.state output.old)) (world_of (F.state _store.new) (K.state output.new)) result }
     ensures no_read { IfErr result (λ e. e ≢ Stop.ReadFault) }
     ensures verdict { IfOk result (λ v. v ≡ Usage) }
     ensures store { F.state _store.new ≡ F.state _store.old }
 {
-    tell_usage(alloc, output)?;
+    print_usage(alloc, output)?;
     Ok(Verdict::Usage)
 }
 
@@ -55,12 +55,12 @@ fn run_named<F: Folders, S: Source, K: Sink, L: Ledger>(
     output: &mut K,
     steps: &mut Steps<L>,
 ) -> Result<Verdict, Halt>
-    ensures ran { (t : Tree) (bytes : List ℕ) (d : Definition) → Told (uses_store (command_named word.now name.now)) (F.state store.old).tree t → Told (reads_input (command_named word.now name.now)) (S.rest input.old) bytes → IsAsked (command_named word.now name.now) t d → RanBy (course_of (command_named word.now name.now) t d) bytes (S.rest input.new) (world_of (F.state store.old) (K.state output.old)) (world_of (F.state store.new) (K.state output.new)) result }
+    ensures ran { (t : Tree) (bytes : List ℕ) (d : DefinitionOrRefusal) → Told (uses_store (command_named word.now name.now)) (F.state store.old).tree t → Told (reads_input (command_named word.now name.now)) (S.rest input.old) bytes → IsAsked (command_named word.now name.now) t d → RanBy (course_of (command_named word.now name.now) t d) bytes (S.rest input.new) (world_of (F.state store.old) (K.state output.old)) (world_of (F.state store.new) (K.state output.new)) result }
     ensures blames { BlamesRun (S.faults input.old) (S.faults input.new) (world_of (F.state store.old) (K.state output.old)) (world_of (F.state store.new) (K.state output.new)) result }
     ensures steps { steps.new ≡ steps.old }
     ensures can { can_end (command_named word.now name.now) (status_of result) ≡ true }
-    ensures some { (t : Tree) (d : Definition) → Told (uses_store (command_named word.now name.now)) (F.state store.old).tree t → IsAsked (command_named word.now name.now) t d → RanSome (course_of (command_named word.now name.now) t d) (world_of (F.state store.old) (K.state output.old)) (world_of (F.state store.new) (K.state output.new)) result }
-    ensures took { (t : Tree) (bytes : List ℕ) (d : Definition) → Told (uses_store (command_named word.now name.now)) (F.state store.old).tree t → reads_input (command_named word.now name.now) ≡ true → S.rest input.old ≡ Some bytes → IsAsked (command_named word.now name.now) t d → OnErr result (Took (course_of (command_named word.now name.now) t d) bytes (S.rest input.new) (world_of (F.state store.old) (K.state output.old)) (world_of (F.state store.new) (K.state output.new))) }
+    ensures some { (t : Tree) (d : DefinitionOrRefusal) → Told (uses_store (command_named word.now name.now)) (F.state store.old).tree t → IsAsked (command_named word.now name.now) t d → RanSome (course_of (command_named word.now name.now) t d) (world_of (F.state store.old) (K.state output.old)) (world_of (F.state store.new) (K.state output.new)) result }
+    ensures took { (t : Tree) (bytes : List ℕ) (d : DefinitionOrRefusal) → Told (uses_store (command_named word.now name.now)) (F.state store.old).tree t → reads_input (command_named word.now name.now) ≡ true → S.rest input.old ≡ Some bytes → IsAsked (command_named word.now name.now) t d → OnErr result (Took (course_of (command_named word.now name.now) t d) bytes (S.rest input.new) (world_of (F.state store.old) (K.state output.old)) (world_of (F.state store.new) (K.state output.new))) }
     ensures idle { IdleRun result (world_of (F.state store.old) (K.state output.old)) (world_of (F.state store.new) (K.state output.new)) }
     ensures whole { (bytes : List ℕ) → reads_input (command_named word.now name.now) ≡ true → S.rest input.old ≡ Some bytes → IsWholeInput bytes (S.rest input.new) result }
     ensures only_read { only_reads (command_named word.now name.now) ≡ true → OnlyRead (F.state store.old) (F.state store.new) }
@@ -102,12 +102,12 @@ fn run_counted<F: Folders, S: Source, K: Sink, L: Ledger>(
     output: &mut K,
     steps: &mut Steps<L>,
 ) -> Result<Verdict, Halt>
-    ensures ran { (t : Tree) (bytes : List ℕ) (d : Definition) → Told (uses_store (command_counted word.now changes.now seed.now)) (F.state store.old).tree t → Told (reads_input (command_counted word.now changes.now seed.now)) (S.rest input.old) bytes → IsAsked (command_counted word.now changes.now seed.now) t d → RanBy (course_of (command_counted word.now changes.now seed.now) t d) bytes (S.rest input.new) (world_of (F.state store.old) (K.state output.old)) (world_of (F.state store.new) (K.state output.new)) result }
+    ensures ran { (t : Tree) (bytes : List ℕ) (d : DefinitionOrRefusal) → Told (uses_store (command_counted word.now changes.now seed.now)) (F.state store.old).tree t → Told (reads_input (command_counted word.now changes.now seed.now)) (S.rest input.old) bytes → IsAsked (command_counted word.now changes.now seed.now) t d → RanBy (course_of (command_counted word.now changes.now seed.now) t d) bytes (S.rest input.new) (world_of (F.state store.old) (K.state output.old)) (world_of (F.state store.new) (K.state output.new)) result }
     ensures blames { BlamesRun (S.faults input.old) (S.faults input.new) (world_of (F.state store.old) (K.state output.old)) (world_of (F.state store.new) (K.state output.new)) result }
     ensures steps { steps.new ≡ steps.old }
     ensures can { can_end (command_counted word.now changes.now seed.now) (status_of result) ≡ true }
-    ensures some { (t : Tree) (d : Definition) → Told (uses_store (command_counted word.now changes.now seed.now)) (F.state store.old).tree t → IsAsked (command_counted word.now changes.now seed.now) t d → RanSome (course_of (command_counted word.now changes.now seed.now) t d) (world_of (F.state store.old) (K.state output.old)) (world_of (F.state store.new) (K.state output.new)) result }
-    ensures took { (t : Tree) (bytes : List ℕ) (d : Definition) → Told (uses_store (command_counted word.now changes.now seed.now)) (F.state store.old).tree t → reads_input (command_counted word.now changes.now seed.now) ≡ true → S.rest input.old ≡ Some bytes → IsAsked (command_counted word.now changes.now seed.now) t d → OnErr result (Took (course_of (command_counted word.now changes.now seed.now) t d) bytes (S.rest input.new) (world_of (F.state store.old) (K.state output.old)) (world_of (F.state store.new) (K.state output.new))) }
+    ensures some { (t : Tree) (d : DefinitionOrRefusal) → Told (uses_store (command_counted word.now changes.now seed.now)) (F.state store.old).tree t → IsAsked (command_counted word.now changes.now seed.now) t d → RanSome (course_of (command_counted word.now changes.now seed.now) t d) (world_of (F.state store.old) (K.state output.old)) (world_of (F.state store.new) (K.state output.new)) result }
+    ensures took { (t : Tree) (bytes : List ℕ) (d : DefinitionOrRefusal) → Told (uses_store (command_counted word.now changes.now seed.now)) (F.state store.old).tree t → reads_input (command_counted word.now changes.now seed.now) ≡ true → S.rest input.old ≡ Some bytes → IsAsked (command_counted word.now changes.now seed.now) t d → OnErr result (Took (course_of (command_counted word.now changes.now seed.now) t d) bytes (S.rest input.new) (world_of (F.state store.old) (K.state output.old)) (world_of (F.state store.new) (K.state output.new))) }
     ensures idle { IdleRun result (world_of (F.state store.old) (K.state output.old)) (world_of (F.state store.new) (K.state output.new)) }
     ensures whole { (bytes : List ℕ) → reads_input (command_counted word.now changes.now seed.now) ≡ true → S.rest input.old ≡ Some bytes → IsWholeInput bytes (S.rest input.new) result }
     ensures only_read { only_reads (command_counted word.now changes.now seed.now) ≡ true → OnlyRead (F.state store.old) (F.state store.new) }
@@ -136,12 +136,12 @@ pub(crate) fn run_words<F: Folders, S: Source, K: Sink, L: Ledger>(
     output: &mut K,
     steps: &mut Steps<L>,
 ) -> Result<Verdict, Halt>
-    ensures ran { (t : Tree) (bytes : List ℕ) (d : Definition) → Told (uses_store (asked_of words.now)) (F.state store.old).tree t → Told (reads_input (asked_of words.now)) (S.rest input.old) bytes → IsAsked (asked_of words.now) t d → RanBy (course_of (asked_of words.now) t d) bytes (S.rest input.new) (world_of (F.state store.old) (K.state output.old)) (world_of (F.state store.new) (K.state output.new)) result }
+    ensures ran { (t : Tree) (bytes : List ℕ) (d : DefinitionOrRefusal) → Told (uses_store (asked_of words.now)) (F.state store.old).tree t → Told (reads_input (asked_of words.now)) (S.rest input.old) bytes → IsAsked (asked_of words.now) t d → RanBy (course_of (asked_of words.now) t d) bytes (S.rest input.new) (world_of (F.state store.old) (K.state output.old)) (world_of (F.state store.new) (K.state output.new)) result }
     ensures blames { BlamesRun (S.faults input.old) (S.faults input.new) (world_of (F.state store.old) (K.state output.old)) (world_of (F.state store.new) (K.state output.new)) result }
     ensures steps { steps.new ≡ steps.old }
     ensures can { can_end (asked_of words.now) (status_of result) ≡ true }
-    ensures some { (t : Tree) (d : Definition) → Told (uses_store (asked_of words.now)) (F.state store.old).tree t → IsAsked (asked_of words.now) t d → RanSome (course_of (asked_of words.now) t d) (world_of (F.state store.old) (K.state output.old)) (world_of (F.state store.new) (K.state output.new)) result }
-    ensures took { (t : Tree) (bytes : List ℕ) (d : Definition) → Told (uses_store (asked_of words.now)) (F.state store.old).tree t → reads_input (asked_of words.now) ≡ true → S.rest input.old ≡ Some bytes → IsAsked (asked_of words.now) t d → OnErr result (Took (course_of (asked_of words.now) t d) bytes (S.rest input.new) (world_of (F.state store.old) (K.state output.old)) (world_of (F.state store.new) (K.state output.new))) }
+    ensures some { (t : Tree) (d : DefinitionOrRefusal) → Told (uses_store (asked_of words.now)) (F.state store.old).tree t → IsAsked (asked_of words.now) t d → RanSome (course_of (asked_of words.now) t d) (world_of (F.state store.old) (K.state output.old)) (world_of (F.state store.new) (K.state output.new)) result }
+    ensures took { (t : Tree) (bytes : List ℕ) (d : DefinitionOrRefusal) → Told (uses_store (asked_of words.now)) (F.state store.old).tree t → reads_input (asked_of words.now) ≡ true → S.rest input.old ≡ Some bytes → IsAsked (asked_of words.now) t d → OnErr result (Took (course_of (asked_of words.now) t d) bytes (S.rest input.new) (world_of (F.state store.old) (K.state output.old)) (world_of (F.state store.new) (K.state output.new))) }
     ensures idle { IdleRun result (world_of (F.state store.old) (K.state output.old)) (world_of (F.state store.new) (K.state output.new)) }
     ensures whole { (bytes : List ℕ) → reads_input (asked_of words.now) ≡ true → S.rest input.old ≡ Some bytes → IsWholeInput bytes (S.rest input.new) result }
     ensures only_read { only_reads (asked_of words.now) ≡ true → OnlyRead (F.state store.old) (F.state store.new) }

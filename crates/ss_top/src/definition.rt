@@ -7,7 +7,7 @@ ghost use Rattle.effects.specs.Effects.{Does, world_of};
 ghost use Rattle.effects.specs.Blame.{StoreBlames};
 ghost use Rattle.view_def.specs.Tree.{tree_of};
 ghost use Rattle.ss_top.specs.Stages;
-ghost use Rattle.ss_top.specs.Stages.{IsRead, typed_or_refused};
+ghost use Rattle.ss_top.specs.Stages.{ReadsAs, typed_or_refused};
 ghost use Rattle.ss_top.specs.Opening.{IsDefinition, definition_bytes};
 ghost use Rattle.ss_print.specs.Fields.{parse_fields, type_fields};
 ghost use Rattle.ss_parser.specs.declared.fault.ParseFault.TheVariants.{NoMemory as UnreadNoMemory};
@@ -38,7 +38,7 @@ pub(crate) fn read_definition<F: Folders>(
     store: &mut F,
     name: &Text,
 ) -> Result<Understood, Stop>
-    ensures told { IfOk result (λ r. (t : Tree) (d : Stages.Definition) → (F.state store.old).tree ≡ Some t → IsDefinition name.now (definition_bytes t name.now) d → definition_of r ≡ d) }
+    ensures told { IfOk result (λ r. (t : Tree) (d : Stages.DefinitionOrRefusal) → (F.state store.old).tree ≡ Some t → IsDefinition name.now (definition_bytes t name.now) d → definition_of r ≡ d) }
     ensures does { (o : _) → Does [] (world_of (F.state store.old) o) (world_of (F.state store.new) o) result }
     ensures only_read { OnlyRead (F.state store.old) (F.state store.new) }
     ensures blames { StoreBlames (F.state store.old) (F.state store.new) result }
@@ -60,7 +60,7 @@ pub(crate) fn read_definition<F: Folders>(
 // What the bytes of a definition are read as.
 #[tactic(auto, using(crate::proofs::DefinitionLemmas::read_as, crate::proofs::DefinitionLemmas::refused_as))]
 fn understand(alloc: Global, bytes: &[u8]) -> Result<Understood, NoMemory>
-    ensures { IfOk result (λ r. (d : Stages.Definition) → IsRead bytes.now d → definition_of r ≡ d) }
+    ensures { IfOk result (λ r. (d : Stages.DefinitionOrRefusal) → ReadsAs bytes.now d → definition_of r ≡ d) }
 {
     match parse(alloc, bytes) {
         Ok(text) => {

@@ -2,7 +2,7 @@
 ghost use Rattle.std.specs.Prelude.{◌≡◌, ◌≢◌, IfSome, IfNone, IfOk, IfErr};
 ghost use Rattle.effects.specs.Effects.{world_of};
 ghost use Rattle.effects.specs.Blame.{Blames};
-ghost use Rattle.course.specs.Machine.{Ended};
+ghost use Rattle.course.specs.Answering.{Ended};
 ghost use Rattle.course.specs.declared.status.Verdict.TheVariants.{Done};
 ghost use Rattle.ss_top.specs.Commands.{Load, Other, command_counted};
 ghost use Rattle.ss_top.specs.Loads.{loaded};

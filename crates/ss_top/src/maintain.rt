@@ -2,8 +2,8 @@
 ghost use Rattle.std.specs.Prelude.{◌≡◌, true, List, ℕ, Some, OnErr};
 ghost use Rattle.effects.specs.Effects.{world_of};
 ghost use Rattle.outside.specs.Tree.{Tree};
-ghost use Rattle.course.specs.Machine.{BlamesRun};
-ghost use Rattle.ss_top.specs.Stages.{Definition};
+ghost use Rattle.course.specs.Answering.{BlamesRun};
+ghost use Rattle.ss_top.specs.Stages.{DefinitionOrRefusal};
 ghost use Rattle.ss_top.specs.Opening.{IsDefinition, definition_bytes, opening};
 ghost use Rattle.ss_top.specs.Answers.{step, finish};
 ghost use Rattle.ss_top.specs.Commands.{can_maintain};
@@ -11,7 +11,7 @@ ghost use Rattle.ss_top.specs.Steps.{IdleRun};
 ghost use Rattle.ss_top.specs.Course.{RanBy, RanSome, Took, by_lines, status_of, IsWholeInput};
 
 use crate::opening::{Opened, open};
-use course::{Halt, Verdict, drive};
+use course::{Halt, Verdict, answer_lines};
 use outside::{Folders, Sink, Source};
 use ss_text::{Steps, Text};
 use std::alloc::Global;
@@ -27,17 +27,17 @@ pub(crate) fn maintain<F: Folders, S: Source, K: Sink, L: Ledger>(
     name: &Text,
     steps: &mut Steps<L>,
 ) -> Result<Verdict, Halt>
-    ensures ran { (t : Tree) (bytes : List ℕ) (d : Definition) → (F.state store.old).tree ≡ Some t → S.rest input.old ≡ Some bytes → IsDefinition name.now (definition_bytes t name.now) d → RanBy (by_lines step finish (opening t d)) bytes (S.rest input.new) (world_of (F.state store.old) (K.state output.old)) (world_of (F.state store.new) (K.state output.new)) result }
+    ensures ran { (t : Tree) (bytes : List ℕ) (d : DefinitionOrRefusal) → (F.state store.old).tree ≡ Some t → S.rest input.old ≡ Some bytes → IsDefinition name.now (definition_bytes t name.now) d → RanBy (by_lines step finish (opening t d)) bytes (S.rest input.new) (world_of (F.state store.old) (K.state output.old)) (world_of (F.state store.new) (K.state output.new)) result }
     ensures can { can_maintain (status_of result) ≡ true }
-    ensures some { (t : Tree) (d : Definition) → (F.state store.old).tree ≡ Some t → IsDefinition name.now (definition_bytes t name.now) d → RanSome (by_lines step finish (opening t d)) (world_of (F.state store.old) (K.state output.old)) (world_of (F.state store.new) (K.state output.new)) result }
-    ensures took { (t : Tree) (bytes : List ℕ) (d : Definition) → (F.state store.old).tree ≡ Some t → S.rest input.old ≡ Some bytes → IsDefinition name.now (definition_bytes t name.now) d → OnErr result (Took (by_lines step finish (opening t d)) bytes (S.rest input.new) (world_of (F.state store.old) (K.state output.old)) (world_of (F.state store.new) (K.state output.new))) }
+    ensures some { (t : Tree) (d : DefinitionOrRefusal) → (F.state store.old).tree ≡ Some t → IsDefinition name.now (definition_bytes t name.now) d → RanSome (by_lines step finish (opening t d)) (world_of (F.state store.old) (K.state output.old)) (world_of (F.state store.new) (K.state output.new)) result }
+    ensures took { (t : Tree) (bytes : List ℕ) (d : DefinitionOrRefusal) → (F.state store.old).tree ≡ Some t → S.rest input.old ≡ Some bytes → IsDefinition name.now (definition_bytes t name.now) d → OnErr result (Took (by_lines step finish (opening t d)) bytes (S.rest input.new) (world_of (F.state store.old) (K.state output.old)) (world_of (F.state store.new) (K.state output.new))) }
     ensures idle { IdleRun result (world_of (F.state store.old) (K.state output.old)) (world_of (F.state store.new) (K.state output.new)) }
     ensures whole { (bytes : List ℕ) → S.rest input.old ≡ Some bytes → IsWholeInput bytes (S.rest input.new) result }
     ensures blames { BlamesRun (S.faults input.old) (S.faults input.new) (world_of (F.state store.old) (K.state output.old)) (world_of (F.state store.new) (K.state output.new)) result }
     ensures steps { steps.new ≡ steps.old }
 {
     match open(alloc, store, output, name)? {
-        Opened::Open(mut view) => drive(alloc, &mut view, store, input, output, steps),
+        Opened::Open(mut view) => answer_lines(alloc, &mut view, store, input, output, steps),
         Opened::Ended(verdict) => Ok(verdict),
     }
 }

@@ -5,7 +5,7 @@ ghost use Rattle.outside.specs.Tree.{Tree};
 ghost use Rattle.effects.specs.Blame.{Blames};
 ghost use Rattle.view_def.specs.Query.{query_of};
 ghost use Rattle.ss_top.specs.Stages.{refusal_of, loaded_or_refused};
-ghost use Rattle.ss_top.specs.Stages.{Definition};
+ghost use Rattle.ss_top.specs.Stages.{DefinitionOrRefusal};
 ghost use Rattle.ss_top.specs.Opening.{IsDefinition, definition_bytes, opening, with_catalogue, with_view};
 ghost use Rattle.ss_top.specs.Steps.{Opens, Views, IsOpenFieldsOf, IsRefusal, IdleUnread};
 
@@ -45,7 +45,7 @@ pub(crate) fn open<F: Folders, K: Sink>(
     output: &mut K,
     name: &Text,
 ) -> Result<Opened, Stop>
-    ensures opens { (t : Tree) (d : Definition) → (F.state store.old).tree ≡ Some t → IsDefinition name.now (definition_bytes t name.now) d → Opens (opening t d) (world_of (F.state store.old) (K.state output.old)) (world_of (F.state store.new) (K.state output.new)) result }
+    ensures opens { (t : Tree) (d : DefinitionOrRefusal) → (F.state store.old).tree ≡ Some t → IsDefinition name.now (definition_bytes t name.now) d → Opens (opening t d) (world_of (F.state store.old) (K.state output.old)) (world_of (F.state store.new) (K.state output.new)) result }
     ensures refused { IfOk result IsRefusal }
     ensures idle { IdleUnread result (world_of (F.state store.old) (K.state output.old)) (world_of (F.state store.new) (K.state output.new)) }
     ensures blames { Blames (world_of (F.state store.old) (K.state output.old)) (world_of (F.state store.new) (K.state output.new)) result }

@@ -3,11 +3,11 @@ ghost use Rattle.std.specs.Prelude.{◌≡◌, true, Some, IfOk};
 ghost use Rattle.effects.specs.Effects.{world_of};
 ghost use Rattle.outside.specs.Tree.{Tree};
 ghost use Rattle.effects.specs.Blame.{Blames};
-ghost use Rattle.course.specs.Machine.{Ended, ending};
-ghost use Rattle.ss_top.specs.Stages.{Definition};
+ghost use Rattle.course.specs.Answering.{Ended, ending};
+ghost use Rattle.ss_top.specs.Stages.{DefinitionOrRefusal};
 ghost use Rattle.ss_top.specs.Opening.{IsDefinition, definition_bytes, opening, done_at_once};
 ghost use Rattle.ss_top.specs.Commands.{can_show};
-ghost use Rattle.ss_top.specs.Course.{number};
+ghost use Rattle.ss_top.specs.Course.{verdict_status};
 ghost use Rattle.ss_top.specs.Steps.{IdleUnread};
 
 use crate::opening::{Opened, open};
@@ -25,8 +25,8 @@ pub(crate) fn show<F: Folders, K: Sink>(
     output: &mut K,
     name: &Text,
 ) -> Result<Verdict, Stop>
-    ensures ended { (t : Tree) (d : Definition) → (F.state store.old).tree ≡ Some t → IsDefinition name.now (definition_bytes t name.now) d → Ended (ending done_at_once (opening t d)) (world_of (F.state store.old) (K.state output.old)) (world_of (F.state store.new) (K.state output.new)) result }
-    ensures can { IfOk result (λ v. can_show (number v) ≡ true) }
+    ensures ended { (t : Tree) (d : DefinitionOrRefusal) → (F.state store.old).tree ≡ Some t → IsDefinition name.now (definition_bytes t name.now) d → Ended (ending done_at_once (opening t d)) (world_of (F.state store.old) (K.state output.old)) (world_of (F.state store.new) (K.state output.new)) result }
+    ensures can { IfOk result (λ v. can_show (verdict_status v) ≡ true) }
     ensures idle { IdleUnread result (world_of (F.state store.old) (K.state output.old)) (world_of (F.state store.new) (K.state output.new)) }
     ensures blames { Blames (world_of (F.state store.old) (K.state output.old)) (world_of (F.state store.new) (K.state output.new)) result }
 {

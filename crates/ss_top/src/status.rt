@@ -1,6 +1,6 @@
 //! How a run ends.
 ghost use Rattle.std.specs.Prelude.{◌≡◌};
-ghost use Rattle.ss_top.specs.Course.{number, status_of};
+ghost use Rattle.ss_top.specs.Course.{verdict_status, status_of};
 
 use course::{Halt, Verdict};
 use effects::Stop;
@@ -54,7 +54,7 @@ impl Status {
 
 // The status of a verdict.
 fn status_of_verdict(verdict: Verdict) -> Status
-    ensures { result ≡ number verdict }
+    ensures { result ≡ verdict_status verdict }
 {
     match verdict {
         Verdict::Done => Status::Done,

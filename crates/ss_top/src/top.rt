@@ -10,7 +10,7 @@ ghost use Rattle.ss_top.specs.Commands.{asked_of, uses_store, only_reads, reads_
 ghost use Rattle.ss_top.specs.Course.{Cause};
 ghost use Rattle.ss_top.specs.Runs.{IsDefined};
 ghost use Rattle.ss_top.specs.Promises.{Takes};
-ghost use Rattle.ss_top.specs.Clauses.{DoesCourse, IsComplete, Checks, Shows, Maintains, StopsAtSync, Verifies, TellsDifference, Applies, Loads, ReadsWhole, KeepsAll, KeepsOthers, TakesLittle};
+ghost use Rattle.ss_top.specs.Clauses.{DoesCourse, IsComplete, Checks, Shows, Maintains, StopsAtSync, Verifies, TellsDifference, Applies, AppliesNothing, Loads, ReadsWhole, KeepsAll, KeepsOthers, LeavesBetween, TakesLittle};
 
 use crate::Status;
 use crate::command::run_words;
@@ -23,8 +23,9 @@ use std::sync::ledger::Ledger;
 /// Runs the command that the words ask for, `check NAME`, `show NAME`, `maintain NAME`, `verify NAME` or `apply NAME`,
 /// over the folders `defs`, `sources` and `views` of a store, or `load N SEED`, which uses neither store nor input. What is answered and what is refused are lines of the output.
 ///
-/// The status says which kind of end it was. After a fault each file is as before or as the command makes it, but for
-/// the one that was being written, and the output holds a front of the answers. No step is counted.
+/// The status says which kind of end it was. After a fault the output holds a front of the answers, and each file and
+/// each folder is as the sync under way found it or as it leaves it, but for the one that was being written, made or
+/// removed. No step is counted.
 #[tactic(auto, using(crate::proofs::RunLemmas::by_status, crate::proofs::RunLemmas::by_cause))]
 pub fn run<F: Folders, S: Source, K: Sink, L: Ledger>(
     alloc: Global,
@@ -53,12 +54,14 @@ pub fn run<F: Folders, S: Source, K: Sink, L: Ledger>(
     ensures verified { Verifies words.now (world_of (F.state store.old) (K.state output.old)) (world_of (F.state store.new) (K.state output.new)) result }
     ensures differs { TellsDifference words.now (world_of (F.state store.old) (K.state output.old)) result }
     ensures applied { Applies words.now (S.rest input.old) (world_of (F.state store.old) (K.state output.old)) (world_of (F.state store.new) (K.state output.new)) result }
+    ensures unapplied { AppliesNothing words.now (S.rest input.old) (world_of (F.state store.old) (K.state output.old)) (world_of (F.state store.new) (K.state output.new)) result }
     ensures loaded { Loads words.now (world_of (F.state store.old) (K.state output.old)) (world_of (F.state store.new) (K.state output.new)) result }
     ensures whole { ReadsWhole words.now (S.rest input.old) (S.rest input.new) result }
 
     // What stays, and what is taken of the input.
     ensures unchanged { KeepsAll words.now (world_of (F.state store.old) (K.state output.old)) (world_of (F.state store.new) (K.state output.new)) result }
     ensures others { KeepsOthers words.now (S.rest input.old) (world_of (F.state store.old) (K.state output.old)) (world_of (F.state store.new) (K.state output.new)) }
+    ensures between { LeavesBetween words.now (S.rest input.old) (world_of (F.state store.old) (K.state output.old)) (world_of (F.state store.new) (K.state output.new)) }
     ensures took { TakesLittle words.now (S.rest input.old) (S.rest input.new) (world_of (F.state store.old) (K.state output.old)) (world_of (F.state store.new) (K.state output.new)) result }
     ensures only_read { only_reads (asked_of words.now) ≡ true → OnlyRead (F.state store.old) (F.state store.new) }
     ensures store { uses_store (asked_of words.now) ≡ false → F.state store.new ≡ F.state store.old }

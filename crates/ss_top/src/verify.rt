@@ -7,12 +7,12 @@ ghost use Rattle.effects.specs.Blame.{Blames, SinkBlames};
 ghost use Rattle.view_def.specs.Query.{query_of};
 ghost use Rattle.view_folder.specs.Comparison.{comparison};
 ghost use Rattle.view_folder.specs.Files.{view_folder};
-ghost use Rattle.course.specs.Machine.{Ended};
-ghost use Rattle.ss_top.specs.Stages.{Definition, loaded_or_refused, refusal_of};
+ghost use Rattle.course.specs.Answering.{Ended};
+ghost use Rattle.ss_top.specs.Stages.{DefinitionOrRefusal, loaded_or_refused, refusal_of};
 ghost use Rattle.ss_top.specs.Opening.{IsDefinition, definition_bytes};
 ghost use Rattle.ss_top.specs.Records.{HasRecords};
 ghost use Rattle.ss_top.specs.Commands.{can_show};
-ghost use Rattle.ss_top.specs.Course.{number};
+ghost use Rattle.ss_top.specs.Course.{verdict_status};
 ghost use Rattle.ss_top.specs.Steps.{IdleUnread};
 ghost use Rattle.ss_top.specs.Verifying.{by_comparison, verified, verified_over, verified_view};
 
@@ -22,7 +22,7 @@ use crate::tables::{Showing, show_tables};
 use course::Verdict;
 use effects::Stop;
 use outside::{Folders, Sink};
-use run_lines::{refuse, tell_difference, tell_same};
+use run_lines::{print_difference, print_same, refuse};
 use schema_model::Catalogue;
 use ss_text::Text;
 use std::alloc::Global;
@@ -37,8 +37,8 @@ pub(crate) fn verify<F: Folders, K: Sink>(
     output: &mut K,
     name: &Text,
 ) -> Result<Verdict, Stop>
-    ensures ended { (t : Tree) (d : Definition) → (F.state store.old).tree ≡ Some t → IsDefinition name.now (definition_bytes t name.now) d → Ended (verified t d) (world_of (F.state store.old) (K.state output.old)) (world_of (F.state store.new) (K.state output.new)) result }
-    ensures can { IfOk result (λ v. can_show (number v) ≡ true) }
+    ensures ended { (t : Tree) (d : DefinitionOrRefusal) → (F.state store.old).tree ≡ Some t → IsDefinition name.now (definition_bytes t name.now) d → Ended (verified t d) (world_of (F.state store.old) (K.state output.old)) (world_of (F.state store.new) (K.state output.new)) result }
+    ensures can { IfOk result (λ v. can_show (verdict_status v) ≡ true) }
     ensures idle { IdleUnread result (world_of (F.state store.old) (K.state output.old)) (world_of (F.state store.new) (K.state output.new)) }
     ensures only_read { OnlyRead (F.state store.old) (F.state store.new) }
     ensures blames { Blames (world_of (F.state store.old) (K.state output.old)) (world_of (F.state store.new) (K.state output.new)) result }
@@ -65,7 +65,7 @@ fn verify_view<F: Folders, K: Sink>(
 ) -> Result<Verdict, Stop>
     requires { HasRecords (query_of view.now) }
     ensures ended { (t : Tree) → (F.state store.old).tree ≡ Some t → Ended (verified_over t (query_of view.now) (loaded_or_refused t)) (world_of (F.state store.old) (K.state output.old)) (world_of (F.state store.new) (K.state output.new)) result }
-    ensures can { IfOk result (λ v. can_show (number v) ≡ true) }
+    ensures can { IfOk result (λ v. can_show (verdict_status v) ≡ true) }
     ensures idle { IdleUnread result (world_of (F.state store.old) (K.state output.old)) (world_of (F.state store.new) (K.state output.new)) }
     ensures only_read { OnlyRead (F.state store.old) (F.state store.new) }
     ensures blames { Blames (world_of (F.state store.old) (K.state output.old)) (world_of (F.state store.new) (K.state output.new)) result }
@@ -93,7 +93,7 @@ fn verify_over<F: Folders, K: Sink>(
 ) -> Result<Verdict, Stop>
     requires { HasRecords (query_of view.now) }
     ensures ended { (t : Tree) → (F.state store.old).tree ≡ Some t → Ended (verified_view t (query_of view.now) catalogue.now.databases (refusal_of catalogue.now.databases (query_of view.now))) (world_of (F.state store.old) (K.state output.old)) (world_of (F.state store.new) (K.state output.new)) result }
-    ensures can { IfOk result (λ v. can_show (number v) ≡ true) }
+    ensures can { IfOk result (λ v. can_show (verdict_status v) ≡ true) }
     ensures idle { IdleUnread result (world_of (F.state store.old) (K.state output.old)) (world_of (F.state store.new) (K.state output.new)) }
     ensures only_read { OnlyRead (F.state store.old) (F.state store.new) }
     ensures blames { Blames (world_of (F.state store.old) (K.state output.old)) (world_of (F.state store.new) (K.state output.new)) result }
@@ -120,34 +120,34 @@ fn compare_folder<F: Folders, K: Sink>(
     files: &[File],
 ) -> Result<Verdict, Stop>
     ensures ended { (t : Tree) → (F.state store.old).tree ≡ Some t → Ended (by_comparison (comparison (view_folder view_db.now) files.now t)) (world_of (F.state store.old) (K.state output.old)) (world_of (F.state store.new) (K.state output.new)) result }
-    ensures can { IfOk result (λ v. can_show (number v) ≡ true) }
+    ensures can { IfOk result (λ v. can_show (verdict_status v) ≡ true) }
     ensures idle { IdleUnread result (world_of (F.state store.old) (K.state output.old)) (world_of (F.state store.new) (K.state output.new)) }
     ensures only_read { OnlyRead (F.state store.old) (F.state store.new) }
     ensures blames { Blames (world_of (F.state store.old) (K.state output.old)) (world_of (F.state store.new) (K.state output.new)) result }
 {
     let folder = folder_of_view(alloc, view_db)?;
     let comparison = compare(alloc, store, &folder, files)?;
-    tell_comparison(alloc, output, comparison)
+    print_comparison(alloc, output, comparison)
 }
 
 // Prints how a folder compares.
 #[tactic(auto, using(effects::proofs::Following::following))]
-fn tell_comparison<K: Sink>(
+fn print_comparison<K: Sink>(
     alloc: Global,
     output: &mut K,
     comparison: Comparison,
 ) -> Result<Verdict, Stop>
     ensures ended { (s : _) → Ended (by_comparison comparison) (world_of s (K.state output.old)) (world_of s (K.state output.new)) result }
-    ensures can { IfOk result (λ v. can_show (number v) ≡ true) }
+    ensures can { IfOk result (λ v. can_show (verdict_status v) ≡ true) }
     ensures blames { SinkBlames (K.state output.old) (K.state output.new) result }
 {
     match comparison {
         Comparison::Same { count } => {
-            tell_same(alloc, output, count)?;
+            print_same(alloc, output, count)?;
             Ok(Verdict::Done)
         }
         Comparison::Differs { file, held, meant } => {
-            tell_difference(alloc, output, &file, held, meant)?;
+            print_difference(alloc, output, &file, held, meant)?;
             Ok(Verdict::NoView)
         }
     }

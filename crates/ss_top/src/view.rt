@@ -15,10 +15,10 @@ ghost use Rattle.view_folder.specs.Files.{view_folder};
 ghost use Rattle.view_folder.specs.Sync.{later_sync};
 ghost use Rattle.view_session.specs.Session.{tables_of, working};
 ghost use Rattle.kept_sources.specs.Synced.{saving};
-ghost use Rattle.course.specs.Machine.{Answered, Ended};
+ghost use Rattle.course.specs.Answering.{Answered, Ended};
 ghost use Rattle.ss_print.specs.Fields.{first_field, line_fields};
 ghost use Rattle.schema_model.specs.declared.change.ChangeFault.TheVariants.{NoMemory as LacksMemory};
-ghost use Rattle.run_lines.specs.Told.{refuses, tells_synced};
+ghost use Rattle.run_lines.specs.Printing.{refuses, prints_synced};
 ghost use Rattle.outside.specs.Tree.{Tree, files_of};
 ghost use Rattle.ss_top.specs.Opening.{opening_effects};
 ghost use Rattle.ss_top.specs.Stages.{files_of_view};
@@ -27,12 +27,12 @@ ghost use Rattle.ss_top.specs.Records.{HasRecords};
 ghost use Rattle.ss_top.specs.Answers.{step, finish, answer, by_row, by_change, by_fault, in_group, more_broken, refusing, syncing, sync_effects, view_effects, sync_count, end_view};
 
 use crate::word::word_of;
-use course::{Machine, Verdict};
+use course::{LineHandler, Verdict};
 use csv_catalog::save_changed;
 use effects::Stop;
 use flow_law::Tables;
 use outside::{Folders, Sink};
-use run_lines::{refuse, tell_script, tell_synced};
+use run_lines::{print_script, print_synced, refuse};
 use schema_model::{Change, ChangeFault};
 use ss_print::{clash_fields, escape_fields, illegal_fields, line_fields, refusal_fields};
 use ss_text::{NoMemory, Row, Steps, Text};
@@ -131,7 +131,7 @@ impl OpenView {
             session.shape(),
             session.tables(),
         )?;
-        tell_synced(alloc, output, count)?;
+        print_synced(alloc, output, count)?;
         Ok(())
     }
 
@@ -225,7 +225,7 @@ impl OpenView {
             session.tables(),
             session.changed_labels(),
         )?;
-        tell_synced(alloc, output, self.sync_count())?;
+        print_synced(alloc, output, self.sync_count())?;
         Ok(())
     }
 
@@ -310,7 +310,7 @@ impl OpenView {
         ensures blames { SinkBlames (K.state output.old) (K.state output.new) result }
     {
         match self.session.apply(alloc, change) {
-            Ok(script) => tell_script(alloc, output, &script),
+            Ok(script) => print_script(alloc, output, &script),
             Err(refused) => {
                 let fields = refused_fields(alloc, change, &refused)?;
                 self.refuse(alloc, output, &fields)
@@ -423,7 +423,7 @@ fn refused_fields(alloc: Global, change: &Change, refused: &Refused) -> Result<R
     }
 }
 
-impl Machine for OpenView {
+impl LineHandler for OpenView {
     ghost use Rattle.ss_top.specs.Answers.{step, finish};
 
     ghost step = { step };

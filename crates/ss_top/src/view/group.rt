@@ -5,7 +5,7 @@ ghost use Rattle.effects.specs.Blame.{Blames, SinkBlames};
 ghost use Rattle.schema_model.specs.Changes.{is_well_formed};
 ghost use Rattle.schema_model.specs.Refusals.{fault};
 ghost use Rattle.view_session.specs.Session.{working};
-ghost use Rattle.run_lines.specs.Told.{refuses};
+ghost use Rattle.run_lines.specs.Printing.{refuses};
 ghost use Rattle.ss_print.specs.Fields.{in_group_fields, no_group_fields};
 ghost use Rattle.ss_top.specs.Stages.{refusal_of};
 ghost use Rattle.ss_top.specs.Steps.{IsHoldFieldsOf, IsStopFieldsOf};
@@ -16,7 +16,7 @@ use crate::view::OpenView;
 use crate::word::Word;
 use effects::Stop;
 use outside::{Folders, Sink};
-use run_lines::{refuse, tell_aborted, tell_begun, tell_held, tell_script};
+use run_lines::{print_aborted, print_begun, print_held, print_script, refuse};
 use schema_model::{Change, ChangeFault};
 use ss_print::{
     clash_fields, group_broken_fields, illegal_fields, in_group_fields, line_fields,
@@ -67,7 +67,7 @@ impl OpenView {
         ensures view { OnOk result (self.new ≡ (beginning self.old).view) }
         ensures blames { SinkBlames (K.state output.old) (K.state output.new) result }
     {
-        tell_begun(alloc, output)?;
+        print_begun(alloc, output)?;
         self.session.begin(alloc);
         self.broken = 0;
         Ok(())
@@ -88,7 +88,7 @@ impl OpenView {
         ensures blames { SinkBlames (K.state output.old) (K.state output.new) result }
     {
         match self.session.hold(alloc, change) {
-            Ok(()) => tell_held(alloc, output),
+            Ok(()) => print_held(alloc, output),
             Err(refused) => {
                 let fields = held_fields(alloc, change, &refused)?;
                 self.refuse(alloc, output, &fields)
@@ -104,7 +104,7 @@ impl OpenView {
         ensures view { OnOk result (self.new ≡ (aborting self.old).view) }
         ensures blames { SinkBlames (K.state output.old) (K.state output.new) result }
     {
-        tell_aborted(alloc, output)?;
+        print_aborted(alloc, output)?;
         self.session.abort_group();
         self.broken = 0;
         Ok(())
@@ -151,7 +151,7 @@ impl OpenView {
         match self.session.commit_group(alloc) {
             Ok(script) => {
                 self.broken = 0;
-                tell_script(alloc, output, &script)
+                print_script(alloc, output, &script)
             }
             Err(stop) => {
                 let fields = stop_fields(alloc, &stop)?;

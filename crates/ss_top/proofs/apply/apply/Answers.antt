@@ -10,11 +10,11 @@ returns-in_err-tables-clause-ran g c = λ t bytes d told given defined.
     rw (p.1, p.2) (opening_stopped (apply_opening t d) bytes (g.S.Source.rest c.args.input.now) (world_of (g.F.Folders.state c.args.store.now) (g.K.Sink.state c.args.output.now)) (world_of (g.F.Folders.state c.open.new.store) (g.K.Sink.state c.open.new.output)) c.in_err-tables.field-0.0 (c.in_err-tables.ensures.opens t d told defined))
 
 pub returns-in-Open-clause-whole : goal.returns-in-Open-clause-whole
-returns-in-Open-clause-whole g c = λ bytes given. drove_whole c.in-Open.tables bytes (g.S.Source.rest c.args.input.now) _ _ _ c.drive.result c.drive.ensures.whole (c.drive.ensures.ran bytes given) given
+returns-in-Open-clause-whole g c = λ bytes given. drove_whole c.in-Open.tables bytes (g.S.Source.rest c.args.input.now) _ _ _ c.answer_lines.result c.answer_lines.ensures.whole (c.answer_lines.ensures.ran bytes given) given
 
 pub returns-in-Open-clause-can : goal.returns-in-Open-clause-can
-returns-in-Open-clause-can g c = drove_can c.in-Open.tables _ _ c.drive.result c.drive.ensures.some
+returns-in-Open-clause-can g c = drove_can c.in-Open.tables _ _ c.answer_lines.result c.answer_lines.ensures.some
 
 pub returns-in-Open-clause-took : goal.returns-in-Open-clause-took
 returns-in-Open-clause-took g c = λ t bytes d told given defined.
-    took_applying (apply_opening t d) c.in-Open.tables bytes _ _ _ _ c.drive.result (rw c.in-Open.is at c.in_ok-tables.ensures.opens t d told defined) (c.drive.ensures.took bytes given)
+    took_applying (apply_opening t d) c.in-Open.tables bytes _ _ _ _ c.answer_lines.result (rw c.in-Open.is at c.in_ok-tables.ensures.opens t d told defined) (c.answer_lines.ensures.took bytes given)

@@ -1,7 +1,7 @@
 use Rattle.ss_top.specs.Commands.{asked_of}
 use Rattle.ss_top.proofs.DefinitionLemmas.{is_defined}
 use Rattle.ss_top.proofs.KeptLemmas.{script_takes}
-use Rattle.ss_top.proofs.TopLemmas.{does_course, is_complete, checks, shows, maintains, stops_at_sync, verifies, tells_difference, applies, loads, keeps_all, keeps_others, takes_little}
+use Rattle.ss_top.proofs.TopLemmas.{does_course, is_complete, checks, shows, maintains, stops_at_sync, verifies, prints_difference, applies, applies_nothing, loads, keeps_all, keeps_others, leaves_between, takes_little}
 use Rattle.ss_top.proofs.top.run.Goals as goal
 
 pub returns-clause-defined : goal.returns-clause-defined
@@ -32,10 +32,13 @@ pub returns-clause-verified : goal.returns-clause-verified
 returns-clause-verified g c = rw c.status_of_ending.ensures (verifies c.args.words.now _ _ _ _ _ _ _ c.run_words-ending.ensures.ran c.run_words-ending.ensures.blames c.run_words-ending.ensures.idle)
 
 pub returns-clause-differs : goal.returns-clause-differs
-returns-clause-differs g c = rw c.status_of_ending.ensures (tells_difference c.args.words.now _ _ _ _ _ _ _ c.run_words-ending.ensures.ran c.run_words-ending.ensures.blames c.run_words-ending.ensures.idle)
+returns-clause-differs g c = rw c.status_of_ending.ensures (prints_difference c.args.words.now _ _ _ _ _ _ _ c.run_words-ending.ensures.ran c.run_words-ending.ensures.blames c.run_words-ending.ensures.idle)
 
 pub returns-clause-applied : goal.returns-clause-applied
 returns-clause-applied g c = rw c.status_of_ending.ensures (applies c.args.words.now _ _ _ _ _ _ _ c.run_words-ending.ensures.ran c.run_words-ending.ensures.blames c.run_words-ending.ensures.idle)
+
+pub returns-clause-unapplied : goal.returns-clause-unapplied
+returns-clause-unapplied g c = rw c.status_of_ending.ensures (applies_nothing c.args.words.now _ _ _ _ _ _ _ c.run_words-ending.ensures.ran c.run_words-ending.ensures.blames c.run_words-ending.ensures.idle)
 
 pub returns-clause-loaded : goal.returns-clause-loaded
 returns-clause-loaded g c = rw c.status_of_ending.ensures (loads c.args.words.now _ _ _ _ _ _ _ c.run_words-ending.ensures.ran c.run_words-ending.ensures.blames c.run_words-ending.ensures.idle)
@@ -48,6 +51,9 @@ returns-clause-unchanged g c = rw c.status_of_ending.ensures (keeps_all c.args.w
 
 pub returns-clause-others : goal.returns-clause-others
 returns-clause-others g c = keeps_others c.args.words.now _ _ c.run_words-ending.result _ _ c.run_words-ending.ensures.some c.run_words-ending.ensures.ran
+
+pub returns-clause-between : goal.returns-clause-between
+returns-clause-between g c = leaves_between c.args.words.now _ _ c.run_words-ending.result _ _ c.run_words-ending.ensures.some c.run_words-ending.ensures.ran
 
 pub returns-clause-took : goal.returns-clause-took
 returns-clause-took g c = rw c.status_of_ending.ensures (takes_little c.args.words.now _ _ c.run_words-ending.result _ _ c.run_words-ending.ensures.took)

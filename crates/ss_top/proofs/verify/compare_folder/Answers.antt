@@ -10,4 +10,4 @@ returns-clause-ended g c = λ t told.
     compared_ends c.in_ok-comparison.comparison _ _ (world_of (g.F.Folders.state c.compare.new.store) (g.K.Sink.state c.args.output.now)) _ _
     (c.in_ok-comparison.ensures.told t told ∙ ap (λ (d : Text). comparison d c.args.files.now t) c.in_ok-folder.ensures)
     (c.in_ok-comparison.ensures.does (g.K.Sink.state c.args.output.now))
-    (c.tell_comparison.ensures.ended (g.F.Folders.state c.compare.new.store))
+    (c.print_comparison.ensures.ended (g.F.Folders.state c.compare.new.store))

@@ -6,7 +6,7 @@ use Rattle.ss_top.proofs.view.OpenView.apply.Goals as goal
 pub returns-in-Ok-clause-does : goal.returns-in-Ok-clause-does
 returns-in-Ok-clause-does g c =
     let idle = ap (λ (o : OpenValue). o.session.held) c.self.view_is ∙ c.requires.idle in
-    rw (← c.self.view_is) (λ s. accepted_does _ _ _ (record { session = c.self.inside.session; synced = c.self.inside.synced.items; refused = c.self.inside.some_refused; broken = c.self.inside.broken }) c.args.change.now c.in-Ok.script idle c.in-Ok.ensures.accepted c.in-Ok.ensures.script (c.tell_script.ensures.does s))
+    rw (← c.self.view_is) (λ s. accepted_does _ _ _ (record { session = c.self.inside.session; synced = c.self.inside.synced.items; refused = c.self.inside.some_refused; broken = c.self.inside.broken }) c.args.change.now c.in-Ok.script idle c.in-Ok.ensures.accepted c.in-Ok.ensures.script (c.print_script.ensures.does s))
 
 pub returns-in_ok-fields-in-Err-clause-does : goal.returns-in_ok-fields-in-Err-clause-does
 returns-in_ok-fields-in-Err-clause-does g c =
