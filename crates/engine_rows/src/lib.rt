@@ -1,7 +1,9 @@
-//! Worked rows of what an engine will stand on: how changes move the flat rows of declarations.
+//! Worked rows of what an engine will stand on: how changes move the flat rows of declarations, and rows on shelves.
 //!
 //! It has tests alone. What they want is worked out by hand.
 #![tactic(auto)]
 
 #[cfg(test)]
 mod flat;
+#[cfg(test)]
+mod shelves;

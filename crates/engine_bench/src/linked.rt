@@ -1,0 +1,49 @@
+//! Rows that come and go one after another among kept rows that are linked.
+ghost use Rattle.std.specs.Prelude.{◌≡◌, ◌≤◌, length, vec_len};
+ghost use Rattle.row_links.specs.Live.{LinkedRows};
+
+use crate::made::{one, row, rows};
+use row_links::Linked;
+use ss_text::{NoMemory, Row};
+use std::alloc::Global;
+
+/// How many rows are left of so many kept ones after so many changes, by which a row comes and goes in turn.
+pub(crate) fn left(alloc: Global, kept: u32, changes: u32) -> Result<usize, NoMemory> {
+    let mut linked = by_first_cell(alloc)?;
+    come(alloc, &mut linked, rows(alloc, kept)?)?;
+    for number in 0..changes {
+        let key = number / 2 % kept.max(1);
+        if number % 2 == 0 {
+            come(alloc, &mut linked, one(alloc, key, kept)?)?;
+        } else {
+            linked.take_first(&row(alloc, key, kept)?);
+        }
+    }
+    Ok(linked.count())
+}
+
+fn by_first_cell(alloc: Global) -> Result<Linked, NoMemory> {
+    let mut key = Vec::new(alloc);
+    key.push(0usize)?;
+    let mut keys = Vec::new(alloc);
+    keys.push(key)?;
+    Ok(Linked::new(alloc, keys))
+}
+
+// Adds these rows.
+fn come(alloc: Global, linked: &mut Linked, rows: Vec<Row>) -> Result<(), NoMemory> {
+    let count = rows.len();
+    linked.reserve(alloc, rows)?;
+    add_waiting(linked, count);
+    Ok(())
+}
+
+// Adds so many of the rows that wait.
+#[tactic(auto, using(row_links::proofs::Places::one_added))]
+fn add_waiting(linked: &mut Linked, count: usize)
+    requires { count ≤ length linked.old.waiting }
+{
+    for _ in 0..count {
+        linked.add();
+    }
+}

@@ -1,0 +1,92 @@
+//! Changes that are held, as lines.
+ghost use Rattle.std.specs.Prelude.{IsTrue};
+ghost use Rattle.schema_model.specs.Changes.{is_well_formed};
+ghost use Rattle.change_draft.specs.Drafts.{StandsOver};
+
+use change_draft::Draft;
+use schema_model::{Catalogue, Change, ChangeFault, Refusal};
+use ss_text::{NoMemory, Row, Text};
+use std::alloc::Global;
+use std::test::Fail;
+
+fn fields(alloc: Global, line: &str) -> Result<Row, NoMemory> {
+    let mut cells = Vec::new(alloc);
+    for cell in line.split(' ') {
+        cells.push(Text::of(alloc, cell.as_bytes())?)?;
+    }
+    Ok(Row::of(cells))
+}
+
+// The refusal of a change, which is held where there is none.
+fn held(draft: &mut Draft, base: &Catalogue, change: &Change) -> Result<Option<Refusal>, NoMemory>
+    requires stands { StandsOver draft.old base.now.databases }
+    requires well_formed { IsTrue (is_well_formed change.now) }
+    ensures { StandsOver draft.new base.now.databases }
+{
+    let refusal = draft.judge(base, change);
+    if refusal.is_none() {
+        draft.hold(base, change)?;
+    }
+    Ok(refusal)
+}
+
+// The refusal of the change that a line says, its fields parted by spaces.
+fn answer(
+    alloc: Global,
+    draft: &mut Draft,
+    base: &Catalogue,
+    line: &str,
+) -> Result<Option<Refusal>, ChangeFault>
+    requires { StandsOver draft.old base.now.databases }
+    ensures { StandsOver draft.new base.now.databases }
+{
+    let line = fields(alloc, line)?;
+    let change = Change::read(alloc, &line)?;
+    let refusal = held(draft, base, &change);
+    drop(change);
+    Ok(refusal?)
+}
+
+// The first refusal of the changes that these lines say, each held before the next.
+fn first_refusal(
+    alloc: Global,
+    draft: &mut Draft,
+    base: &Catalogue,
+    lines: &str,
+) -> Result<Option<Refusal>, ChangeFault>
+    requires { StandsOver draft.old base.now.databases }
+    ensures { StandsOver draft.new base.now.databases }
+{
+    for line in lines.split('\n') {
+        let refusal = answer(alloc, draft, base, line)?;
+        if refusal.is_some() {
+            return Ok(refusal);
+        }
+    }
+    Ok(None)
+}
+
+const THREE: &str = "create-database d\ncreate-relation d r a\nrename-relation d r s";
+
+// Whether a change behind the three is judged over the catalogue after them.
+fn is_behind(alloc: Global, draft: &mut Draft, base: &Catalogue) -> Result<bool, ChangeFault>
+    requires { StandsOver draft.old base.now.databases }
+{
+    let refusal = first_refusal(alloc, draft, base, THREE)?;
+    let behind = answer(alloc, draft, base, "insert d r 1")?;
+    let (changes, databases) = (
+        draft.changes().len(),
+        draft.catalogue(base).databases().len(),
+    );
+    Ok((refusal, behind) == (None, Some(Refusal::NoRelation)) && (changes, databases) == (3, 1))
+}
+
+#[test]
+fn changes_behind_those_that_are_held(rt: HostRuntime) -> Result<(), Fail> {
+    let alloc = rt.alloc();
+    let base = Catalogue::empty(alloc);
+    let mut draft = Draft::new(alloc);
+    let behind = is_behind(alloc, &mut draft, &base);
+    assert_eq!(rt; behind, Ok(true));
+    Ok(())
+}
