@@ -9,6 +9,8 @@ from measure import folder, program, report, run, wanted, write
 MILLION = 1_000_000
 KEY = 100_000
 QUOTED = 100_000_000
+LARGE = 2**31
+MOST_MEGABYTES = 1000
 
 
 def view(root, source):
@@ -32,7 +34,9 @@ def source(name, lines, status, last):
     """`show` over a source of these lines."""
     with folder() as root:
         view(root, lines)
-        report(name, wanted(run([program(), "show", "V"], root), status, last))
+        ended = wanted(run([program(), "show", "V"], root), status, last)
+    report(name, ended)
+    return ended
 
 
 def main():
@@ -47,6 +51,15 @@ def main():
     )
     source("a record of a million empty fields", ["a\n", "," * MILLION, "\n"], 4, f"refused\tragged\td\tr.csv\t2\t1\t{MILLION + 1}")
     source("a header of a million empty names", ["," * MILLION, "\n"], 4, "refused\tlimit\tattributes")
+    rows = "1\n" * MILLION
+    ended = source(
+        f"{LARGE} bytes of records of two",
+        [*(rows for _ in range(LARGE // len(rows))), rows[: LARGE % len(rows)]],
+        4,
+        "refused\tlimit\trows",
+    )
+    if ended.megabytes >= MOST_MEGABYTES:
+        raise SystemExit(f"{ended.megabytes:.0f} MB")
 
 
 main()

@@ -1,0 +1,48 @@
+#!/usr/bin/env python3
+"""Parts of the engine over few and over many kept rows: the time of one change, and how many times as long it is over
+many. At most 1.5 times is wanted.
+
+usage: bench/engine.py [PROGRAM [CHANGES]]
+
+There are 100,000 changes where no other number is given.
+"""
+
+import pathlib
+import sys
+
+from measure import HERE, folder, report, run, wanted
+
+PROGRAM = HERE.parent / "crates" / "engine_bench" / "out" / "engine_bench"
+FEW = 1_000
+MANY = 1_000_000
+
+
+def program():
+    """The program that is measured: the first argument, or the one that the kit builds."""
+    return str(pathlib.Path(sys.argv[1] if len(sys.argv) > 1 else PROGRAM).resolve())
+
+
+def time_of_change(word, kept, changes, count):
+    """The seconds of one change, which are those of a run with changes less those of a run without, by their number."""
+    with folder() as root:
+        filled = run([program(), word, str(kept), "0"], root)
+        changed = wanted(run([program(), word, str(kept), str(changes)], root), 0, str(count))
+    each = (changed.seconds - filled.seconds) / changes
+    report(f"{word}, {kept} rows, {changes} changes", changed, f"; one change {each * 1e6:.1f} us")
+    return each
+
+
+def compare(word, changes, count):
+    """One change over many rows against one over few; a run comes to the count of the rows that are kept."""
+    few = time_of_change(word, FEW, changes, count(FEW))
+    many = time_of_change(word, MANY, changes, count(MANY))
+    print(f"{word}: a change over {MANY // FEW} times as many rows takes {many / few:.1f} times as long")
+
+
+def main():
+    changes = int(sys.argv[2]) if len(sys.argv) > 2 else 100_000
+    compare("links", changes, lambda kept: kept)
+    compare("sources", changes, lambda kept: kept)
+
+
+main()
