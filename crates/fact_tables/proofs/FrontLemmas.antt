@@ -1,13 +1,14 @@
 -- Texts compare as their fronts do.
-use Rattle.std.proofs.Common.{◌≡◌, ◌+◌, ◌*◌, ◌<◌, ◌≤◌, ◌%◌, ◌∙◌, ◌⊎◌, inl, inr, ℕ, zero, suc, [], ◌∷◌, length, drop, get_or, refl, sym, ap, subst, arith}
+use Rattle.std.proofs.Common.{◌≡◌, ◌+◌, ◌*◌, ◌<◌, ◌≤◌, ◌%◌, ◌-◌, ◌∙◌, ◌⊎◌, inl, inr, ℕ, zero, suc, [], ◌∷◌, length, drop, take, get_or, refl, true, sym, ap, subst, arith}
 use Rattle.std.specs.declared.cmp.Ordering.{Ordering}
 use Rattle.std.specs.declared.cmp.Ordering.TheVariants.{Less, Equal, Greater}
 use Rattle.std.specs.Ordering.{nat_cmp, ordering_then, ordering_reverse}
 use Rattle.std.specs.Cmp.{nat_cmp_is}
 use Rattle.std.specs.Cmp.Lexicographic.{nat_list_cmp_total}
-use Rattle.std.proofs.lemmas.Bool.{cases_order}
+use Rattle.std.proofs.lemmas.Bool.{cases_order, ltb-true}
+use Rattle.std.proofs.lemmas.List.{take_all}
 use Rattle.ss_text.specs.Texts.{Text, Row, text_cmp, row_cmp}
-use Rattle.fact_tables.specs.Front.{with_bytes, front_of, AreDigits, front_of_row, AreRowDigits}
+use Rattle.fact_tables.specs.Front.{with_bytes, front_of, is_whole, AreDigits, front_of_row, AreRowDigits}
 
 less_is : (x y : ℕ) → x < y → nat_cmp x y ≡ Less
 less_is x y lt = sym (nat_cmp_is x y Less lt)
@@ -115,3 +116,12 @@ rows_by_fronts (s ∷ ss) (t ∷ ts) hj hk r is differs =
     decided Less p d = refl
     decided Equal p d = absurd (d refl)
     decided Greater p d = refl
+
+-- where the fronts hold their first texts, rows compare as what is behind these
+pub behind_fronts : (j k : Row) → AreRowDigits j → AreRowDigits k → 0 < length j → 0 < length k → front_of_row j ≡ front_of_row k → is_whole 15 (front_of_row j) ≡ true
+    → row_cmp (take (length j - 1) (drop 1 j)) (take (length k - 1) (drop 1 k)) ≡ row_cmp j k
+behind_fronts [] k hj hk some others e whole = absurd (omega (arith, some))
+behind_fronts (s ∷ ss) [] hj hk some others e whole = absurd (omega (arith, others))
+behind_fronts (s ∷ ss) (t ∷ ts) hj hk some others e whole =
+    rw (take_all (length (s ∷ ss) - 1) ss (omega arith), take_all (length (t ∷ ts) - 1) ts (omega arith))
+    (sym (ap (λ o. ordering_then o (row_cmp ss ts)) (whole_same 15 (omega arith) s t hj hk e (ltb-true (front_of 15 s % 256) 16 whole))))

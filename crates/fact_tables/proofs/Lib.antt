@@ -3,3 +3,4 @@ pub mod FrontLemmas
 pub mod ValueLemmas
 pub mod TableRows
 pub mod OrderedFacts
+pub mod ColumnLemmas

@@ -4,7 +4,7 @@ ghost use Rattle.std.specs.Ordering.{eq_by_cmp, as_partial_cmp};
 ghost use Rattle.std.specs.Cmp.{partial_equiv_from_equiv, partial_order_from_agreeing_total};
 ghost use Rattle.std.specs.Cmp.Lexicographic.{lists_equiv, lists_total, lists_ties, nat_list_eq_equiv, nat_list_cmp_total, texts_ties};
 ghost use Rattle.ss_text.specs.Texts.{text_cmp, row_cmp, row_eq};
-ghost use Rattle.fact_tables.specs.Front.{front_of_row, AreRowDigits};
+ghost use Rattle.fact_tables.specs.Front.{front_of_row, AreRowDigits, is_whole};
 
 use crate::front::long_front_of;
 use crate::label::Label;
@@ -50,6 +50,31 @@ impl<'a> Key<'a> {
     }
 }
 
+// Whether a front holds all of the first value.
+fn is_whole(front: u128) -> bool
+    ensures { result ≡ is_whole 15 front }
+{
+    front % 256 < 16
+}
+
+// The order of rows with this front: where it holds the first value, that one is not read.
+fn order_behind(front: u128, labels: &[Label<'_>], others: &[Label<'_>]) -> Ordering
+    requires front { front ≡ front_of_row labels.now }
+    requires same { front ≡ front_of_row others.now }
+    requires digits { AreRowDigits labels.now }
+    requires others { AreRowDigits others.now }
+    ensures { result ≡ row_cmp labels.now others.now }
+{
+    if is_whole(front)
+        && let [_, rest @ ..] = labels
+        && let [_, rest_of_others @ ..] = others
+    {
+        rest.cmp(rest_of_others)
+    } else {
+        labels.cmp(others)
+    }
+}
+
 // The front of the first value, or 0.
 fn front_of_row(labels: &[Label<'_>]) -> u128
     ensures front { result ≡ front_of_row labels.now }
@@ -67,7 +92,7 @@ impl PartialEq for Key<'_> {
     ghost laws = { partial_equiv_from_equiv (lists_equiv nat_list_eq_equiv) };
 
     fn eq(&self, other: &Self) -> bool {
-        self.front == other.front && self.labels == other.labels
+        self.front == other.front && order_behind(self.front, self.labels, other.labels).is_eq()
     }
 }
 
@@ -96,7 +121,7 @@ impl Ord for Key<'_> {
 
     fn cmp(&self, other: &Self) -> Ordering {
         match self.front.cmp(&other.front) {
-            Ordering::Equal => self.labels.cmp(other.labels),
+            Ordering::Equal => order_behind(self.front, self.labels, other.labels),
             differs => differs,
         }
     }

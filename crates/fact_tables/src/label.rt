@@ -40,6 +40,16 @@ impl<'a> Label<'a> {
         }
     }
 
+    /// The same label.
+    pub(crate) fn again(&self) -> Label<'a>
+        ensures { result ≡ self.now }
+    {
+        Label {
+            front: self.front,
+            text: self.text,
+        }
+    }
+
     /// Its text.
     pub(crate) fn text(&self) -> &'a Text
         ensures { result.now ≡ self.now }

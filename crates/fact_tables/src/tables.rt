@@ -1,9 +1,10 @@
 //! The tables of facts that are in order.
-ghost use Rattle.std.specs.Prelude.{◌≡◌, [], ◌∷◌, IfOk, filter_map, option_copied};
+ghost use Rattle.std.specs.Prelude.{◌≡◌, [], ◌∷◌, IfOk, IfErr, OnOk, filter_map, option_copied};
 ghost use Rattle.flow_law.specs.Labelled.{BearLabel, label_tables};
 ghost use Rattle.std.specs.List.Sorted.{IsStrictlySortedBy};
 ghost use Rattle.ss_text.specs.Texts.{text_cmp};
-ghost use Rattle.ss_text.specs.Ascending.{ascending, least};
+ghost use Rattle.ss_text.specs.Ascending.{with_element, ascending, least};
+ghost use Rattle.ss_text.specs.Keys.{IsPlaceOf, IsPlaceFor};
 ghost use Rattle.flow_law.specs.Facts.{column_of};
 ghost use Rattle.flow_law.specs.FactOrder.{by_cell, by_key, fact_cmp};
 ghost use Rattle.fact_tables.specs.Cells.{values_for, cells_for};
@@ -12,8 +13,28 @@ ghost use Rattle.flow_law.specs.FactTables.{fact_table, tables};
 use crate::fact::{Fact, fact_at, facts_from, key_count, label_count};
 use crate::label::Label;
 use flow_law::{Shape, Table, Tables};
-use ss_text::{NoMemory, Text, make_ascending};
+use ss_text::{NoMemory, Text};
 use std::alloc::Global;
+
+// Where a column stands among ascending ones, or where it would stand.
+fn place_of(columns: &[Label<'_>], column: &Label<'_>) -> Result<usize, usize>
+    requires { IsStrictlySortedBy text_cmp columns.now }
+    ensures found { IfOk result (IsPlaceOf (λ c. c) column.now columns.now) }
+    ensures absent { IfErr result (IsPlaceFor text_cmp (λ c. c) column.now columns.now) }
+{
+    columns.binary_search(column)
+}
+
+// Puts a column among ascending ones, where it is none of them.
+fn put_column<'a>(columns: &mut Vec<Label<'a>>, column: &Label<'a>) -> Result<(), NoMemory>
+    requires { IsStrictlySortedBy text_cmp columns.old.items }
+    ensures { OnOk result (columns.new.items ≡ with_element text_cmp column.now columns.old.items) }
+{
+    match place_of(columns, column) {
+        Ok(_) => Ok(()),
+        Err(place) => Ok(columns.insert(place, column.again())?),
+    }
+}
 
 /// The column labels of facts, each once, ascending.
 fn columns<'a>(alloc: Global, facts: &[Fact<'a>]) -> Result<Vec<Label<'a>>, NoMemory>
@@ -22,10 +43,9 @@ fn columns<'a>(alloc: Global, facts: &[Fact<'a>]) -> Result<Vec<Label<'a>>, NoMe
     let mut columns = Vec::new(alloc);
     for fact in facts {
         if let Some(column) = fact.column() {
-            columns.push(Label::of(column.text()))?;
+            put_column(&mut columns, column)?;
         }
     }
-    make_ascending(&mut columns)?;
     Ok(columns)
 }
 

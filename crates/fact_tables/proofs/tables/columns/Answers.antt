@@ -1,11 +1,15 @@
-use Rattle.std.proofs.Common.{arith}
+use Rattle.std.proofs.Common.{arith, take}
+use Rattle.std.specs.Prelude.{filter_map}
 use Rattle.std.proofs.lemmas.Grind.{common_steps}
 use Rattle.std.proofs.lemmas.List.Elements.{filter_map-append}
 use Rattle.ss_text.proofs.KeyLemmas.{text_order}
+use Rattle.ss_text.proofs.GroupLemmas.{strict_ascending}
+use Rattle.flow_law.specs.Facts.{column_of}
+use Rattle.fact_tables.proofs.ColumnLemmas.{one_more}
 use Rattle.fact_tables.proofs.tables.columns.Goals as goal
 
-pub loop-fact-preserved : goal.loop-fact-preserved
-loop-fact-preserved c = grind (arith, common_steps, filter_map-append)
+pub put_column-requires : goal.put_column-requires
+put_column-requires c = rw c.loop-fact.invariant (strict_ascending text_order.total (filter_map column_of (take c.loop-fact.fact-index c.args.facts.now)))
 
-pub make_ascending-requires : goal.make_ascending-requires
-make_ascending-requires c = text_order.same
+pub loop-fact-preserved : goal.loop-fact-preserved
+loop-fact-preserved c = grind (arith, common_steps, filter_map-append, one_more)
