@@ -1,2 +1,4 @@
+pub mod BagFields
 pub mod Bags
+pub mod RowCounts
 pub mod Rows

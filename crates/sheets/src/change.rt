@@ -1,5 +1,5 @@
 //! Changes of a sheet.
-use operator_law::{Bag, Moves};
+use operator_law::{Moves, Rows};
 use ss_text::{Row, Text};
 
 /// A change of a sheet.
@@ -25,7 +25,7 @@ impl Moves for SheetChange {
     ghost use Rattle.std.specs.Prelude.{◌≡◌};
     ghost use Rattle.sheets.specs.Sheets.{sheet_after};
 
-    type Thing = (Row, Bag);
+    type Thing = (Row, Rows);
 
     ghost moves = { λ x g y. y ≡ sheet_after g x };
 }
