@@ -37,7 +37,7 @@ module _ (v w : Valuation) where
   text_kept : (k : ℕ) → nat_lt k (length v) ≡ true → text_at (v ++ w) k ≡ text_at v k
   text_kept k h = ap (option_and_then text_of) (kept_at v w k (ltb-true k (length v) h))
 
-  place_kept : (p : Place) → is_bound_place (length v) p ≡ true → place_text (v ++ w) p ≡ place_text v p
+  pub place_kept : (p : Place) → is_bound_place (length v) p ≡ true → place_text (v ++ w) p ≡ place_text v p
   place_kept (place.Fixed t) h = refl
   place_kept (place.Var k) h = text_kept k h
 

@@ -8,3 +8,5 @@ pub mod AliasLemmas
 pub mod EarlyLemmas
 pub mod IndexLemmas
 pub mod SoughtLemmas
+pub mod MadeLemmas
+pub mod FoundLemmas

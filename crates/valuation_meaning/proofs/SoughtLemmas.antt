@@ -1,36 +1,30 @@
--- Rows that are looked up give the same list of facts as all rows.
-use Rattle.std.proofs.Common.{◌≡◌, ◌<◌, ◌≤◌, ◌+◌, ◌⊎◌, inl, inr, ℕ, zero, suc, Bool, true, false, cond, ◌&&◌, List, [], ◌∷◌, ◌++◌, Option, Some, None, length, map, drop, refl, sym, ap, subst, ◌∙◌, arith, append_assoc}
-use Rattle.std.specs.Prelude.{flat_map, slice_get, option_and_then, get_or}
+-- An equality of a column and a term that the first elements bind.
+use Rattle.std.proofs.Common.{◌≡◌, ◌<◌, ◌≤◌, ◌⊎◌, inl, inr, ℕ, Bool, true, false, ◌&&◌, [], ◌∷◌, ◌++◌, Option, Some, None, length, refl, sym, ap, subst, ◌∙◌, append_assoc}
+use Rattle.std.specs.Prelude.{List, slice_get, option_and_then, get_or}
 use Rattle.std.proofs.lemmas.Option.{slice_get_read}
-use Rattle.std.specs.List.{range_with_len, All, IsAmong}
+use Rattle.std.specs.List.{All, IsAmong}
 use Rattle.std.proofs.lemmas.Bool.{cases_lt}
-use Rattle.ss_text.specs.Texts.{Text, Row, text_eq}
+use Rattle.ss_text.specs.Texts.{Text, text_eq}
 use Rattle.ss_text.proofs.KeyLemmas.{text_order, equal_is, equal_itself}
-use Rattle.schema_model.specs.Catalogue.{CatalogueValue, RelationValue}
 use Rattle.view_def.specs.declared.written.Op.TheVariants.{Eq}
-use Rattle.view_def.specs.declared.typed.Place.{Place}
-use Rattle.view_def.specs.declared.typed.Place.TheVariants as place
 use Rattle.view_def.specs.declared.typed.Term.{Term}
 use Rattle.view_def.specs.declared.typed.Term.TheVariants as term
 use Rattle.view_def.specs.declared.typed.Range.{Range}
 use Rattle.view_def.specs.declared.typed.Range.TheVariants as range
 use Rattle.view_def.specs.Conditions.{Compares}
 use Rattle.view_def.specs.Query.{Query}
-use Rattle.view_def.specs.Profile.{lists_tuples}
-use Rattle.flow_law.specs.Facts.{Fact}
-use Rattle.valuation_meaning.specs.Elements.{Element, Valuation, A_row, text_of, text_at, cell_of_element, cell_at, cell_under, elements}
+use Rattle.valuation_meaning.specs.declared.index.Lists.{Lists}
+use Rattle.valuation_meaning.specs.declared.index.Lists.TheVariants as lists
+use Rattle.valuation_meaning.specs.declared.equality.Column.{Column}
+use Rattle.valuation_meaning.specs.Elements.{Element, Valuation, text_of, text_at, cell_at}
 use Rattle.valuation_meaning.specs.Terms.{value_of, compares_values}
 use Rattle.valuation_meaning.specs.Valuations.{counts}
-use Rattle.valuation_meaning.specs.Listing.{facts_after}
-use Rattle.valuation_meaning.specs.Early.{is_bound, NeedsMember, AliasesAgree}
-use Rattle.valuation_meaning.specs.Indexed.{cells_of, is_cell, places_of}
-use Rattle.valuation_meaning.specs.Lookups.{variable_of, resolved, operand_term, is_sought, NeedsEqual, RangesOver, IsLookup}
-use Rattle.valuation_meaning.specs.declared.lookups.Lookup.{Lookup}
-use Rattle.valuation_meaning.proofs.BoundLemmas.{last_at, nothing_behind, value_kept}
-use Rattle.valuation_meaning.proofs.AliasLemmas.{no_alias, no_facts_more}
-use Rattle.valuation_meaning.proofs.ListingLemmas.{all_enough}
+use Rattle.valuation_meaning.specs.Early.{is_bound_place, is_bound, NeedsMember, AliasesAgree}
+use Rattle.valuation_meaning.specs.Operands.{variable_of, resolved}
+use Rattle.valuation_meaning.specs.Columns.{term_by, compared_term, part_by, compared, is_sought, NeedsEqual}
+use Rattle.valuation_meaning.proofs.BoundLemmas.{last_at, nothing_behind, place_kept, value_kept}
 
--- ---- an equality needs its row
+-- ---- an equality needs its element
 differ : (s t : Text) → text_eq s t ≡ false → text_eq t s ≡ false
 differ s t h = by_test (text_eq t s) refl
   where
@@ -81,13 +75,17 @@ no_value : (o : Option Text) → compares_values Eq o None ≡ false
 no_value None = refl
 no_value (Some t) = refl
 
-module _ (q : Query) (a : Text) (s t : Term) (v w : Valuation) (e : Element) (cell : resolved q.decls s ≡ term.Cell (length v) (place.Fixed a)) (bound : is_bound (length v) (resolved q.decls t) ≡ true)
-    (unlike : is_sought (value_of v (resolved q.decls t)) (cell_of_element e a) ≡ false) (agree : AliasesAgree q (v ++ e ∷ w)) where
+module _ (q : Query) (col : Column) (s t : Term) (v w : Valuation) (e : Element) (cell : resolved q.decls s ≡ compared_term (length v) col) (named : is_bound_place (length v) col.attribute.now ≡ true)
+    (bound : is_bound (length v) (resolved q.decls t) ≡ true) (unlike : is_sought (value_of v (resolved q.decls t)) (compared v col e) ≡ false) (agree : AliasesAgree q (v ++ e ∷ w)) where
   abbrev whole : Valuation
   whole = v ++ e ∷ w
 
-  row_cell : value_of whole (resolved q.decls s) ≡ cell_of_element e a
-  row_cell = rw cell (rw (last_at v w e) refl)
+  part : (ls : Lists) → value_of whole (term_by ls (length v) col.attribute.now) ≡ part_by ls v col.attribute.now e
+  part lists.Rows = rw (last_at v w e, place_kept v (e ∷ w) col.attribute.now named) refl
+  part lists.Cells = rw (last_at v w e) refl
+
+  row_cell : value_of whole (resolved q.decls s) ≡ compared v col e
+  row_cell = ap (value_of whole) cell ∙ part col.lists
 
   sought : value_of whole (resolved q.decls t) ≡ value_of v (resolved q.decls t)
   sought = value_kept v (e ∷ w) (resolved q.decls t) bound
@@ -99,7 +97,7 @@ module _ (q : Query) (a : Text) (s t : Term) (v w : Valuation) (e : Element) (ce
           → compares_values Eq (value_of whole s) (value_of whole t) ≡ false
       by_reading (inl none) other = rw none refl
       by_reading (inr is) (inl none) = rw none (no_value (value_of whole s))
-      by_reading (inr is) (inr also) = rw (is ∙ row_cell, also ∙ sought) (unequal_first (value_of v (resolved q.decls t)) (cell_of_element e a) unlike)
+      by_reading (inr is) (inr also) = rw (is ∙ row_cell, also ∙ sought) (unequal_first (value_of v (resolved q.decls t)) (compared v col e) unlike)
 
   differ_second : compares_values Eq (value_of whole t) (value_of whole s) ≡ false
   differ_second = by_reading (read_as q whole agree s) (read_as q whole agree t)
@@ -108,97 +106,22 @@ module _ (q : Query) (a : Text) (s t : Term) (v w : Valuation) (e : Element) (ce
           → compares_values Eq (value_of whole t) (value_of whole s) ≡ false
       by_reading other (inl none) = rw none refl
       by_reading (inl none) (inr also) = rw none (no_value (value_of whole t))
-      by_reading (inr is) (inr also) = rw (is ∙ row_cell, also ∙ sought) (unequal_second (value_of v (resolved q.decls t)) (cell_of_element e a) unlike)
+      by_reading (inr is) (inr also) = rw (is ∙ row_cell, also ∙ sought) (unequal_second (value_of v (resolved q.decls t)) (compared v col e) unlike)
 
-module _ (q : Query) (a : Text) (s t : Term) (k : ℕ) (cell : resolved q.decls s ≡ term.Cell k (place.Fixed a)) (bound : is_bound k (resolved q.decls t) ≡ true) where
-  pub equal_first : NeedsMember q (Compares s Eq t) → NeedsEqual q k (resolved q.decls t) a
+module _ (q : Query) (col : Column) (s t : Term) (k : ℕ) (cell : resolved q.decls s ≡ compared_term k col) (named : is_bound_place k col.attribute.now ≡ true) (bound : is_bound k (resolved q.decls t) ≡ true) where
+  pub equal_first : NeedsMember q (Compares s Eq t) → NeedsEqual q k (resolved q.decls t) col
   equal_first needs v e long unlike w agree =
       let behind : (v ++ e ∷ []) ++ w ≡ v ++ e ∷ w = append_assoc v (e ∷ []) w in
       let agrees = subst (AliasesAgree q) behind agree in
       ap (λ (u : Valuation). counts q (value_of u)) behind
-      ∙ needs (value_of (v ++ e ∷ w)) (and_false _ (compares_values Eq (value_of (v ++ e ∷ w) s) (value_of (v ++ e ∷ w) t)) (differ_first q a s t v w e (rw long cell) (rw long bound) unlike agrees))
+      ∙ needs (value_of (v ++ e ∷ w)) (and_false _ (compares_values Eq (value_of (v ++ e ∷ w) s) (value_of (v ++ e ∷ w) t)) (differ_first q col s t v w e (rw long cell) (rw long named) (rw long bound) unlike agrees))
 
-  pub equal_second : NeedsMember q (Compares t Eq s) → NeedsEqual q k (resolved q.decls t) a
+  pub equal_second : NeedsMember q (Compares t Eq s) → NeedsEqual q k (resolved q.decls t) col
   equal_second needs v e long unlike w agree =
       let behind : (v ++ e ∷ []) ++ w ≡ v ++ e ∷ w = append_assoc v (e ∷ []) w in
       let agrees = subst (AliasesAgree q) behind agree in
       ap (λ (u : Valuation). counts q (value_of u)) behind
-      ∙ needs (value_of (v ++ e ∷ w)) (and_false _ (compares_values Eq (value_of (v ++ e ∷ w) t) (value_of (v ++ e ∷ w) s)) (differ_second q a s t v w e (rw long cell) (rw long bound) unlike agrees))
-
--- ---- the rows of one text, and all rows
-module _ {B : Type 0} (f : Element → List B) (r : RelationValue) (t : Text) where
-  picked : (n : ℕ) (cs : List (Option Text)) → ((i : ℕ) (c : Option Text) → slice_get cs i ≡ Some c → is_cell t c ≡ false → f (A_row r (n + i)) ≡ [])
-      → flat_map f (map (A_row r) (range_with_len n (length cs))) ≡ flat_map f (map (A_row r) (places_of t n cs))
-  picked n [] h = refl
-  picked n (c ∷ cs) h =
-      by_test (is_cell t c) refl (picked (n + 1) cs (λ i d at unlike.
-      let same : n + 1 + i ≡ n + suc i = omega arith in
-      rw same (h (suc i) d at unlike)))
-    where
-      first : is_cell t c ≡ false → f (A_row r n) ≡ []
-      first unlike =
-          let same : n + 0 ≡ n = omega arith in
-          rw same at (h 0 c refl unlike)
-
-      by_test : (b : Bool) → is_cell t c ≡ b → flat_map f (map (A_row r) (range_with_len (n + 1) (length cs))) ≡ flat_map f (map (A_row r) (places_of t (n + 1) cs))
-          → f (A_row r n) ++ flat_map f (map (A_row r) (range_with_len (n + 1) (length cs)))
-          ≡ flat_map f (map (A_row r) (cond b (n ∷ places_of t (n + 1) cs) (places_of t (n + 1) cs)))
-      by_test true is rest = ap (λ l. f (A_row r n) ++ l) rest
-      by_test false unlike rest = rw (first unlike) rest
-
--- the cell of a row is that of its place
-cell_at_place : (r : RelationValue) (a : Text) (rows : List Row) (i : ℕ) (c : Option Text) → slice_get (map (cell_under r.attributes a) rows) i ≡ Some c
-    → option_and_then (cell_under r.attributes a) (slice_get rows i) ≡ c
-cell_at_place r a [] i c e = absurd (cc)
-cell_at_place r a (row ∷ rows) zero c e = cc
-cell_at_place r a (row ∷ rows) (suc i) c e = cell_at_place r a rows i c e
-
-cells_long : (r : RelationValue) (a : Text) (rows : List Row) → length (map (cell_under r.attributes a) rows) ≡ length rows
-cells_long r a [] = refl
-cells_long r a (row ∷ rows) = ap suc (cells_long r a rows)
-
-module _ (c : CatalogueValue) (q : Query) (v : Valuation) (d : Range) (l : Lookup) (is : IsLookup c q l) (here : Some d ≡ slice_get q.decls (length v)) (at : l.place ≡ length v) (agree : AliasesAgree q v) where
-  abbrev next : Element → List Fact
-  next e = facts_after c q (v ++ e ∷ []) (drop (length v + 1) q.decls)
-
-  over : RangesOver c d l.index.0
-  over = is.over d (here ∙ ap (slice_get q.decls) (sym at))
-
-  needed : NeedsEqual q (length v) (operand_term l.sought) l.index.1
-  needed = subst (λ (k : ℕ). NeedsEqual q k (operand_term l.sought) l.index.1) at is.equal
-
-  -- no element of such a declaration is an alias's
-  pub any_agrees : (e : Element) → AliasesAgree q (v ++ e ∷ [])
-  any_agrees e = no_alias c q v e d agree here (λ j a same. not_alias j a same (is.rows d (here ∙ ap (slice_get q.decls) (sym at))))
-    where
-      not_alias : (j : ℕ) (a : Place) → d ≡ range.Alias j a → lists_tuples d ≡ true → ⊥
-      not_alias j a same rows = absurd (cc (rw same at rows))
-
-  none_of : (e : Element) → is_sought (value_of v (operand_term l.sought)) (cell_of_element e l.index.1) ≡ false → next e ≡ []
-  none_of e unlike = no_facts_more c q v e (any_agrees e) (needed v e refl unlike)
-
-  -- the value that is sought is there
-  pub found_facts : (s : Text) → value_of v (operand_term l.sought) ≡ Some s
-      → facts_after c q v (drop (length v) q.decls) ≡ flat_map next (map (A_row l.index.0) (places_of s 0 (cells_of l.index)))
-  found_facts s value =
-      all_enough c q v d here
-      ∙ ap (flat_map next) (over v ∙ ap (λ n. map (A_row l.index.0) (range_with_len 0 n)) (sym (cells_long l.index.0 l.index.1 l.index.0.rows)))
-      ∙ picked next l.index.0 s 0 (cells_of l.index) (λ i cell at unlike. none_of (A_row l.index.0 (0 + i)) (wrong i cell at unlike))
-    where
-      wrong : (i : ℕ) (cell : Option Text) → slice_get (cells_of l.index) i ≡ Some cell → is_cell s cell ≡ false → is_sought (value_of v (operand_term l.sought)) (cell_of_element (A_row l.index.0 (0 + i)) l.index.1) ≡ false
-      wrong i cell at unlike =
-          let zero_more : 0 + i ≡ i = omega arith in
-          rw (zero_more, value, cell_at_place l.index.0 l.index.1 l.index.0.rows i cell at) unlike
-
-  -- it is not
-  pub missing_facts : value_of v (operand_term l.sought) ≡ None → facts_after c q v (drop (length v) q.decls) ≡ []
-  missing_facts value = all_enough c q v d here ∙ all_none (elements c v d)
-    where
-      all_none : (es : List Element) → flat_map next es ≡ []
-      all_none [] = refl
-      all_none (e ∷ es) =
-          let none : is_sought (value_of v (operand_term l.sought)) (cell_of_element e l.index.1) ≡ false = rw value refl in
-          rw (none_of e none) (all_none es)
+      ∙ needs (value_of (v ++ e ∷ w)) (and_false _ (compares_values Eq (value_of (v ++ e ∷ w) t) (value_of (v ++ e ∷ w) s)) (differ_second q col s t v w e (rw long cell) (rw long named) (rw long bound) unlike agrees))
 
 -- one of those of which all have a property
 pub among_all : {X : Type 0} (P : X → Type 0) (xs ys : List X) (y : X) → ys ≡ xs → All P xs → IsAmong ys y → P y

@@ -9,5 +9,8 @@ pub mod Refusal
 pub mod Early
 pub mod EarlyTests
 pub mod Indexed
+pub mod Operands
+pub mod Found
+pub mod Columns
 pub mod Lookups
 pub mod Sources

@@ -10,4 +10,4 @@ pub record IsReady (s : Source) : Type 0 where
   pub empty : s.empty.now ≡ []
   pub members : All (IsEarlyMember (query_of s.view.now)) s.members.items
   pub terms : All (IsEarlyTerm (query_of s.view.now)) s.terms.items
-  pub lookups : All (IsLookup s.catalogue.now.databases (query_of s.view.now)) s.lookups.items
+  pub lookups : All (IsLookup (query_of s.view.now)) s.lookups.items

@@ -30,7 +30,8 @@ pub(crate) struct EarlyTerm<'a> {
     pub term: &'a Term,
 }
 
-fn is_bound_place(depth: usize, place: &Place) -> bool
+/// Whether the variable of a place, if it has one, is among those of so many declarations.
+pub(crate) fn is_bound_place(depth: usize, place: &Place) -> bool
     ensures { result ≡ is_bound_place depth place.now }
 {
     match place {
@@ -82,13 +83,20 @@ fn are_bound_conditions(depth: usize, members: &[Cond]) -> bool
     true
 }
 
+/// Whether a declaration is an alias.
+pub(crate) fn is_alias(range: &Range) -> bool {
+    match range {
+        Range::Alias(_, _) => true,
+        _ => false,
+    }
+}
+
 // The last declaration that is no alias: behind it each has one element at most, and an early test saves nothing.
 fn last_wide(decls: &[Range]) -> usize {
     let mut last = 0;
     for place in 0..decls.len() {
-        match &decls[place] {
-            Range::Alias(_, _) => {}
-            _ => last = place,
+        if !is_alias(&decls[place]) {
+            last = place;
         }
     }
     last

@@ -1,8 +1,7 @@
 //! The rows of a relation by the cell under an attribute.
-ghost use Rattle.std.specs.Prelude.{◌≡◌, map, IfOk, length};
+ghost use Rattle.std.specs.Prelude.{◌≡◌, ◌<◌, IfOk, length};
 ghost use Rattle.schema_model.specs.States.{plain_relation};
-ghost use Rattle.valuation_meaning.specs.Elements.{A_row};
-ghost use Rattle.valuation_meaning.specs.Indexed.{cells_of, places_of, IsIndexed};
+ghost use Rattle.valuation_meaning.specs.Found.{found_at, found_in};
 
 use crate::column::cell_under;
 use crate::element::Element;
@@ -11,6 +10,13 @@ use schema_model::Relation;
 use ss_text::{NoMemory, Row, Text};
 use std::alloc::Global;
 use std::marker::Model;
+
+/// What a declaration lists of a relation: its rows, or the cells under an attribute.
+#[derive(Clone, Copy)]
+pub(crate) enum Lists {
+    Rows,
+    Cells,
+}
 
 /// The rows of a relation; those with the same cell under an attribute are chained in their order.
 #[derive(Drop)]
@@ -78,17 +84,32 @@ impl<'a> Index<'a> {
         })
     }
 
-    /// The rows whose cell is this text, in their order.
-    pub(crate) fn rows(&self, alloc: Global, text: &'a Text) -> Result<Vec<Element<'a>>, NoMemory>
-        ensures { IfOk result (λ es. es.items ≡ map (A_row self.now.0) (places_of text.now 0 (cells_of self.now))) }
+    // What is found at a position.
+    fn element(&self, lists: Lists, position: usize, text: &'a Text) -> Element<'a>
+        requires { position < length self.now.0.rows }
+        ensures { result ≡ found_at lists self.now.0 text.now position }
     {
-        let mut rows = Vec::new(alloc);
+        match lists {
+            Lists::Rows => Element::of_row(self.relation, position, self.rows[position]),
+            Lists::Cells => Element::of_text(text),
+        }
+    }
+
+    /// The rows whose cell is this text, or those cells, in their order.
+    pub(crate) fn found(
+        &self,
+        alloc: Global,
+        lists: Lists,
+        text: &'a Text,
+    ) -> Result<Vec<Element<'a>>, NoMemory>
+        ensures { IfOk result (λ es. es.items ≡ found_in lists self.now text.now) }
+    {
+        let mut found = Vec::new(alloc);
         let mut next = self.heads.get(&text).copied();
         while let Some(position) = next {
-            let row = self.rows[position];
-            rows.push(Element::of_row(self.relation, position, row))?;
+            found.push(self.element(lists, position, text))?;
             next = self.next[position];
         }
-        Ok(rows)
+        Ok(found)
     }
 }

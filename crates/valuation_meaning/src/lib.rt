@@ -8,10 +8,13 @@
 mod column;
 mod early;
 mod element;
+mod equality;
 mod evaluation;
 mod index;
+mod indexes;
 mod listing;
 mod lookups;
+mod operand;
 mod ranges;
 mod shape;
 mod truth;

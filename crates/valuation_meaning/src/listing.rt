@@ -14,7 +14,8 @@ ghost use Rattle.std.specs.List.{All};
 
 use crate::early::{EarlyMember, EarlyTerm, early_members, early_terms, fails_member, lacks_term};
 use crate::element::Element;
-use crate::lookups::{Lookup, lookup_for, lookups, operand_value};
+use crate::indexes::Indexes;
+use crate::lookups::{Lookup, looked_up, lookup_for, lookups};
 use crate::ranges::elements;
 use crate::truth::truth;
 use crate::value::{place_text, value_of};
@@ -155,24 +156,24 @@ impl<'a> Source<'a> {
     fn candidates(
         &self,
         alloc: Global,
+        indexes: &mut Indexes<'a>,
         valuation: &[Element<'a>],
         range: &'a Range,
     ) -> Result<Vec<Element<'a>>, NoMemory>
         requires ready { IsReady self.now }
         requires agree { AliasesAgree (query_of self.now.view.now) valuation.now }
         requires range { Some range.now ≡ slice_get self.now.view.now.decls.items (length valuation.now) }
+        requires catalogue { indexes.old ≡ self.now.catalogue.now.databases }
         ensures facts { let query = query_of self.now.view.now in
             IfOk result (λ es. AreEnough self.now.catalogue.now.databases query valuation.now es.items) }
         ensures agree { IfOk result (λ es. All (λ e. AliasesAgree (query_of self.now.view.now) (valuation.now ++ e ∷ [])) es.items) }
+        ensures same { indexes.new ≡ indexes.old }
     {
         let Some(lookup) = lookup_for(&self.lookups, valuation.len()) else {
             let all = elements(alloc, self.catalogue, valuation, range)?;
             return Ok(all);
         };
-        let Some(text) = operand_value(valuation, &lookup.sought) else {
-            return Ok(Vec::new(alloc));
-        };
-        let found = lookup.index.rows(alloc, text)?;
+        let found = looked_up(alloc, indexes, valuation, lookup)?;
         Ok(found)
     }
 
@@ -180,15 +181,18 @@ impl<'a> Source<'a> {
     fn add_facts(
         &self,
         alloc: Global,
+        indexes: &mut Indexes<'a>,
         valuation: &mut Vec<Element<'a>>,
         facts: &mut Vec<Fact<'a>>,
     ) -> Result<(), NoMemory>
         requires ready { IsReady self.now }
         requires agree { AliasesAgree (query_of self.now.view.now) valuation.old.items }
+        requires catalogue { indexes.old ≡ self.now.catalogue.now.databases }
         ensures facts { let query = query_of self.now.view.now in
             let begun = valuation.old.items in
             OnOk result (facts.new.items ≡ facts.old.items ++ facts_after self.now.catalogue.now.databases query begun (drop (length begun) query.decls)) }
         ensures same { OnOk result (valuation.new.items ≡ valuation.old.items) }
+        ensures indexes { indexes.new ≡ indexes.old }
     {
         let Some(range) = declaration(self.view, valuation.len()) else {
             return self.add_fact(valuation, facts);
@@ -196,9 +200,9 @@ impl<'a> Source<'a> {
         if self.ends(valuation) {
             return Ok(());
         }
-        for element in self.candidates(alloc, valuation, range)? {
+        for element in self.candidates(alloc, indexes, valuation, range)? {
             valuation.push(element)?;
-            self.add_facts(alloc, valuation, facts)?;
+            self.add_facts(alloc, indexes, valuation, facts)?;
             valuation.pop();
         }
         Ok(())
@@ -223,10 +227,11 @@ pub(crate) fn facts<'a>(
         empty,
         members: early_members(alloc, view)?,
         terms: early_terms(alloc, view)?,
-        lookups: lookups(alloc, catalogue, view)?,
+        lookups: lookups(alloc, view)?,
     };
+    let mut indexes = Indexes::new(alloc, catalogue);
     let mut valuation = Vec::with_capacity(alloc, view.decls.len())?;
     let mut facts = Vec::new(alloc);
-    source.add_facts(alloc, &mut valuation, &mut facts)?;
+    source.add_facts(alloc, &mut indexes, &mut valuation, &mut facts)?;
     Ok(facts)
 }

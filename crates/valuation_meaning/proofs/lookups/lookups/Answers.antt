@@ -6,10 +6,8 @@ use Rattle.valuation_meaning.proofs.lookups.lookups.Goals as goal
 
 pub loop-place-preserved : goal.loop-place-preserved
 loop-place-preserved c =
-    let P = IsLookup c.args.catalogue.now.databases (query_of c.args.view.now) in
-    elim c.match-branch-2.branch [
-      | in-Some+in_ok-push w ↦
-          let one = rw w.in-Some.is at c.in_ok-lookup.ensures in
-          rw (w.lookups-is, w.in_ok-push.ensures.items) (All-push P c.loop-place.lookups.items _ c.loop-place.invariant one)
+    let P = IsLookup (query_of c.args.view.now) in
+    elim c.match-lookup_at.branch [
+      | in-Some+in_ok-push w ↦ rw (w.lookups-is, w.in_ok-push.ensures.items) (All-push P c.loop-place.lookups.items _ c.loop-place.invariant w.in-Some.ensures)
       | in_default w ↦ rw w.lookups-is c.loop-place.invariant
     ]

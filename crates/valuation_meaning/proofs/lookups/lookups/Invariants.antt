@@ -4,4 +4,4 @@ use Rattle.valuation_meaning.specs.Lookups.{IsLookup}
 use Rattle.valuation_meaning.proofs.lookups.lookups.Given as goal
 
 abbrev pub invariant-loop-place : goal.invariant-loop-place
-invariant-loop-place l = All (IsLookup l.catalogue.databases (query_of l.view)) l.lookups.items
+invariant-loop-place l = All (IsLookup (query_of l.view)) l.lookups.items

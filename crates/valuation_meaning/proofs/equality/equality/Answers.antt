@@ -6,10 +6,10 @@ use Rattle.view_def.specs.Query.{query_of}
 use Rattle.valuation_meaning.specs.Early.{NeedsMember}
 use Rattle.valuation_meaning.proofs.EarlyLemmas.{compare_is}
 use Rattle.valuation_meaning.proofs.SoughtLemmas.{equal_first, equal_second}
-use Rattle.valuation_meaning.proofs.lookups.equality.Goals as goal
+use Rattle.valuation_meaning.proofs.equality.equality.Goals as goal
 
-pub returns-in-Some : goal.returns-in-Some
-returns-in-Some c = λ needs.
+pub returns-in-Some-clause-needs : goal.returns-in-Some-clause-needs
+returns-in-Some-clause-needs c = λ needs.
     let q = query_of c.args.view.now in
     let m = c.in-Compare in
     let op : m.op ≡ Eq = c.is_equality.ensures (search rules) in
@@ -17,12 +17,12 @@ returns-in-Some c = λ needs.
     let same = found ∙ ap (λ (o : Op). Compares m.s o m.t) op in
     let first = rw c.deref.ensures.value at c.resolved-first.ensures in
     let second = rw c.deref-2.ensures.value at c.resolved-second.ensures in
-    let cell = sym first ∙ c.in-Some.ensures.cell in
+    let cell = sym first ∙ c.in-Some.ensures.term in
     let bound = rw second at c.in-Some.ensures.other in
-    rw second (equal_first q c.in-Some.attribute.now m.s m.t c.args.place cell bound (subst (NeedsMember q) same needs))
+    rw second (equal_first q c.in-Some.column m.s m.t c.args.place cell c.in-Some.ensures.bound bound (subst (NeedsMember q) same needs))
 
-pub returns-in-Some-attribute_beside : goal.returns-in-Some-attribute_beside
-returns-in-Some-attribute_beside c = λ needs.
+pub returns-in-Some-column_beside-clause-needs : goal.returns-in-Some-column_beside-clause-needs
+returns-in-Some-column_beside-clause-needs c = λ needs.
     let q = query_of c.args.view.now in
     let m = c.in-Compare in
     let op : m.op ≡ Eq = c.is_equality.ensures (search rules) in
@@ -30,6 +30,6 @@ returns-in-Some-attribute_beside c = λ needs.
     let same = found ∙ ap (λ (o : Op). Compares m.s o m.t) op in
     let first = rw c.deref.ensures.value at c.resolved-first.ensures in
     let second = rw c.deref-2.ensures.value at c.resolved-second.ensures in
-    let cell = sym second ∙ c.in-Some-attribute_beside.ensures.cell in
-    let bound = rw first at c.in-Some-attribute_beside.ensures.other in
-    rw first (equal_second q c.in-Some-attribute_beside.attribute.now m.t m.s c.args.place cell bound (subst (NeedsMember q) same needs))
+    let cell = sym second ∙ c.in-Some-column_beside.ensures.term in
+    let bound = rw first at c.in-Some-column_beside.ensures.other in
+    rw first (equal_second q c.in-Some-column_beside.column m.t m.s c.args.place cell c.in-Some-column_beside.ensures.bound bound (subst (NeedsMember q) same needs))
