@@ -9,7 +9,7 @@ use Rattle.view_def.specs.declared.typed.Cond.{Cond}
 use Rattle.view_def.specs.declared.typed.Term.{Term}
 use Rattle.view_def.specs.Conditions.{condition_of}
 use Rattle.view_def.specs.Query.{Query}
-use Rattle.valuation_meaning.specs.Lookups.{resolved}
+use Rattle.valuation_meaning.specs.Operands.{resolved}
 use Rattle.plan_law.specs.Columns.{sides_of}
 use Rattle.plan_law.specs.Links.{Source, Link, link, source_of, places_from, column_link, equality_link, key_of, is_own}
 use Rattle.plan_form.specs.declared.source.Source.{Source as Held}

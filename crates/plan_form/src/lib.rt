@@ -8,7 +8,6 @@
 mod base;
 mod cell;
 mod copies;
-mod equalities;
 mod form;
 mod header;
 mod links;

@@ -11,10 +11,10 @@ ghost use Rattle.plan_form.specs.Bases.{own_cells};
 
 use crate::Cell;
 use crate::base::Equal;
-use crate::equalities::members;
 use crate::source::{Source, find};
 use ss_text::NoMemory;
 use std::alloc::Global;
+use valuation_meaning::members;
 use view_def::{Cond, Op, Term, View};
 
 // Adds a link between two texts, where both are found.

@@ -1,14 +1,14 @@
 //! Conditions over the cells of a row.
-ghost use Rattle.std.specs.Prelude.{◌≡◌, map, option_map, option_copied, int_lt, int_le, IfOk};
+ghost use Rattle.std.specs.Prelude.{◌≡◌, map, option_map, option_copied, IfOk};
 ghost use Rattle.view_def.specs.Conditions.{AnyOf, AllOf, condition_of, conditions_of};
-ghost use Rattle.valuation_meaning.specs.Terms.{ordered, compares};
 ghost use Rattle.valuation_meaning.specs.Truth.{truth, truth_of_some, truth_of_each};
 ghost use Rattle.plan_form.specs.Tests.{at_row, cell_term, cell_for, condition_in, placed, each_placed};
 
 use crate::cell::{Cell, left_cell, text_in};
 use crate::source::find;
-use ss_text::{NoMemory, Row, Text, whole};
+use ss_text::{NoMemory, Row, Text};
 use std::alloc::Global;
+use valuation_meaning::compares;
 use view_def::{Cond, Op, Range, Term};
 
 /// A condition over the cells of a row. `Any` of nothing is false, and `All` of nothing is true.
@@ -102,37 +102,6 @@ pub(crate) fn placed_filter(
             let test = placed(alloc, decls, header, condition)?;
             Ok(Some(test))
         }
-    }
-}
-
-fn is_less(m: Option<i64>, n: Option<i64>) -> bool
-    ensures { result ≡ ordered int_lt m n }
-{
-    match (m, n) {
-        (Some(m), Some(n)) => m < n,
-        _ => false,
-    }
-}
-
-fn is_at_most(m: Option<i64>, n: Option<i64>) -> bool
-    ensures { result ≡ ordered int_le m n }
-{
-    match (m, n) {
-        (Some(m), Some(n)) => m <= n,
-        _ => false,
-    }
-}
-
-fn compares(op: Op, s: &Text, t: &Text) -> bool
-    ensures { result ≡ compares op s.now t.now }
-{
-    match op {
-        Op::Eq => s == t,
-        Op::Ne => s != t,
-        Op::Lt => is_less(whole(s), whole(t)),
-        Op::Le => is_at_most(whole(s), whole(t)),
-        Op::Gt => is_less(whole(t), whole(s)),
-        Op::Ge => is_at_most(whole(t), whole(s)),
     }
 }
 

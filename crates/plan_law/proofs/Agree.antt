@@ -16,7 +16,7 @@ use Rattle.plan_law.proofs.Weights.{weigh-cond}
 use Rattle.plan_law.proofs.Columns.{Has, all_has, all_from, column_reads, is_text, is_text-to, is_text-from, text_same, under_has}
 use Rattle.plan_law.proofs.Held.{IsColumn, Owns, Fits, value_more}
 use Rattle.plan_law.proofs.Known.{term_reads}
-use Rattle.valuation_meaning.specs.Lookups.{variable_of}
+use Rattle.valuation_meaning.specs.Operands.{variable_of}
 use Rattle.operator_law.specs.Bags.{weigh}
 use Rattle.operator_law.proofs.Weights.{weigh-same, weigh-flat_map}
 

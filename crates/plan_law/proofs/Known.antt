@@ -15,7 +15,7 @@ use Rattle.view_def.specs.Terms.{terms_of_view}
 use Rattle.plan_law.specs.Columns.{Combo, tested_terms, alias_cell, wanted, fold_of, text_under, found, read, is_consistent}
 use Rattle.plan_law.proofs.Columns.{Has, has_left, has_given, and_left, and_right, column_reads, own_reads}
 use Rattle.plan_law.proofs.Held.{Held, Picked, PickedFor, EachHeld, HeldTuple, Stands, IsColumn, Owns, Fits, is_wanted, is_fold}
-use Rattle.valuation_meaning.specs.Lookups.{variable_of}
+use Rattle.valuation_meaning.specs.Operands.{variable_of}
 
 -- the declaration of a variable
 pub text_declared : (ds : List Range) (i : ℕ) → is_text_variable ds i ≡ true → (d : Range) × (slice_get ds i ≡ Some d) × (lists_tuples d ≡ false)

@@ -26,7 +26,7 @@ use Rattle.plan_law.proofs.Widths.{HasWidth, flat_width}
 use Rattle.plan_law.proofs.PlainRows.{zipped, IsUnder, stage_under, all_terms, plain_stages}
 use Rattle.plan_law.proofs.First.{first_of}
 use Rattle.plan_law.proofs.Theorem.{plan_lists}
-use Rattle.valuation_meaning.specs.Lookups.{resolved}
+use Rattle.valuation_meaning.specs.Operands.{resolved}
 use Rattle.operator_law.specs.Bags.{weigh, SameBag}
 
 -- with nothing on the left every link is of the right row alone

@@ -16,7 +16,7 @@ use Rattle.plan_law.specs.Columns.{Combo, read, is_consistent, may_equal, sides_
 use Rattle.plan_law.proofs.Columns.{and_left, and_right, and_both, all_has, all_from, consistent_start, found_more}
 use Rattle.plan_law.proofs.Steps.{combined}
 use Rattle.valuation_meaning.specs.Early.{listed}
-use Rattle.valuation_meaning.specs.Lookups.{resolved}
+use Rattle.valuation_meaning.specs.Operands.{resolved}
 use Rattle.operator_law.specs.Bags.{weigh}
 use Rattle.operator_law.proofs.Weights.{weigh-same, weigh-filter, weigh-map, weigh-flat_map}
 use Rattle.plan_law.proofs.Weights.{weigh-zero}

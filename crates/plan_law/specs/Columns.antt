@@ -16,7 +16,7 @@ use Rattle.view_def.specs.Terms.{terms_of_view}
 use Rattle.valuation_meaning.specs.Valuations.{counts}
 use Rattle.valuation_meaning.specs.Meaning.{term_of, fact_of}
 use Rattle.valuation_meaning.specs.Early.{members}
-use Rattle.valuation_meaning.specs.Lookups.{resolved}
+use Rattle.valuation_meaning.specs.Operands.{resolved}
 use Rattle.schema_delta.specs.declared.spec.FlatSpec.{FlatSpec}
 use Rattle.schema_delta.specs.Flat.{flat}
 

@@ -136,8 +136,9 @@ fn members_of(condition: &Cond) -> &[Cond]
     }
 }
 
-/// The members of the outermost AND.
-pub(crate) fn members(filter: &Option<Cond>) -> &[Cond]
+/// The members of the outermost AND of a condition, in their order; another condition is its own only member, and none
+/// has no members.
+pub fn members(filter: &Option<Cond>) -> &[Cond]
     ensures { map condition_of result.now ≡ members (option_map condition_of filter.now) }
 {
     match filter {

@@ -20,5 +20,7 @@ mod shape;
 mod truth;
 mod value;
 
+pub use early::members;
 pub use evaluation::{EvalFault, evaluate};
 pub use shape::shape_of;
+pub use truth::compares;
