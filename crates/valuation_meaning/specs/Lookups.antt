@@ -1,5 +1,4 @@
 -- A declaration whose elements are found by an equality with a term of earlier declarations.
-pub use Rattle.valuation_meaning.specs.Operands.{variable_of, resolved}
 use Rattle.std.specs.Prelude.{◌≡◌, List, slice_get, Some}
 use Rattle.schema_model.specs.Catalogue.{CatalogueValue}
 use Rattle.view_def.specs.Query.{Query}
