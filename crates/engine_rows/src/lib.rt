@@ -4,6 +4,12 @@
 #![tactic(auto)]
 
 #[cfg(test)]
+mod bags;
+#[cfg(test)]
 mod flat;
 #[cfg(test)]
+mod operators;
+#[cfg(test)]
 mod shelves;
+#[cfg(test)]
+mod united;

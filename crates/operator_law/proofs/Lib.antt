@@ -3,4 +3,3 @@ pub mod Counts
 pub mod SignedRows
 pub mod BagCounts
 pub mod BagWaits
-mod TestPlaces

@@ -6,8 +6,6 @@
 #![tactic(auto)]
 
 mod bag;
-#[cfg(test)]
-mod bag_tests;
 mod both;
 mod delta;
 mod kept;
@@ -16,8 +14,6 @@ mod operator;
 mod project;
 mod rows;
 mod select;
-#[cfg(test)]
-mod tests;
 
 pub use bag::{Bag, BagReady};
 pub use both::{Side, Then};

@@ -6,8 +6,6 @@
 
 mod behind;
 mod named;
-#[cfg(test)]
-mod tests;
 mod unite;
 
 pub use behind::{moves_behind, rows_behind};

@@ -1,8 +1,8 @@
 //! Two signed rows through each operator, by hand.
 ghost use Rattle.std.specs.Prelude.{◌≡◌, ◌<◌, IfOk, All, length};
 
-use crate::{Delta, Operator, Project, Select, Side, Signed, Then};
 use flow_law::Stop;
+use operator_law::{Delta, Operator, Project, Select, Side, Signed, Then};
 use ss_text::{NoMemory, Row, Steps, Text};
 use std::alloc::Global;
 use std::marker::Brand;

@@ -2,7 +2,7 @@
 ghost use Rattle.std.specs.Prelude.{◌≡◌, ◌∷◌, [], IfOk};
 ghost use Rattle.operator_law.specs.RowCounts.{KeepsRows};
 
-use crate::{Bag, Delta, Kept};
+use operator_law::{Bag, Delta, Kept};
 use ss_text::{NoMemory, Row, Text};
 use std::alloc::Global;
 use std::test::Fail;
@@ -36,7 +36,7 @@ fn filled(alloc: Global, rows: Vec<Row>) -> Result<Bag, NoMemory>
     Ok(bag)
 }
 
-#[tactic(auto, using(crate::proofs::SignedRows::all_go))]
+#[tactic(auto, using(operator_law::proofs::SignedRows::all_go))]
 fn emptied(alloc: Global, bag: Bag, rows: Vec<Row>) -> Result<Bag, NoMemory>
     requires { KeepsRows bag rows.items }
     ensures { IfOk result (λ bag. KeepsRows bag []) }

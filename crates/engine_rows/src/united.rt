@@ -1,7 +1,6 @@
 //! Two inputs, of which the second changes, by hand.
 ghost use Rattle.std.specs.Prelude.{◌≡◌, ◌∷◌, ◌<◌, [], IfOk, All, length, map};
 
-use crate::{Named, Unite};
 use flow_law::Stop;
 use operator_law::{Delta, Operator, Select, Signed};
 use ss_text::{NoMemory, Row, Steps, Text};
@@ -9,6 +8,7 @@ use std::alloc::Global;
 use std::marker::Brand;
 use std::sync::ledger::{Blank, Ledger};
 use std::test::Fail;
+use unite_op::{Named, Unite};
 
 fn name(alloc: Global, text: &[u8]) -> Result<Row, NoMemory>
     ensures { IfOk result (λ row. row ≡ text.now ∷ []) }

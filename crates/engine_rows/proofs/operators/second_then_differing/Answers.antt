@@ -1,6 +1,6 @@
 use Rattle.std.proofs.Common.{length, slice_index_or}
-use Rattle.operator_law.proofs.TestPlaces.{two_within, two_cells}
-use Rattle.operator_law.proofs.tests.second_then_differing.Goals as goal
+use Rattle.engine_rows.proofs.OperatorPlaces.{two_within, two_cells}
+use Rattle.engine_rows.proofs.operators.second_then_differing.Goals as goal
 
 pub prepare-requires : goal.prepare-requires
 prepare-requires g c = (

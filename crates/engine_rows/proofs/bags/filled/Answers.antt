@@ -2,7 +2,7 @@ use Rattle.std.proofs.Common.{[], List, sym, ◌∙◌, subst, arith}
 use Rattle.operator_law.specs.declared.delta.Signed.{Signed}
 use Rattle.operator_law.specs.Bags.{MovesBag}
 use Rattle.operator_law.proofs.SignedRows.{all_come}
-use Rattle.operator_law.proofs.bag_tests.filled.Goals as goal
+use Rattle.engine_rows.proofs.bags.filled.Goals as goal
 
 pub reserve-requires-clause-fits : goal.reserve-requires-clause-fits
 reserve-requires-clause-fits c =

@@ -2,7 +2,7 @@ use Rattle.std.proofs.Common.{[], List, sym, ◌∙◌, subst, arith}
 use Rattle.operator_law.specs.declared.delta.Signed.{Signed}
 use Rattle.operator_law.specs.Bags.{MovesBag}
 use Rattle.operator_law.proofs.SignedRows.{all_go}
-use Rattle.operator_law.proofs.bag_tests.emptied.Goals as goal
+use Rattle.engine_rows.proofs.bags.emptied.Goals as goal
 
 pub returns : goal.returns
 returns c =

@@ -1,0 +1,2 @@
+mod OperatorPlaces
+mod UnitedNames
