@@ -1,1 +1,5 @@
 pub mod EachLemmas
+pub mod SlotLemmas
+pub mod RoomLemmas
+pub mod MadeLemmas
+pub mod WaitLemmas

@@ -1,2 +1,5 @@
 pub mod Kept
 pub mod Ready
+pub mod Slots
+pub mod KeptTables
+pub mod Waits

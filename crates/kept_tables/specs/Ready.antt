@@ -1,5 +1,5 @@
 -- When a table has the memory that it says.
-use Rattle.std.specs.Prelude.{ℕ, Vec, ◌≤◌, ◌+◌, List}
+use Rattle.std.specs.Prelude.{ℕ, Vec, ◌≤◌, ◌+◌}
 use Rattle.std.proofs.Common.{Global}
 use Rattle.std.specs.Vec.{vec_len, vec_capacity}
 use Rattle.ss_text.specs.Texts.{Text}

@@ -1,9 +1,19 @@
 //! Tables that take lines with memory that was taken before.
 //!
-//! Its contract: `expect` takes all memory for what a line adds and leaves the table, and `make` gives exactly the table of
-//! the line's meaning, without memory. It knows nothing of facts, of views or of files.
+//! Its contract: `KeptTable::expect` takes all memory for what a line adds and leaves the table, and `make` gives exactly the
+//! table of the line's meaning, without memory. `KeptTables` keeps the law of `Kept` for lists of lines, each of which fits
+//! those before it. It knows nothing of facts, of views or of files.
 #![tactic(auto)]
 
+mod copies;
+mod kept;
+mod making;
+mod room;
+mod slot;
 mod table;
+mod tables;
 
+pub use kept::LinesReady;
+pub use slot::Slot;
 pub use table::KeptTable;
+pub use tables::KeptTables;

@@ -4,7 +4,7 @@ use Rattle.ss_text.specs.Texts.{Row, row_eq}
 use Rattle.ss_text.specs.Places.{changed_where}
 use Rattle.flow_law.specs.declared.line.TableLine.TheVariants.{Cell}
 use Rattle.flow_law.specs.Tables.{table_value}
-use Rattle.flow_law.specs.Lines.{with_cell_at, has_row, has_column}
+use Rattle.flow_law.specs.Lines.{with_cell_at}
 use Rattle.flow_law.proofs.TableLemmas.{place_of_column, line_in_order}
 use Rattle.kept_tables.specs.Kept.{kept_table}
 use Rattle.kept_tables.proofs.EachLemmas.{all_weaker}

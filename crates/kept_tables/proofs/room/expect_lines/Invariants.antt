@@ -1,0 +1,10 @@
+use Rattle.std.proofs.Common.{◌≡◌, take}
+use Rattle.kept_tables.specs.Slots.{tables_in, AreSlots, HaveRoom}
+use Rattle.kept_tables.proofs.room.expect_lines.Given as goal
+
+abbrev pub invariant-loop-line : goal.invariant-loop-line
+invariant-loop-line l = record {
+  order : AreSlots l.slots.items;
+  tables : tables_in l.slots.items ≡ tables_in l.fn.slots.items;
+  memory : HaveRoom (take l.line-index l.lines) l.slots.items;
+}

@@ -1,0 +1,65 @@
+//! Lines that are made with memory that was taken before.
+ghost use Rattle.std.specs.Prelude.{◌≡◌, ◌∷◌, [], List, IsTrue};
+ghost use Rattle.flow_law.specs.Lines.{fits_line, fit_lines, after_line, after_lines};
+ghost use Rattle.flow_law.specs.declared.line.TableLine.{TableLine as Line};
+ghost use Rattle.kept_tables.specs.Slots.{tables_in, AreSlots, HaveRoom};
+
+use crate::slot::{Slot, find};
+use flow_law::TableLine;
+
+// Makes the step of a line.
+fn make_line(slots: &mut Vec<Slot>, line: TableLine)
+    requires order { AreSlots slots.old.items }
+    requires fits { IsTrue (fits_line (tables_in slots.old.items) line) }
+    requires memory { HaveRoom (line ∷ []) slots.old.items }
+    ensures order { AreSlots slots.new.items }
+    ensures tables { tables_in slots.new.items ≡ after_line (tables_in slots.old.items) line }
+    ensures memory { (lines : List Line) → HaveRoom (line ∷ lines) slots.old.items → HaveRoom lines slots.new.items }
+{
+    let Ok(place) = find(slots, line.label()) else {
+        unreachable!()
+    };
+    let slot = &mut slots[place];
+    slot.make(line);
+}
+
+// Makes the steps of all lines.
+fn make_lines(slots: &mut Vec<Slot>, lines: Vec<TableLine>)
+    requires order { AreSlots slots.old.items }
+    requires fit { IsTrue (fit_lines (tables_in slots.old.items) lines.items) }
+    requires memory { HaveRoom lines.items slots.old.items }
+    ensures order { AreSlots slots.new.items }
+    ensures tables { tables_in slots.new.items ≡ after_lines (tables_in slots.old.items) lines.items }
+{
+    for line in lines {
+        make_line(slots, line);
+    }
+}
+
+// Gives the slots back of tables that are not there.
+fn drop_gone(slots: &mut Vec<Slot>)
+    requires { AreSlots slots.old.items }
+    ensures order { AreSlots slots.new.items }
+    ensures tables { tables_in slots.new.items ≡ tables_in slots.old.items }
+{
+    slots.retain(|slot| slot.there);
+}
+
+/// Makes the steps of all lines, each of which fits those before it. It takes no memory.
+pub(crate) fn make_all(slots: &mut Vec<Slot>, lines: Vec<TableLine>)
+    requires order { AreSlots slots.old.items }
+    requires fit { IsTrue (fit_lines (tables_in slots.old.items) lines.items) }
+    requires memory { HaveRoom lines.items slots.old.items }
+    ensures order { AreSlots slots.new.items }
+    ensures tables { tables_in slots.new.items ≡ after_lines (tables_in slots.old.items) lines.items }
+{
+    let goes = lines.iter().any(takes_table);
+    make_lines(slots, lines);
+    if goes {
+        drop_gone(slots);
+    }
+}
+
+fn takes_table(line: &TableLine) -> bool {
+    matches!(line, TableLine::TableMinus { .. })
+}

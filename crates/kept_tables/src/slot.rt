@@ -1,0 +1,73 @@
+//! A place for the table of a label.
+ghost use Rattle.std.specs.Prelude.{◌≡◌, IsTrue, IfOk, IfErr};
+ghost use Rattle.ss_text.specs.Texts.{text_cmp};
+ghost use Rattle.ss_text.specs.Keys.{IsPlaceOf, IsPlaceFor};
+ghost use Rattle.std.specs.Option.{option_copied};
+ghost use Rattle.flow_law.specs.Lines.{fits_table};
+ghost use Rattle.kept_tables.specs.Kept.{HasFor};
+ghost use Rattle.kept_tables.specs.Slots.{slot_label, slot_after, new_slot, table_there, AreSlots};
+
+use crate::KeptTable;
+use flow_law::TableLine;
+use ss_text::Text;
+use std::alloc::Global;
+
+/// A table under its label, or where it is not there memory for one that may come.
+#[derive(Debug, Drop)]
+pub struct Slot {
+    pub(crate) label: Text,
+    pub(crate) there: bool,
+    pub(crate) table: KeptTable,
+}
+
+impl Slot {
+    /// No table, and memory for none.
+    pub(crate) fn new(alloc: Global, label: Text) -> Slot
+        ensures { result ≡ new_slot label }
+    {
+        Slot {
+            label,
+            there: false,
+            table: KeptTable::new(alloc),
+        }
+    }
+
+    /// The label.
+    pub fn label(&self) -> &Text
+        ensures { result.now ≡ self.now.label }
+    {
+        &self.label
+    }
+
+    /// The table, if it is there.
+    pub fn table(&self) -> Option<&KeptTable>
+        ensures { option_copied result ≡ table_there self.now }
+    {
+        if self.there { Some(&self.table) } else { None }
+    }
+
+    /// Makes the step of a line of this label. It takes no memory.
+    pub(crate) fn make(&mut self, line: TableLine)
+        requires fits { IsTrue (fits_table line self.old.table.table) }
+        requires memory { HasFor line self.old.table }
+        ensures { self.new ≡ slot_after line self.old }
+    {
+        match line {
+            TableLine::TableMinus { .. } => {
+                self.table.clear();
+                self.there = false;
+            }
+            TableLine::TablePlus { .. } => self.there = true,
+            _ => self.table.make(line),
+        }
+    }
+}
+
+/// The place of the slot of a label, or where it would stand.
+pub(crate) fn find(slots: &[Slot], label: &Text) -> Result<usize, usize>
+    requires { AreSlots slots.now }
+    ensures found { IfOk result (IsPlaceOf slot_label label.now slots.now) }
+    ensures absent { IfErr result (IsPlaceFor text_cmp slot_label label.now slots.now) }
+{
+    slots.binary_search_by(|slot| slot.label.cmp(label))
+}
