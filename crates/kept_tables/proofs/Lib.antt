@@ -3,3 +3,4 @@ pub mod SlotLemmas
 pub mod RoomLemmas
 pub mod MadeLemmas
 pub mod WaitLemmas
+pub mod OpeningLemmas

@@ -1,7 +1,6 @@
 -- What a line that is made at its slot comes to.
-use Rattle.std.proofs.Common.{◌≡◌, ◌<◌, ◌∷◌, ◌∙◌, [], ℕ, zero, suc, Bool, true, false, List, Some, None, refl, sym, ap, length, get_or}
+use Rattle.std.proofs.Common.{◌≡◌, ◌<◌, ◌∙◌, ℕ, Bool, true, false, List, Some, None, refl, sym, ap, length, get_or}
 use Rattle.std.specs.Prelude.{not, cond}
-use Rattle.std.specs.List.{AllByRecursion}
 use Rattle.std.specs.Option.{option_map_or}
 use Rattle.std.proofs.lemmas.Bool.{false≢true}
 use Rattle.ss_text.specs.Places.{at_place}
@@ -14,7 +13,7 @@ use Rattle.flow_law.specs.Lines.{has_table, label_of, table_after, fits_table, f
 use Rattle.kept_tables.specs.declared.slot.Slot.{Slot}
 use Rattle.kept_tables.specs.Slots.{slot_label, tables_in, IsSlot, AreSlots, slot_after}
 use Rattle.kept_tables.proofs.SlotLemmas.{came, went, changed, table_at, has_at}
-use Rattle.kept_tables.proofs.RoomLemmas.{label_stays, expected}
+use Rattle.kept_tables.proofs.RoomLemmas.{label_stays}
 
 -- whether a line needs its table to be there
 abbrev pub wants : TableLine → Bool
@@ -78,19 +77,4 @@ pub slots_made : (line : TableLine) (ss : List Slot) (i : ℕ) (d : Slot) → Ar
 slots_made line ss i d h there = record {
   labels = rw (map_at_place slot_label (slot_after line) (label_stays line) ss i) h.labels;
   empty = each_at_place IsSlot ss i d (slot_after line) h.empty (slot_stays line (get_or ss i d) there);
-}
-
--- an expected line leaves the table of its slot
-same_slot : (line : TableLine) (s : Slot) → IsSlot s → IsSlot (expected line s)
-same_slot line s h = h
-
-each_expected : (line : TableLine) (ss : List Slot) (i : ℕ) → AllByRecursion IsSlot ss → AllByRecursion IsSlot (at_place i (expected line) ss)
-each_expected line [] i h = tt
-each_expected line (s ∷ ss) zero h = (same_slot line s h.0, h.1)
-each_expected line (s ∷ ss) (suc i) h = (h.0, each_expected line ss i h.1)
-
-pub slots_expected : (line : TableLine) (ss : List Slot) (i : ℕ) → AreSlots ss → AreSlots (at_place i (expected line) ss)
-slots_expected line ss i h = record {
-  labels = rw (map_at_place slot_label (expected line) (λ s. refl) ss i) h.labels;
-  empty = each_expected line ss i h.empty;
 }

@@ -7,6 +7,7 @@ use Rattle.std.specs.declared.cmp.Ordering.TheVariants.{Less, Greater}
 use Rattle.ss_text.specs.Texts.{Text, text_cmp}
 use Rattle.ss_text.specs.Places.{at_place}
 use Rattle.ss_text.specs.Keys.{IsPlaceOf, IsPlaceFor}
+use Rattle.ss_text.proofs.PlaceLemmas.{map_at_place}
 use Rattle.ss_text.proofs.KeyLemmas.{text_order, Lacks, equal_itself, less_turned, lacks_for, lacks_any, lacks_kept, lacks_changed, lookup_lacks, placed_for, at_tail, earlier_differs, ascends_placed}
 use Rattle.flow_law.proofs.TableLemmas.{all_inserted}
 use Rattle.flow_law.specs.Tables.{TableValue, empty_table, table_of, label_in}
@@ -107,6 +108,14 @@ same_tables f (s ∷ ss) zero there label table = rw (there s, label s, table s)
 same_tables f (s ∷ ss) (suc i) there label table =
     let later = same_tables f ss i there label table in
     either s.there _ (λ e. rw e (ap (λ ts. (s.label, s.table.table) ∷ ts) later)) (λ e. rw e later)
+
+each_stays : (f : Slot → Slot) → ((s : Slot) → IsSlot s → IsSlot (f s)) → (ss : List Slot) (i : ℕ) → AllByRecursion IsSlot ss → AllByRecursion IsSlot (at_place i f ss)
+each_stays f stays [] i h = tt
+each_stays f stays (s ∷ ss) zero h = (stays s h.0, h.1)
+each_stays f stays (s ∷ ss) (suc i) h = (h.0, each_stays f stays ss i h.1)
+
+pub slots_stay : (f : Slot → Slot) → ((s : Slot) → (f s).label ≡ s.label) → ((s : Slot) → IsSlot s → IsSlot (f s)) → (ss : List Slot) (i : ℕ) → AreSlots ss → AreSlots (at_place i f ss)
+slots_stay f label stays ss i h = record { labels = rw (map_at_place slot_label f label ss i) h.labels; empty = each_stays f stays ss i h.empty }
 
 -- a slot without a table comes in
 pub dark_inserted : (ss : List Slot) (i : ℕ) (label : Text) → tables_in (insert ss i (new_slot label)) ≡ tables_in ss

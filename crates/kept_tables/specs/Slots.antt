@@ -5,7 +5,7 @@ use Rattle.std.specs.List.Sorted.{IsStrictlySortedBy}
 use Rattle.ss_text.specs.Texts.{Text, text_cmp, text_eq}
 use Rattle.flow_law.specs.declared.line.TableLine.{TableLine}
 use Rattle.flow_law.specs.declared.line.TableLine.TheVariants.{TableMinus, TablePlus}
-use Rattle.flow_law.specs.Tables.{TablesValue, empty_table}
+use Rattle.flow_law.specs.Tables.{TableValue, TablesValue, empty_table}
 use Rattle.flow_law.specs.Lines.{label_of}
 use Rattle.kept_tables.specs.Kept.{KeptTableValue, kept_table, kept_after, one_row, one_column}
 use Rattle.kept_tables.specs.declared.slot.Slot.{Slot}
@@ -59,6 +59,10 @@ pub record HaveRoom (lines : List TableLine) (ss : List Slot) : Type 0 where
 -- no table, and memory for none
 abbrev pub new_slot : Text → Slot
 new_slot label = record { label = label; there = false; table = kept_table empty_table 0 0 }
+
+-- a table that is there, and memory for nothing more
+abbrev pub full_slot : Text × TableValue → Slot
+full_slot p = record { label = p.0; there = true; table = kept_table p.1 0 0 }
 
 -- the slot after a line of its label
 abbrev pub slot_after : TableLine → Slot → Slot

@@ -8,6 +8,7 @@
 mod copies;
 mod kept;
 mod making;
+mod opening;
 mod room;
 mod slot;
 mod table;

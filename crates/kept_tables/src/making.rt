@@ -4,7 +4,7 @@ ghost use Rattle.flow_law.specs.Lines.{fits_line, fit_lines, after_line, after_l
 ghost use Rattle.flow_law.specs.declared.line.TableLine.{TableLine as Line};
 ghost use Rattle.kept_tables.specs.Slots.{tables_in, AreSlots, HaveRoom};
 
-use crate::slot::{Slot, find};
+use crate::slot::{Slot, drop_gone, find};
 use flow_law::TableLine;
 
 // Makes the step of a line.
@@ -34,15 +34,6 @@ fn make_lines(slots: &mut Vec<Slot>, lines: Vec<TableLine>)
     for line in lines {
         make_line(slots, line);
     }
-}
-
-// Gives the slots back of tables that are not there.
-fn drop_gone(slots: &mut Vec<Slot>)
-    requires { AreSlots slots.old.items }
-    ensures order { AreSlots slots.new.items }
-    ensures tables { tables_in slots.new.items ≡ tables_in slots.old.items }
-{
-    slots.retain(|slot| slot.there);
 }
 
 /// Makes the steps of all lines, each of which fits those before it. It takes no memory.

@@ -4,7 +4,7 @@ ghost use Rattle.ss_text.specs.Keys.{IsPlaceOf};
 ghost use Rattle.flow_law.specs.declared.line.TableLine.{TableLine as Line};
 ghost use Rattle.kept_tables.specs.Slots.{slot_label, tables_in, AreSlots, HaveRoom};
 
-use crate::slot::{Slot, find};
+use crate::slot::{Slot, drop_gone, find};
 use flow_law::TableLine;
 use ss_text::{NoMemory, Text};
 use std::alloc::Global;
@@ -40,12 +40,8 @@ fn expect_line(alloc: Global, slots: &mut Vec<Slot>, line: &TableLine) -> Result
     Ok(())
 }
 
-/// Takes the memory for what all lines add.
-pub(crate) fn expect_lines(
-    alloc: Global,
-    slots: &mut Vec<Slot>,
-    lines: &[TableLine],
-) -> Result<(), NoMemory>
+// Takes the memory for what all lines add.
+fn expect_lines(alloc: Global, slots: &mut Vec<Slot>, lines: &[TableLine]) -> Result<(), NoMemory>
     requires { AreSlots slots.old.items }
     ensures order { AreSlots slots.new.items }
     ensures tables { tables_in slots.new.items ≡ tables_in slots.old.items }
@@ -55,4 +51,36 @@ pub(crate) fn expect_lines(
         expect_line(alloc, slots, line)?;
     }
     Ok(())
+}
+
+/// Gives the memory for lines back.
+pub(crate) fn forget(slots: &mut Vec<Slot>)
+    requires { AreSlots slots.old.items }
+    ensures order { AreSlots slots.new.items }
+    ensures tables { tables_in slots.new.items ≡ tables_in slots.old.items }
+{
+    for slot in slots.iter_mut() {
+        slot.table.forget();
+    }
+    drop_gone(slots);
+}
+
+/// Takes the memory for what all lines add, or after `NoMemory` none of it.
+pub(crate) fn expect_all(
+    alloc: Global,
+    slots: &mut Vec<Slot>,
+    lines: &[TableLine],
+) -> Result<(), NoMemory>
+    requires { AreSlots slots.old.items }
+    ensures order { AreSlots slots.new.items }
+    ensures tables { tables_in slots.new.items ≡ tables_in slots.old.items }
+    ensures memory { OnOk result (HaveRoom lines.now slots.new.items) }
+{
+    match expect_lines(alloc, slots, lines) {
+        Ok(()) => Ok(()),
+        Err(fault) => {
+            forget(slots);
+            Err(fault)
+        }
+    }
 }

@@ -1,11 +1,11 @@
 //! A place for the table of a label.
-ghost use Rattle.std.specs.Prelude.{◌≡◌, IsTrue, IfOk, IfErr};
+ghost use Rattle.std.specs.Prelude.{◌≡◌, true, IsTrue, IfOk, IfErr};
 ghost use Rattle.ss_text.specs.Texts.{text_cmp};
 ghost use Rattle.ss_text.specs.Keys.{IsPlaceOf, IsPlaceFor};
 ghost use Rattle.std.specs.Option.{option_copied};
 ghost use Rattle.flow_law.specs.Lines.{fits_table};
 ghost use Rattle.kept_tables.specs.Kept.{HasFor};
-ghost use Rattle.kept_tables.specs.Slots.{slot_label, slot_after, new_slot, table_there, AreSlots};
+ghost use Rattle.kept_tables.specs.Slots.{slot_label, slot_after, new_slot, table_there, tables_in, AreSlots};
 
 use crate::KeptTable;
 use flow_law::TableLine;
@@ -29,6 +29,17 @@ impl Slot {
             label,
             there: false,
             table: KeptTable::new(alloc),
+        }
+    }
+
+    /// A table that is there.
+    pub(crate) fn full(label: Text, table: KeptTable) -> Slot
+        ensures { result ≡ record { label = label; there = true; table = table } }
+    {
+        Slot {
+            label,
+            there: true,
+            table,
         }
     }
 
@@ -70,4 +81,13 @@ pub(crate) fn find(slots: &[Slot], label: &Text) -> Result<usize, usize>
     ensures absent { IfErr result (IsPlaceFor text_cmp slot_label label.now slots.now) }
 {
     slots.binary_search_by(|slot| slot.label.cmp(label))
+}
+
+/// Gives the slots back of tables that are not there.
+pub(crate) fn drop_gone(slots: &mut Vec<Slot>)
+    requires { AreSlots slots.old.items }
+    ensures order { AreSlots slots.new.items }
+    ensures tables { tables_in slots.new.items ≡ tables_in slots.old.items }
+{
+    slots.retain(|slot| slot.there);
 }

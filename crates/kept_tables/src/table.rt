@@ -224,6 +224,14 @@ impl KeptTable {
         self.rows.set_cell(key, place, value);
     }
 
+    /// Gives the memory for rows and columns to come back.
+    pub fn forget(&mut self)
+        ensures { self.new ≡ kept_table self.old.table 0 0 }
+    {
+        self.rows.forget();
+        self.coming = 0;
+    }
+
     /// Takes all columns and rows out, and keeps the memory for those to come.
     pub fn clear(&mut self)
         ensures { self.new ≡ kept_table empty_table self.old.rows_coming self.old.columns_coming }

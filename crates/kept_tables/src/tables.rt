@@ -1,5 +1,5 @@
 //! Tables by their labels, moved by lists of lines in two steps.
-ghost use Rattle.std.specs.Prelude.{◌≡◌, [], Vec, None, Some, IsTrue, OnOk, OnErr, option_map};
+ghost use Rattle.std.specs.Prelude.{◌≡◌, [], Vec, None, Some, IsTrue, IfOk, OnOk, OnErr, option_map};
 ghost use Rattle.std.proofs.Common.{Global as GlobalValue};
 ghost use Rattle.std.specs.Option.{option_copied};
 ghost use Rattle.flow_law.specs.declared.line.TableLine.{TableLine as Line};
@@ -12,9 +12,10 @@ ghost use Rattle.kept_tables.specs.KeptTables.{kept_tables};
 use crate::KeptTable;
 use crate::copies::copies;
 use crate::making::make_all;
-use crate::room::expect_lines;
+use crate::opening::slots_of;
+use crate::room::{expect_all, forget};
 use crate::slot::{Slot, find};
-use flow_law::TableLine;
+use flow_law::{TableLine, Tables};
 use ss_text::{NoMemory, Text};
 use std::alloc::Global;
 use std::marker::Model;
@@ -58,6 +59,17 @@ impl KeptTables {
         }
     }
 
+    /// These tables.
+    pub fn of(alloc: Global, tables: &Tables) -> Result<KeptTables, NoMemory>
+        ensures { IfOk result (λ kept. kept ≡ kept_tables tables.now None) }
+    {
+        let slots = slots_of(alloc, tables)?;
+        Ok(KeptTables {
+            slots,
+            waiting: None,
+        })
+    }
+
     /// The places of the tables, in ascending order of their labels.
     pub fn slots(&self) -> &[Slot]
         ensures { tables_in result.now ≡ self.now.tables }
@@ -75,6 +87,16 @@ impl KeptTables {
         self.slots[place].table()
     }
 
+    // Gives the memory for the lines that wait back.
+    fn drop_waiting(&mut self)
+        ensures { self.new ≡ kept_tables self.old.tables None }
+    {
+        if self.waiting.is_some() {
+            self.waiting = None;
+            forget(&mut self.slots);
+        }
+    }
+
     /// Takes all memory for lines, each of which fits those before it. They wait then, or after `NoMemory` none do.
     pub(crate) fn take_memory(
         &mut self,
@@ -86,9 +108,9 @@ impl KeptTables {
         ensures waits { OnOk result (self.new.waiting ≡ Some lines.now) }
         ensures none { OnErr result (self.new.waiting ≡ None) }
     {
-        self.waiting = None;
+        self.drop_waiting();
         let copies = copies(alloc, lines)?;
-        expect_lines(alloc, &mut self.slots, lines)?;
+        expect_all(alloc, &mut self.slots, lines)?;
         self.waiting = Some(Waiting {
             of: Snapshot::of(lines),
             lines: copies,

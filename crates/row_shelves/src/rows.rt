@@ -152,6 +152,13 @@ impl RowShelves {
         self.shelves.clear();
     }
 
+    /// Gives the memory for rows to come back.
+    pub fn forget(&mut self)
+        ensures { self.new ≡ rows_value self.old.rows 0 self.old.bound }
+    {
+        self.blanks.clear();
+    }
+
     /// For how many cells each row, and each that will come, has room.
     pub fn bound(&self) -> usize
         ensures { result ≡ self.now.bound }

@@ -2,9 +2,8 @@ use Rattle.std.proofs.Common.{◌≡◌, ap, refl, slice_set}
 use Rattle.ss_text.specs.Places.{at_place}
 use Rattle.ss_text.proofs.PlaceLemmas.{put_back}
 use Rattle.kept_tables.specs.Kept.{KeptTableValue}
-use Rattle.kept_tables.proofs.SlotLemmas.{same_tables}
+use Rattle.kept_tables.proofs.SlotLemmas.{same_tables, slots_stay}
 use Rattle.kept_tables.proofs.RoomLemmas.{expected, room_expected}
-use Rattle.kept_tables.proofs.MadeLemmas.{slots_expected}
 use Rattle.kept_tables.proofs.room.expect_line.Goals as goal
 
 written : (c : goal.In_ok-expect) → slice_set c.slot_of.new.slots.items c.in_ok-place.place (record c.index_mut-slot.result.now { table = c.expect.new.self }) ≡ at_place c.in_ok-place.place (expected c.args.line.now) c.slot_of.new.slots.items
@@ -14,7 +13,7 @@ written c =
     put_back c.slot_of.new.slots.items c.in_ok-place.place slot (record slot { table = c.expect.new.self }) (expected c.args.line.now) at.within c.index_mut-slot.ensures.value (ap (λ (t : KeptTableValue). record slot { table = t }) c.in_ok-expect.ensures.ok)
 
 pub returns-clause-order : goal.returns-clause-order
-returns-clause-order c = rw (written c) (slots_expected c.args.line.now c.slot_of.new.slots.items c.in_ok-place.place c.in_ok-place.ensures.order)
+returns-clause-order c = rw (written c) (slots_stay (expected c.args.line.now) (λ s. refl) (λ s h. h) c.slot_of.new.slots.items c.in_ok-place.place c.in_ok-place.ensures.order)
 
 pub returns-clause-tables : goal.returns-clause-tables
 returns-clause-tables c =

@@ -2,7 +2,7 @@ use Rattle.std.proofs.Common.{rules}
 use Rattle.std.proofs.lemmas.List.Elements.{filter_from_retain}
 use Rattle.kept_tables.specs.declared.slot.Slot.{Slot}
 use Rattle.kept_tables.proofs.SlotLemmas.{slots_kept, tables_kept}
-use Rattle.kept_tables.proofs.making.drop_gone.Goals as goal
+use Rattle.kept_tables.proofs.slot.drop_gone.Goals as goal
 
 pub returns : goal.returns
 returns c =

@@ -1,0 +1,17 @@
+use Rattle.std.proofs.Common.{◌≡◌, ◌∙◌, ap, map, arith}
+use Rattle.std.proofs.lemmas.List.{take_all}
+use Rattle.kept_tables.specs.Slots.{full_slot}
+use Rattle.kept_tables.proofs.OpeningLemmas.{tables_full, slots_full}
+use Rattle.kept_tables.proofs.opening.slots_of.Goals as goal
+
+pub returns-clause-order : goal.returns-clause-order
+returns-clause-order c =
+    let tables = c.args.tables.now in
+    let all : c.loop-place.slots.items ≡ map full_slot tables = c.loop-place.invariant ∙ ap (map full_slot) (take_all c.loop-place.place tables (omega arith)) in
+    rw all (slots_full tables c.count-count.ensures.in_order)
+
+pub returns-clause-tables : goal.returns-clause-tables
+returns-clause-tables c =
+    let tables = c.args.tables.now in
+    let all : c.loop-place.slots.items ≡ map full_slot tables = c.loop-place.invariant ∙ ap (map full_slot) (take_all c.loop-place.place tables (omega arith)) in
+    rw all (tables_full tables)
