@@ -45,7 +45,7 @@ impl Slot {
 
     /// The label.
     pub fn label(&self) -> &Text
-        ensures { result.now ≡ self.now.label }
+        ensures { result.now ≡ slot_label self.now }
     {
         &self.label
     }
