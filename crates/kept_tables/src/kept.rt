@@ -1,5 +1,5 @@
 //! Tables as what is kept, moved by lines.
-ghost use Rattle.std.specs.Prelude.{◌≡◌, Some, None, IfOk, MatchResult};
+ghost use Rattle.std.specs.Prelude.{◌≡◌};
 
 use crate::KeptTables;
 use flow_law::TableLine;

@@ -1,6 +1,5 @@
 //! One table, with memory for rows and columns to come.
-ghost use Rattle.std.specs.Prelude.{◌≡◌, ◌<◌, ◌≤◌, ◌+◌, ◌-◌, [], false, length, is_ok, IsTrue, IfOk, IfErr, OnOk, OnErr};
-ghost use Rattle.std.specs.List.Sorted.{IsStrictlySortedBy};
+ghost use Rattle.std.specs.Prelude.{◌≡◌, ◌<◌, ◌≤◌, ◌+◌, ◌-◌, false, is_ok, IsTrue, IfOk, IfErr, OnOk, OnErr};
 ghost use Rattle.ss_text.specs.Texts.{text_cmp};
 ghost use Rattle.ss_text.specs.Keys.{IsPlaceOf, IsPlaceFor};
 ghost use Rattle.flow_law.specs.Tables.{table_value, empty_table};
