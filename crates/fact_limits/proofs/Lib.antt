@@ -1,0 +1,3 @@
+pub mod Products
+pub mod ElementsFew
+pub mod FactsFew
