@@ -1,3 +1,4 @@
 pub mod Products
 pub mod ElementsFew
 pub mod FactsFew
+pub mod FactsForm

@@ -1,5 +1,5 @@
 //! How many facts a view may have.
-ghost use Rattle.std.specs.Prelude.{ℕ, length, ◌<◌, ◌^◌};
+ghost use Rattle.std.specs.Prelude.{length, ◌<◌, ◌^◌};
 ghost use Rattle.schema_model.specs.Catalogue.{CatalogueValue};
 ghost use Rattle.schema_model.specs.Sound.{IsSound};
 ghost use Rattle.view_def.specs.Query.{Query};
