@@ -39,15 +39,13 @@ impl Model for Run {
 }
 
 /// Runs so many changes with a seed on a session in memory, and tells what came of them.
-#[tactic(auto, using(crate::proofs::RunLemmas::ran_next, crate::proofs::RunLemmas::ran_counts))]
 pub fn load(alloc: Global, changes: u32, seed: u32) -> Result<Summary, NoMemory>
     ensures { IfOk result (λ summary. summary ≡ summary_of changes seed) }
 {
     let mut run = Run::start(alloc)?;
-    for place in 0..changes {
-        run.go_on(alloc, seed, place)?;
-    }
-    run.summary(alloc)
+    let summary = run.go_through(alloc, changes, seed);
+    drop(run);
+    summary
 }
 
 impl Run {
@@ -60,6 +58,18 @@ impl Run {
             refused: 0,
             lines: 0,
         })
+    }
+
+    // Makes and counts so many changes, and sums them up.
+    #[tactic(auto, using(crate::proofs::RunLemmas::ran_next, crate::proofs::RunLemmas::ran_counts))]
+    fn go_through(&mut self, alloc: Global, changes: u32, seed: u32) -> Result<Summary, NoMemory>
+        requires { self.old ≡ started }
+        ensures { IfOk result (λ summary. summary ≡ summary_of changes seed) }
+    {
+        for place in 0..changes {
+            self.go_on(alloc, seed, place)?;
+        }
+        self.summary(alloc)
     }
 
     // Makes the change of a place and counts it.

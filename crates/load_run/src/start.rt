@@ -1,11 +1,11 @@
 //! The session that a run begins with.
-ghost use Rattle.std.specs.Prelude.{◌≡◌, IfOk};
+ghost use Rattle.std.specs.Prelude.{◌≡◌, [], IfOk, OnOk};
 ghost use Rattle.schema_model.specs.States.{settled};
 ghost use Rattle.view_def.specs.declared.typed.Place.TheVariants.{Fixed};
 ghost use Rattle.view_def.specs.declared.typed.Term.TheVariants.{Cell};
 ghost use Rattle.view_def.specs.Query.{query_of};
 ghost use Rattle.view_session.specs.Session.{opened};
-ghost use Rattle.load_run.specs.Start.{catalogue, query};
+ghost use Rattle.load_run.specs.Start.{header, catalogue, query};
 
 use schema_model::Catalogue;
 use ss_text::{NoMemory, Row, Text};
@@ -18,8 +18,8 @@ use view_session::{OpenFault, Session};
 pub(crate) fn session(alloc: Global) -> Result<Session, NoMemory>
     ensures { IfOk result (λ session. session ≡ opened query catalogue) }
 {
+    let view = boxed_view(alloc)?;
     let catalogue = catalogue(alloc)?;
-    let view = Box::new(alloc, view(alloc)?)?;
     match Session::open(alloc, catalogue, view) {
         Ok(session) => Ok(session),
         Err(OpenFault::Illegal(_) | OpenFault::Conflict(_)) => unreachable!(),
@@ -27,20 +27,44 @@ pub(crate) fn session(alloc: Global) -> Result<Session, NoMemory>
     }
 }
 
+fn boxed_view(alloc: Global) -> Result<Box<View>, NoMemory>
+    ensures { IfOk result (λ view. query_of view.value ≡ query) }
+{
+    Ok(Box::new(alloc, view(alloc)?)?)
+}
+
 // The database `g` with the relation `r`, which has no rows.
-#[tactic(auto, using(crate::proofs::StartLemmas::database_named, crate::proofs::StartLemmas::relation_named, crate::proofs::StartLemmas::header_sound))]
 fn catalogue(alloc: Global) -> Result<Catalogue, NoMemory>
     ensures { IfOk result (λ built. built ≡ settled catalogue) }
 {
-    let attributes = vec![in alloc;
-        Text::of(alloc, b"k")?,
-        Text::of(alloc, b"d")?,
-        Text::of(alloc, b"v")?,
-    ]?;
-    let mut catalogue = Catalogue::empty(alloc);
-    catalogue.put_database(Text::of(alloc, b"g")?)?;
-    catalogue.put_relation(0, Text::of(alloc, b"r")?, Row::of(attributes))?;
-    Ok(catalogue)
+    let mut built = Catalogue::empty(alloc);
+    match put_relation(alloc, &mut built) {
+        Ok(()) => Ok(built),
+        Err(fault) => Err(fault),
+    }
+}
+
+// Puts them into a catalogue that has nothing.
+#[tactic(auto, using(crate::proofs::StartLemmas::database_named, crate::proofs::StartLemmas::relation_named, crate::proofs::StartLemmas::header_sound))]
+fn put_relation(alloc: Global, empty: &mut Catalogue) -> Result<(), NoMemory>
+    requires { empty.old ≡ settled [] }
+    ensures { OnOk result (empty.new ≡ settled catalogue) }
+{
+    empty.put_database(Text::of(alloc, b"g")?)?;
+    let header = header(alloc)?;
+    empty.put_relation(0, Text::of(alloc, b"r")?, header)?;
+    Ok(())
+}
+
+// The attributes of the relation.
+fn header(alloc: Global) -> Result<Row, NoMemory>
+    ensures { IfOk result (λ row. row ≡ header) }
+{
+    let mut attributes = Vec::new(alloc);
+    attributes.push(Text::of(alloc, b"k")?)?;
+    attributes.push(Text::of(alloc, b"d")?)?;
+    attributes.push(Text::of(alloc, b"v")?)?;
+    Ok(Row::of(attributes))
 }
 
 /// The view `create view G::t(k, D) as select T.k, T.v from g::r T, T.d D`.

@@ -1,7 +1,7 @@
 use Rattle.std.proofs.Common.{◌≡◌}
 use Rattle.load_run.specs.Runs.{ran}
-use Rattle.load_run.proofs.run.load.Given as goal
+use Rattle.load_run.proofs.run.Run.go_through.Given as goal
 
 -- what came of the changes before this place
 abbrev pub invariant-loop-place : goal.invariant-loop-place
-invariant-loop-place l = l.run ≡ ran l.seed l.place
+invariant-loop-place l = l.self ≡ ran l.seed l.place
