@@ -74,6 +74,7 @@ pub fn walk<L: Ledger>(
 ) -> Result<WalkMoves, NoMemory>
     requires { length further.items ≡ length joins.now }
     ensures walks { IfOk result (λ w. Walks (map joint_in joins.now) (map sides_in joins.now) first further.items (map side_moves w.sides.items) w.out) }
+    ensures each { IfOk result (λ w. length w.sides.items ≡ length joins.now) }
     ensures nets { IfOk result (λ w. IsNet first → AllByRecursion IsNet further.items → AreNet (map side_moves w.sides.items) × IsNet w.out) }
     ensures cost { IfOk result (λ w. steps.new ≤ steps.old + walk_pairs (map joint_in joins.now) (map sides_in joins.now) (map side_moves w.sides.items)) }
     ensures rises { steps.old ≤ steps.new }

@@ -80,3 +80,12 @@ returns-clause-cost g c =
     let whole : olds ≡ c.args.further.items = sym (map-id olds) ∙ done.0 in
     let all : take (length olds) joins ≡ joins = take_all (length olds) joins (omega (arith, ap length whole, c.requires)) in
     subst (λ (js : List JoinValue). c.loop-right.steps ≤ c.args.steps.now + walk_pairs (map joint_in js) (map sides_in js) (map side_moves c.loop-right.sides.items)) all c.loop-right.invariant.cost
+
+pub returns-clause-each : goal.returns-clause-each
+returns-clause-each g c =
+    let olds : List (List Signed) = c.loop-right.yielded in
+    let gives = c.into_iter-right-iterator.ensures.into_iter_gives in
+    let items = YieldsList-from_vec {s = c.into_iter-right-iterator.result} c.args.further.items gives.0 (gives.1 ∙ c.args.further.ok.0) in
+    let done = YieldsList-end items olds c.loop-right.right-iterator c.loop-right.yielded_by c.next.result c.next.new.self c.in-None.is c.next.ensures.steps in
+    let whole : olds ≡ c.args.further.items = sym (map-id olds) ∙ done.0 in
+    c.loop-right.invariant.counted ∙ ap length whole ∙ c.requires
