@@ -1,0 +1,10 @@
+pub mod Bases
+pub mod OwnMoves
+pub mod Stages
+pub mod Filled
+pub mod Each
+pub mod Moving
+pub mod Waiting
+pub mod Commits
+pub mod FactMoves
+pub mod Costs

@@ -1,0 +1,151 @@
+-- Moves that pass a plan's tests are those of the law, and walk as it says.
+use Rattle.std.proofs.Common.{◌≡◌, ◌<◌, take, get_or, ℕ, zero, suc, List, [], ◌∷◌, ◌++◌, ◌&&◌, cond, filter, map, Bool, refl, ap, sym, ◌∙◌, subst, arith, None, Option, length, true, false}
+use Rattle.std.specs.List.{list_all, slice_get, AllZip, AllByRecursion}
+use Rattle.std.specs.Prelude.{Vec}
+use Rattle.std.specs.Global.{Global}
+use Rattle.std.proofs.lemmas.List.{length_push, length-map, length-take-le, map-append, take_all}
+use Rattle.ss_text.specs.Texts.{Row}
+use Rattle.schema_model.specs.Catalogue.{CatalogueValue}
+use Rattle.plan_law.specs.Kinds.{Term, Range}
+use Rattle.plan_law.specs.Kinds.range
+use Rattle.view_def.specs.Query.{Query}
+use Rattle.operator_law.specs.declared.delta.Signed.{Signed}
+use Rattle.operator_law.specs.Bags.{MovesBag}
+use Rattle.schema_delta.specs.declared.spec.FlatSpec.{FlatSpec}
+use Rattle.schema_delta.specs.Flat.{flat, MovesBetween}
+use Rattle.plan_law.specs.Net.{SameNet, IsNet}
+use Rattle.plan_law.specs.Columns.{header, may_equal}
+use Rattle.plan_law.specs.Links.{Source, Link, source_text, link_holds, own_links, own_holds}
+use Rattle.plan_law.specs.Links as link
+use Rattle.plan_law.specs.Chain.{Sides, SideMoves, Walks}
+use Rattle.plan_law.specs.PlanRows.{plan_joints}
+use Rattle.plan_law.specs.PlanMoves.{own_moves, moves_from, first_moves, further_moves, PlanWalks}
+use Rattle.plan_form.specs.declared.base.Equal.{Equal}
+use Rattle.plan_form.specs.Cells.{text_in, right_cell}
+use Rattle.plan_form.specs.Bases.{BaseValue, own_cells, equal_holds, base_form, bases_from}
+use Rattle.plan_translate.specs.Parts.{bases_of, passing, each_passing, own_tests, WalksAll}
+use Rattle.plan_translate.proofs.Bases.{FirstBase}
+use Rattle.plan_translate.proofs.Each.{one_more}
+
+no_cell : (i : ℕ) → ◌≡◌ {A = Option (List ℕ)} None (slice_get [] i)
+no_cell zero = refl
+no_cell (suc i) = refl
+
+text_at : (row : Row) (s : Source) → text_in row (right_cell s) ≡ source_text [] row s
+text_at row (link.Given t) = refl
+text_at row (link.Left i) = no_cell i
+text_at row (link.Right j) = refl
+
+link_at : (row : Row) (l : Link) → equal_holds row (own_cells l) ≡ link_holds [] row l
+link_at row l =
+    ap (λ a. may_equal a (text_in row (right_cell l.1))) (text_at row l.0)
+    ∙ ap (λ b. may_equal (source_text [] row l.0) b) (text_at row l.1)
+
+links_at : (row : Row) (ls : List Link) → list_all (equal_holds row) (map own_cells ls) ≡ list_all (link_holds [] row) ls
+links_at row [] = refl
+links_at row (l ∷ ls) =
+    ap (λ b. b && list_all (equal_holds row) (map own_cells ls)) (link_at row l)
+    ∙ ap (λ b. link_holds [] row l && b) (links_at row ls)
+
+passing_own : (q : Query) (h d : List Term) (ms : List Signed) → passing (map own_cells (own_links q h d)) ms ≡ own_moves q h d ms
+passing_own q h d [] = refl
+passing_own q h d (m ∷ ms) =
+    let ts = map own_cells (own_links q h d) in
+    ap (λ (b : Bool). cond b (m ∷ passing ts ms) (passing ts ms)) (links_at m.row (own_links q h d))
+    ∙ ap (λ (l : List Signed). cond (own_holds q h d m.row) (m ∷ l) l) (passing_own q h d ms)
+
+abbrev own_in : BaseValue → List Equal
+own_in b = b.own
+
+each_own : (q : Query) (ds : List Range) (h : List Term) (k : ℕ) (mss : List (List Signed)) → each_passing (map own_in (bases_from q h k ds)) mss ≡ moves_from q h k ds mss
+each_own q [] h k mss = refl
+each_own q (range.Alias j a ∷ ds) h k mss = each_own q ds h (suc k) mss
+each_own q (d ∷ ds) h k [] = refl
+each_own q (d ∷ ds) h k (ms ∷ mss) =
+    ap (λ (l : List Signed). l ∷ each_passing (map own_in (bases_from q (h ++ header q k d) (suc k) ds)) mss) (passing_own q h (header q k d) ms)
+    ∙ ap (λ (ls : List (List Signed)). own_moves q h (header q k d) ms ∷ ls) (each_own q ds (h ++ header q k d) (suc k) mss)
+
+-- the walk of the declarations' moves is the plan's
+module _ (q : Query) (b : FirstBase q) (ks : List Sides) (nets : List (List Signed)) (ps : List SideMoves) (out : List Signed) where
+  abbrev WalksAt : List Range → Type 0
+  WalksAt ds = Walks (plan_joints q ds) ks (first_moves q ds nets) (further_moves q ds nets) ps out
+
+  from_first : (nets' : List (List Signed)) → nets ≡ nets' → WalksAll (plan_joints q (b.first ∷ b.rest)) ks (each_passing (map own_in (base_form q [] 0 b.first ∷ bases_from q (header q 0 b.first) 1 b.rest)) nets') ps out
+      → Walks (plan_joints q (b.first ∷ b.rest)) ks (first_moves q (b.first ∷ b.rest) nets') (further_moves q (b.first ∷ b.rest) nets') ps out
+  from_first [] e w = absurd w
+  from_first (ms ∷ mss) e w =
+      let js = plan_joints q (b.first ∷ b.rest) in
+      let h = header q 0 b.first in
+      subst (λ (nss : List (List Signed)). Walks js ks (own_moves q [] h ms) nss ps out) (each_own q b.rest h 1 mss)
+      (subst (λ (l : List Signed). Walks js ks l (each_passing (map own_in (bases_from q h 1 b.rest)) mss) ps out) (passing_own q [] h ms) w)
+
+  pub plan_walks : (tests : List (List Equal)) → tests ≡ map own_in (bases_of q) → WalksAll (plan_joints q q.decls) ks (each_passing tests nets) ps out → PlanWalks q ks nets ps out
+  plan_walks tests are w =
+      let all = are ∙ ap (map own_in) b.bases in
+      let v = subst (λ (ts : List (List Equal)). WalksAll (plan_joints q q.decls) ks (each_passing ts nets) ps out) all w in
+      let u = subst (λ (ds : List Range). WalksAll (plan_joints q ds) ks (each_passing (map own_in (base_form q [] 0 b.first ∷ bases_from q (header q 0 b.first) 1 b.rest)) nets) ps out) b.all v in
+      subst WalksAt (sym b.all) (from_first nets refl u)
+
+-- moves in net move as much
+pub moves_net : (xs ys : List Row) (ms ns : List Signed) → MovesBag xs ms ys → SameNet ms ns → MovesBag xs ns ys
+moves_net xs ys ms ns h same f = omega (arith, h f, same f)
+
+pub flat_nets : (c c' : CatalogueValue) (ss : List FlatSpec) (mss nss : List (List Signed)) → AllZip (MovesBetween c c') ss mss → AllZip SameNet mss nss → AllZip (MovesBetween c c') ss nss
+flat_nets c c' [] [] [] moved same = tt
+flat_nets c c' [] [] (ns ∷ nss) moved same = absurd same
+flat_nets c c' [] (ms ∷ mss) nss moved same = absurd moved
+flat_nets c c' (s ∷ ss) [] nss moved same = absurd moved
+flat_nets c c' (s ∷ ss) (ms ∷ mss) [] moved same = absurd same
+flat_nets c c' (s ∷ ss) (ms ∷ mss) (ns ∷ nss) moved same = (moves_net (flat c s) (flat c' s) ms ns moved.0 same.0, flat_nets c c' ss mss nss moved.1 same.1)
+
+-- and those that pass stay so
+filter_net : (comes p : Row → Bool) (ms : List Signed) → AllByRecursion (λ (m : Signed). comes m.row ≡ m.up) ms → AllByRecursion (λ (m : Signed). comes m.row ≡ m.up) (filter (λ (m : Signed). p m.row) ms)
+filter_net comes p [] h = tt
+filter_net comes p (m ∷ ms) h = one (p m.row) (filter_net comes p ms h.1)
+  where
+    one : (b : Bool) → AllByRecursion (λ (m : Signed). comes m.row ≡ m.up) (filter (λ (m : Signed). p m.row) ms)
+        → AllByRecursion (λ (m : Signed). comes m.row ≡ m.up) (cond b (m ∷ filter (λ (m : Signed). p m.row) ms) (filter (λ (m : Signed). p m.row) ms))
+    one true rest = (h.0, rest)
+    one false rest = rest
+
+passing_net : (ts : List Equal) (ms : List Signed) → IsNet ms → IsNet (passing ts ms)
+passing_net ts ms net = record { comes = net.comes; tells = filter_net net.comes (λ row. list_all (equal_holds row) ts) ms net.tells }
+
+pub each_net : (tss : List (List Equal)) (mss : List (List Signed)) → AllByRecursion IsNet mss → AllByRecursion IsNet (each_passing tss mss)
+each_net [] mss h = tt
+each_net (ts ∷ tss) [] h = tt
+each_net (ts ∷ tss) (ms ∷ mss) h = (passing_net ts ms h.0, each_net tss mss h.1)
+
+-- one for each
+pub each_long : (tss : List (List Equal)) (mss : List (List Signed)) → length mss ≡ length tss → length (each_passing tss mss) ≡ length tss
+each_long [] mss e = refl
+each_long (ts ∷ tss) [] e = absurd (omega (arith, e))
+each_long (ts ∷ tss) (ms ∷ mss) e = ap suc (each_long tss mss (omega (arith, e)))
+
+-- ---- one more declaration
+pub all_push : {X : Type 0} (P : X → Type 0) (xs : List X) (x : X) → AllByRecursion P xs → P x → AllByRecursion P (xs ++ x ∷ [])
+all_push P [] x all one = (one, tt)
+all_push P (y ∷ xs) x all one = (all.0, all_push P xs x all.1 one)
+
+each_push : (tss : List (List Equal)) (mss : List (List Signed)) (ts : List Equal) (ms : List Signed) → length mss ≡ length tss
+    → each_passing (tss ++ ts ∷ []) (mss ++ ms ∷ []) ≡ each_passing tss mss ++ passing ts ms ∷ []
+each_push [] [] ts ms e = refl
+each_push [] (m ∷ mss) ts ms e = absurd (omega (arith, e))
+each_push (t ∷ tss) [] ts ms e = absurd (omega (arith, e))
+each_push (t ∷ tss) (m ∷ mss) ts ms e = ap (λ (l : List (List Signed)). passing t m ∷ l) (each_push tss mss ts ms (omega (arith, e)))
+
+pub each_more : (tests : List (Vec Equal Global)) (mss : List (List Signed)) (t : Vec Equal Global) (ms : List Signed) → length mss < length tests → t ≡ get_or tests (length mss) t
+    → each_passing (own_tests (take (length (mss ++ ms ∷ [])) tests)) (mss ++ ms ∷ []) ≡ each_passing (own_tests (take (length mss) tests)) mss ++ passing t.items ms ∷ []
+each_more tests mss t ms lt is =
+    let n = length mss in
+    let front = own_tests (take n tests) in
+    let long : length mss ≡ length front = omega (arith, length-map (take n tests) (λ (v : Vec Equal Global). v.items), length-take-le n tests (omega (arith, lt))) in
+    ap (λ (k : ℕ). each_passing (own_tests (take k tests)) (mss ++ ms ∷ [])) (length_push mss ms)
+    ∙ ap (λ (l : List (Vec Equal Global)). each_passing (own_tests l) (mss ++ ms ∷ [])) (one_more tests n t lt is)
+    ∙ ap (λ (l : List (List Equal)). each_passing l (mss ++ ms ∷ [])) (map-append (λ (v : Vec Equal Global). v.items) (take n tests) (t ∷ []))
+    ∙ each_push front mss t.items ms long
+
+pub each_done : (tests : List (Vec Equal Global)) (mss all : List (List Signed)) → mss ≡ all → length all ≡ length tests → each_passing (own_tests (take (length mss) tests)) mss ≡ each_passing (own_tests tests) all
+each_done tests mss all e long =
+    ap (λ (l : List (Vec Equal Global)). each_passing (own_tests l) mss) (take_all (length mss) tests (omega (arith, ap length e, long)))
+    ∙ ap (each_passing (own_tests tests)) e

@@ -1,0 +1,38 @@
+use Rattle.std.proofs.Common.{List, length, ap, ◌∙◌, subst}
+use Rattle.std.specs.List.{AllZip}
+use Rattle.schema_model.specs.Changes.{after}
+use Rattle.schema_model.proofs.SoundAfter.{sound_after}
+use Rattle.schema_delta.specs.declared.spec.FlatSpec.{FlatSpec}
+use Rattle.schema_delta.specs.Flat.{MovesFlat}
+use Rattle.plan_law.specs.PlanMoves.{FlatMoved}
+use Rattle.plan_translate.specs.Plans.{query_in}
+use Rattle.plan_translate.proofs.Each.{zip_long}
+use Rattle.plan_translate.proofs.Stages.{plan_moves}
+use Rattle.plan_translate.proofs.Costs.{row_bounded}
+use Rattle.plan_translate.proofs.Moving.{profile_in, specs_in}
+use Rattle.plan_translate.proofs.plan.Plan.prepare.Goals as goal
+
+pub moved-requires : goal.moved-requires
+moved-requires g c =
+    zip_long (MovesFlat c.args.catalogue.now.databases c.args.change.now) c.deref.result.now c.in_ok-deltas.deltas.items c.in_ok-deltas.ensures.moved
+    ∙ ap length (c.deref.ensures.value ∙ specs_in c.self.inside c.self.invariant c.args.self.now c.self.view_is)
+
+pub returns-clause-moves : goal.returns-clause-moves
+returns-clause-moves g c =
+    let p = c.args.self.now in
+    let d = c.args.catalogue.now.databases in
+    let change = c.args.change.now in
+    let specs = specs_in c.self.inside c.self.invariant p c.self.view_is in
+    let flat_moved : FlatMoved d (after d change) (query_in p) c.in_ok-deltas.deltas.items = subst (λ (ss : List FlatSpec). AllZip (MovesFlat d change) ss c.in_ok-deltas.deltas.items) (c.deref.ensures.value ∙ specs) c.in_ok-deltas.ensures.moved in
+    let sound = c.databases-databases.ensures.sound in
+    plan_moves d (after d change) p c.in_ok-moved.moved sound (sound_after d change sound c.requires.well_formed c.requires.accepted) (profile_in c.self.inside c.self.invariant p c.self.view_is)
+    (c.in_ok-moved.ensures.walked d (after d change) flat_moved c.requires.stands)
+
+pub returns-clause-row : goal.returns-clause-row
+returns-clause-row g c =
+    let p = c.args.self.now in
+    let d = c.args.catalogue.now.databases in
+    let change = c.args.change.now in
+    let specs = specs_in c.self.inside c.self.invariant p c.self.view_is in
+    let flat_moved : FlatMoved d (after d change) (query_in p) c.in_ok-deltas.deltas.items = subst (λ (ss : List FlatSpec). AllZip (MovesFlat d change) ss c.in_ok-deltas.deltas.items) (c.deref.ensures.value ∙ specs) c.in_ok-deltas.ensures.moved in
+    row_bounded d change p c.in_ok-moved.moved (profile_in c.self.inside c.self.invariant p c.self.view_is) (c.in_ok-moved.ensures.walked d (after d change) flat_moved c.requires.stands)

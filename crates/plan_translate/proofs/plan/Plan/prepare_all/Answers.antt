@@ -1,0 +1,28 @@
+use Rattle.std.proofs.Common.{List, length, ap, ◌∙◌, subst}
+use Rattle.std.specs.List.{AllZip}
+use Rattle.schema_model.specs.Changes.{after_all}
+use Rattle.schema_model.proofs.SoundAfter.{sound_after_all}
+use Rattle.schema_delta.specs.declared.spec.FlatSpec.{FlatSpec}
+use Rattle.schema_delta.specs.Flat.{MovesGroup}
+use Rattle.plan_law.specs.PlanMoves.{FlatMoved}
+use Rattle.plan_translate.specs.Plans.{query_in}
+use Rattle.plan_translate.proofs.Each.{zip_long}
+use Rattle.plan_translate.proofs.Stages.{plan_moves}
+use Rattle.plan_translate.proofs.Moving.{profile_in, specs_in}
+use Rattle.plan_translate.proofs.plan.Plan.prepare_all.Goals as goal
+
+pub moved-requires : goal.moved-requires
+moved-requires g c =
+    zip_long (MovesGroup c.args.catalogue.now.databases c.args.changes.now) c.deref.result.now c.in_ok-deltas.deltas.items c.in_ok-deltas.ensures.moved
+    ∙ ap length (c.deref.ensures.value ∙ specs_in c.self.inside c.self.invariant c.args.self.now c.self.view_is)
+
+pub returns-clause-moves : goal.returns-clause-moves
+returns-clause-moves g c =
+    let p = c.args.self.now in
+    let d = c.args.catalogue.now.databases in
+    let changes = c.args.changes.now in
+    let specs = specs_in c.self.inside c.self.invariant p c.self.view_is in
+    let flat_moved : FlatMoved d (after_all d changes) (query_in p) c.in_ok-deltas.deltas.items = subst (λ (ss : List FlatSpec). AllZip (MovesGroup d changes) ss c.in_ok-deltas.deltas.items) (c.deref.ensures.value ∙ specs) c.in_ok-deltas.ensures.moved in
+    let sound = c.databases-databases.ensures.sound in
+    plan_moves d (after_all d changes) p c.in_ok-moved.moved sound (sound_after_all d changes sound c.requires.well_formed c.requires.accepted) (profile_in c.self.inside c.self.invariant p c.self.view_is)
+    (c.in_ok-moved.ensures.walked d (after_all d changes) flat_moved c.requires.stands)

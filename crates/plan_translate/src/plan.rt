@@ -1,0 +1,95 @@
+//! A plan, and how it is made of a view.
+ghost use Rattle.std.specs.Prelude.{◌≡◌, ◌+◌, ◌≤◌, List, length, None, IfOk};
+ghost use Rattle.schema_model.specs.Catalogue.{CatalogueValue};
+ghost use Rattle.view_def.specs.Query.{query_of};
+ghost use Rattle.view_def.specs.Profile.{IsViewOfProfile};
+ghost use Rattle.plan_law.specs.PlanRows.{specs_from};
+ghost use Rattle.plan_law.specs.PlanMoves.{FlatMoved};
+ghost use Rattle.plan_translate.specs.Plans.{query_in, PlanStands, IsFresh};
+ghost use Rattle.plan_translate.specs.Costs.{pairs_moved};
+ghost use Rattle.plan_translate.specs.Walked.{Walked};
+
+use crate::facts::facts;
+use crate::moved::PlanMove;
+use crate::parts::{asked, joins_of};
+use crate::walked::walked;
+use join_delta::Join;
+use operator_law::Delta;
+use plan_form::{Equal, Form, Output, form_of};
+use schema_delta::FlatSpec;
+use ss_text::{NoMemory, Steps};
+use std::alloc::Global;
+use std::marker::Model;
+use std::snapshot::Snapshot;
+use std::sync::ledger::Ledger;
+use view_def::View;
+
+/// Joins the flat rows of a view's declarations, and keeps what comes to each join. Contracts see the view, the kept rows
+/// and the moves that wait.
+#[derive(Drop)]
+pub struct Plan {
+    pub(crate) view: Snapshot<View>,
+    pub(crate) specs: Vec<FlatSpec>,
+    pub(crate) tests: Vec<Vec<Equal>>,
+    pub(crate) joins: Vec<Join>,
+    pub(crate) output: Output,
+    pub(crate) waiting: Option<Snapshot<Vec<(Delta, Delta)>>>,
+}
+
+impl Model for Plan {
+    ghost use Rattle.std.specs.Coded.{codes};
+    ghost use Rattle.view_def.specs.contracts.typed.Cond as cond;
+    ghost use Rattle.plan_translate.specs.Plans.{PlanValue};
+
+    ghost Value = { PlanValue };
+
+    ghost coded = { Prim.hlevel (codes, cond.the_row.coded) };
+
+    ghost use Rattle.plan_translate.specs.PlanFields.{seen, IsPlan};
+
+    ghost view = { seen };
+
+    ghost invariant = { IsPlan };
+}
+
+/// The plan of a view, which keeps nothing.
+pub fn translate(alloc: Global, view: &View) -> Result<Plan, NoMemory>
+    requires { IsViewOfProfile (query_of view.now) }
+    ensures view { IfOk result (λ plan. plan.view ≡ view.now) }
+    ensures fresh { IfOk result IsFresh }
+    ensures none { IfOk result (λ plan. plan.waiting ≡ None) }
+{
+    let Form { bases, output } = form_of(alloc, view)?;
+    let joins = joins_of(alloc, &bases)?;
+    let (specs, tests) = asked(alloc, bases)?;
+    Ok(Plan {
+        view: Snapshot::of(view),
+        specs,
+        tests,
+        joins,
+        output,
+        waiting: None,
+    })
+}
+
+impl Plan {
+    // How moves of each declaration's flat rows move what the plan keeps, and its fact rows.
+    pub(crate) fn moved<L: Ledger>(
+        &self,
+        alloc: Global,
+        deltas: Vec<Delta>,
+        steps: &mut Steps<L>,
+    ) -> Result<PlanMove, NoMemory>
+        requires { length deltas.items ≡ length (specs_from (query_in self.now) 0 (query_in self.now).decls) }
+        ensures walked { IfOk result (λ m. (c c' : CatalogueValue) → FlatMoved c c' (query_in self.now) deltas.items → PlanStands c self.now → Walked c c' self.now m) }
+        ensures cost { IfOk result (λ m. steps.new ≤ steps.old + pairs_moved self.now m) }
+        ensures rises { steps.old ≤ steps.new }
+    {
+        let walk = walked(alloc, &self.tests, &self.joins, deltas, steps)?;
+        let facts = facts(alloc, &self.output, &walk.out)?;
+        Ok(PlanMove {
+            sides: walk.sides,
+            facts,
+        })
+    }
+}

@@ -1,0 +1,60 @@
+//! How changes of the catalogue move a plan.
+ghost use Rattle.std.specs.Prelude.{◌≡◌, ◌+◌, ◌≤◌, None, IfOk, IsTrue};
+ghost use Rattle.std.specs.List.{AllByRecursion};
+ghost use Rattle.schema_model.specs.Changes.{after, after_all, is_well_formed};
+ghost use Rattle.schema_model.specs.Refusals.{fault, group_fault};
+ghost use Rattle.plan_translate.specs.Costs.{pairs_moved, IsRowBounded};
+ghost use Rattle.plan_translate.specs.Plans.{query_in, PlanStands, PlanMoves};
+
+use crate::{Plan, PlanMove};
+use schema_delta::{flat_changes, flat_group};
+use schema_model::{Catalogue, Change};
+use ss_text::{NoMemory, Steps};
+use std::alloc::Global;
+use std::sync::ledger::Ledger;
+
+impl Plan {
+    /// How a change that is not refused moves what the plan keeps for the catalogue, and the fact rows. Nothing is changed.
+    pub fn prepare<L: Ledger>(
+        &self,
+        alloc: Global,
+        catalogue: &Catalogue,
+        change: &Change,
+        steps: &mut Steps<L>,
+    ) -> Result<PlanMove, NoMemory>
+        requires well_formed { IsTrue (is_well_formed change.now) }
+        requires accepted { fault catalogue.now.databases change.now ≡ None }
+        requires stands { PlanStands catalogue.now.databases self.now }
+        ensures moves { IfOk result (PlanMoves catalogue.now.databases (after catalogue.now.databases change.now) (query_in self.now)) }
+        ensures cost { IfOk result (λ m. steps.new ≤ steps.old + pairs_moved self.now m) }
+        ensures row { IfOk result (IsRowBounded catalogue.now.databases change.now self.now) }
+        ensures rises { steps.old ≤ steps.new }
+    {
+        let _databases = catalogue.databases();
+        let deltas = flat_changes(alloc, catalogue, change, &self.specs, steps)?;
+        let moved = self.moved(alloc, deltas, steps)?;
+        Ok(moved)
+    }
+
+    /// How changes move what the plan keeps for the catalogue, and the fact rows, all together. None is refused behind those
+    /// before it. Nothing is changed.
+    pub fn prepare_all<L: Ledger>(
+        &self,
+        alloc: Global,
+        catalogue: &Catalogue,
+        changes: &[Change],
+        steps: &mut Steps<L>,
+    ) -> Result<PlanMove, NoMemory>
+        requires well_formed { AllByRecursion (λ g. IsTrue (is_well_formed g)) changes.now }
+        requires accepted { group_fault catalogue.now.databases changes.now ≡ None }
+        requires stands { PlanStands catalogue.now.databases self.now }
+        ensures moves { IfOk result (PlanMoves catalogue.now.databases (after_all catalogue.now.databases changes.now) (query_in self.now)) }
+        ensures cost { IfOk result (λ m. steps.new ≤ steps.old + pairs_moved self.now m) }
+        ensures rises { steps.old ≤ steps.new }
+    {
+        let _databases = catalogue.databases();
+        let deltas = flat_group(alloc, catalogue, changes, &self.specs, steps)?;
+        let moved = self.moved(alloc, deltas, steps)?;
+        Ok(moved)
+    }
+}
