@@ -70,8 +70,7 @@ impl Plan {
         ensures ready { IfOk result (λ ready. ready ≡ moved.sides) }
         ensures waits { MatchResult result (λ _. self.new.waiting ≡ Some moved.sides) (λ _. self.new.waiting ≡ None) }
     {
-        let ready = self.ready_for(alloc, &moved);
-        ready
+        self.ready_for(alloc, &moved)
     }
 
     /// Moves what the plan keeps by the move that waits, so that it stands for the catalogue after the change. This takes no

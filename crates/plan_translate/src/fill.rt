@@ -43,6 +43,7 @@ impl Plan {
         ensures come { IfOk result (λ m. AllCome (fact_rows catalogue.now.databases (query_in self.now)) m.facts) }
         ensures steps { OnOk result (steps.new ≡ steps.old) }
     {
+        // What a catalogue has is sound.
         let _databases = catalogue.databases();
         let deltas = rows_come(alloc, catalogue, &self.specs)?;
         let moved = self.moved(alloc, deltas, steps)?;

@@ -30,6 +30,7 @@ impl Plan {
         ensures row { IfOk result (IsRowBounded catalogue.now.databases change.now self.now) }
         ensures rises { steps.old ≤ steps.new }
     {
+        // What a catalogue has is sound.
         let _databases = catalogue.databases();
         let deltas = flat_changes(alloc, catalogue, change, &self.specs, steps)?;
         let moved = self.moved(alloc, deltas, steps)?;
@@ -52,6 +53,7 @@ impl Plan {
         ensures cost { IfOk result (λ m. steps.new ≤ steps.old + pairs_moved self.now m) }
         ensures rises { steps.old ≤ steps.new }
     {
+        // What a catalogue has is sound.
         let _databases = catalogue.databases();
         let deltas = flat_group(alloc, catalogue, changes, &self.specs, steps)?;
         let moved = self.moved(alloc, deltas, steps)?;
