@@ -1,2 +1,5 @@
 mod FitMoves
 mod WholeTables
+mod Grouped
+mod Columns
+mod PartLaw

@@ -1,5 +1,5 @@
 -- The one table of a constant label.
-use Rattle.std.proofs.Common.{◌≡◌, ◌∷◌, [], ℕ, List, Option, Some, None, Bool, true, false, refl, sym, ◌∙◌, ap, subst, map, filter, not, length, arith}
+use Rattle.std.proofs.Common.{◌≡◌, ◌∷◌, [], ℕ, List, None, true, refl, sym, ◌∙◌, ap, map, filter, not, length}
 use Rattle.std.specs.Prelude.{nat_lt, IsTrue}
 use Rattle.ss_text.specs.Texts.{Text, Row}
 use Rattle.ss_text.specs.Label.{is_table_label}
@@ -20,7 +20,7 @@ use Rattle.operator_law.specs.Bags.{MovesBag}
 use Rattle.fact_counts.specs.Stopped.{StopsFor}
 use Rattle.fact_counts.proofs.TouchedLines.{changed_is_touched}
 use Rattle.unfold_op.specs.FactMoves.{facts_in, fact_moves, facts_moved}
-use Rattle.unfold_op.specs.OneTables.{OneTableValue, KeepsFacts, GivesLines, framed, label_for}
+use Rattle.unfold_op.specs.OneTables.{OneTableValue, GivesLines, framed, label_for}
 use Rattle.unfold_op.proofs.BagMoves.{facts_move, facts_length}
 use Rattle.unfold_op.proofs.LabelsBorne.{bear_after}
 use Rattle.unfold_op.proofs.TableLaw.{script_alone}

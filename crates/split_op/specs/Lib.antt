@@ -1,2 +1,6 @@
 pub mod Tables
 pub mod Wholes
+pub mod Labels
+pub mod Groups
+pub mod Parts
+pub mod PartLines

@@ -1,10 +1,14 @@
-//! From facts that come and go to the lines by which the one table of a view changes, where its label is constant.
+//! From facts that come and go to the lines by which their tables change: one table where the label is constant, and one
+//! for each label where it is a variable.
 //!
-//! Its contract: `Whole` obeys the law of operators, answers exactly the script between the table before and after, which
-//! always stands, and refuses exactly what the definitions refuse. It does not know how a table keeps its facts.
+//! Its contract: `Whole` and `Split` obey the law of operators, answer exactly the script between the tables before and
+//! after, and refuse exactly what the definitions refuse. Neither knows how a table keeps its facts.
 #![tactic(auto)]
 
 mod count;
+mod groups;
+mod judged;
+mod part;
 mod whole;
 
 pub use whole::Whole;

@@ -1,4 +1,4 @@
-use Rattle.std.proofs.Common.{◌≡◌, ◌≤◌, ◌<◌, ◌+◌, ◌^◌, ◌∙◌, List, sym, subst, length, arith}
+use Rattle.std.proofs.Common.{◌≡◌, ◌≤◌, ◌<◌, ◌+◌, ◌^◌, ◌∙◌, List, sym, subst, arith}
 use Rattle.operator_law.specs.declared.delta.Signed.{Signed}
 use Rattle.unfold_op.specs.TableFields.{ups, downs}
 use Rattle.unfold_op.proofs.BagMoves.{totals_move}

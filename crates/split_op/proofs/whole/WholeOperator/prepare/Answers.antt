@@ -1,4 +1,4 @@
-use Rattle.std.proofs.Common.{◌≡◌, ◌∙◌, sym, List}
+use Rattle.std.proofs.Common.{◌∙◌}
 use Rattle.flow_law.specs.FactTables.{fact_table}
 use Rattle.flow_law.specs.Script.{lines_between}
 use Rattle.unfold_op.specs.FactMoves.{facts_in}
