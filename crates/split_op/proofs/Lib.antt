@@ -3,3 +3,6 @@ mod WholeTables
 mod Grouped
 mod Columns
 mod PartLaw
+mod PartMoves
+mod Committing
+mod Readying

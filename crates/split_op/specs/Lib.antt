@@ -4,3 +4,4 @@ pub mod Labels
 pub mod Groups
 pub mod Parts
 pub mod PartLines
+pub mod Stages

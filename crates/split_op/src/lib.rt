@@ -9,6 +9,7 @@ mod count;
 mod groups;
 mod judged;
 mod part;
+mod stages;
 mod whole;
 
 pub use whole::Whole;
