@@ -6,3 +6,6 @@ mod PartLaw
 mod PartMoves
 mod Committing
 mod Readying
+mod LabelFacts
+mod Judging
+mod FirstFound

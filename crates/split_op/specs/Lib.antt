@@ -5,3 +5,4 @@ pub mod Groups
 pub mod Parts
 pub mod PartLines
 pub mod Stages
+pub mod Judged

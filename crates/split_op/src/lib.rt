@@ -8,6 +8,7 @@
 mod count;
 mod groups;
 mod judged;
+mod lines;
 mod part;
 mod stages;
 mod whole;
