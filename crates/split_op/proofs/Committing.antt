@@ -28,7 +28,7 @@ module _ {I R : Type 0} where
   abbrev labels : List (Stage I R) → List Text
   labels ss = map (λ (s : Stage I R). s.label) ss
 
-  any_of_labels : (q : Text) (ss : List (Stage I R)) → list_any (λ (s : Stage I R). text_eq q s.label) ss ≡ list_any (text_eq q) (labels ss)
+  pub any_of_labels : (q : Text) (ss : List (Stage I R)) → list_any (λ (s : Stage I R). text_eq q s.label) ss ≡ list_any (text_eq q) (labels ss)
   any_of_labels q [] = refl
   any_of_labels q (s ∷ ss) = ap (λ (b : Bool). text_eq q s.label || b) (any_of_labels q ss)
 

@@ -1,6 +1,6 @@
 -- The first element that passes a test, and what holds of one among many.
-use Rattle.std.proofs.Common.{◌≡◌, ◌<◌, ◌+◌, ◌∷◌, [], ℕ, zero, suc, List, Bool, true, false, Option, Some, None, refl, sym, ◌∙◌, ap, subst, map, take, drop, length, get_or, ◌++◌, append_assoc, arith}
-use Rattle.std.specs.List.{AllByRecursion, find}
+use Rattle.std.proofs.Common.{◌≡◌, ◌<◌, ◌+◌, ◌∷◌, [], ℕ, List, Bool, true, false, Option, Some, None, refl, sym, ◌∙◌, ap, subst, map, take, drop, length, get_or, ◌++◌, append_assoc, arith}
+use Rattle.std.specs.List.{find}
 use Rattle.std.proofs.lemmas.List.{take_more, take-append-drop, map-append}
 use Rattle.ss_text.specs.Texts.{Text, Row}
 use Rattle.ss_text.proofs.PlaceLemmas.{each_at, map_last}

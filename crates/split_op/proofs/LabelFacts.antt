@@ -1,16 +1,15 @@
 -- The facts of one label among those of all rows.
-use Rattle.std.proofs.Common.{◌≡◌, ◌∷◌, [], List, Bool, true, false, cond, Option, Some, None, refl, sym, ◌∙◌, ap, length, map, filter, arith}
+use Rattle.std.proofs.Common.{◌≡◌, ◌∷◌, [], List, Bool, true, false, cond, Some, None, refl, sym, ◌∙◌, ap, length, filter, arith}
 use Rattle.std.specs.Prelude.{nat_lt, ◌||◌, if◌then◌else◌}
 use Rattle.std.specs.List.{list_any}
 use Rattle.std.proofs.lemmas.Bool.{lt-ltb}
-use Rattle.ss_text.specs.Texts.{Text, Row, text_eq, is_in}
+use Rattle.ss_text.specs.Texts.{Text, Row, text_eq}
 use Rattle.flow_law.specs.declared.shape.Shape.{Shape}
 use Rattle.flow_law.specs.Facts.{Fact, facts_of}
 use Rattle.flow_law.specs.FactRows.{fact_in}
 use Rattle.flow_law.specs.FactTables.{fact_table}
-use Rattle.flow_law.specs.Tables.{TableValue}
 use Rattle.unfold_op.specs.FactMoves.{facts_in}
-use Rattle.split_law.specs.LabelLines.{has_label, table_for}
+use Rattle.split_law.specs.LabelLines.{table_for}
 use Rattle.split_law.proofs.LabelScript.{any_label}
 use Rattle.split_op.specs.Labels.{label_in, rows_of}
 use Rattle.split_op.specs.PartLines.{table_if}

@@ -9,3 +9,5 @@ mod Readying
 mod LabelFacts
 mod Judging
 mod FirstFound
+mod SplitMoves
+mod SplitKeeps

@@ -1,15 +1,12 @@
 -- What is kept for labels, as it is made ready and moved.
-use Rattle.std.proofs.Common.{◌≡◌, ◌<◌, ◌∷◌, ◌++◌, [], List, Bool, true, false, Option, Some, None, refl, sym, ◌∙◌, ap, subst, length, map, append_assoc, arith}
-use Rattle.std.specs.List.{AllByRecursion, list_any}
-use Rattle.std.specs.List.Sorted.{IsStrictlySortedBy}
+use Rattle.std.proofs.Common.{◌≡◌, ◌∷◌, [], List, Bool, true, false, Option, Some, None, refl, sym, ◌∙◌, ap, subst, length, arith}
 use Rattle.std.specs.Option.{option_or, MatchOption}
-use Rattle.ss_text.specs.Texts.{Text, Row, text_eq, text_cmp}
+use Rattle.ss_text.specs.Texts.{Text, Row, text_eq}
 use Rattle.ss_text.proofs.KeyLemmas.{text_order, equal_is}
-use Rattle.ss_text.proofs.PairLemmas.{any_behind}
 use Rattle.flow_law.specs.declared.shape.Shape.{Shape}
 use Rattle.operator_law.specs.declared.delta.Signed.{Signed}
 use Rattle.operator_law.specs.Bags.{MovesBag}
-use Rattle.unfold_op.specs.OneTables.{OneTableValue, KeepsFacts, CanKeep}
+use Rattle.unfold_op.specs.OneTables.{OneTableValue, CanKeep}
 use Rattle.split_op.specs.declared.stages.Stage.{Stage}
 use Rattle.split_op.specs.Parts.{SameColumns, KeepsRows, KeepsPart}
 use Rattle.split_op.specs.Stages.{IsFresh, IsStage, MovesPart}

@@ -29,7 +29,7 @@ use Rattle.split_op.specs.Wholes.{labelled, KeepsWhole, CanPrepareWhole}
 use Rattle.fact_counts.specs.Touched.{SameBeyond}
 use Rattle.fact_counts.proofs.CountLemmas.{beyond_moves}
 
-beyond : (form : Shape) (old new : List Row) (ms : List Signed) → MovesBag old ms new → SameBeyond (facts_moved form ms) (facts_in form old) (facts_in form new)
+pub beyond : (form : Shape) (old new : List Row) (ms : List Signed) → MovesBag old ms new → SameBeyond (facts_moved form ms) (facts_in form old) (facts_in form new)
 beyond form old new ms h = beyond_moves (facts_in form old) (fact_moves form ms) (facts_in form new) (facts_move form old new ms h)
 
 -- facts that bear a legal label have no illegal table

@@ -6,3 +6,5 @@ pub mod Parts
 pub mod PartLines
 pub mod Stages
 pub mod Judged
+pub mod Splits
+pub mod SplitFields

@@ -9,8 +9,11 @@ mod count;
 mod groups;
 mod judged;
 mod lines;
+mod moved;
 mod part;
+mod split;
 mod stages;
 mod whole;
 
+pub use split::{Split, SplitReady};
 pub use whole::Whole;

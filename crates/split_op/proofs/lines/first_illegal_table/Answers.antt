@@ -1,8 +1,8 @@
-use Rattle.std.proofs.Common.{◌≡◌, ◌∙◌, ◌+◌, List, Option, Bool, Some, None, option_map, ap, sym, subst, map, take, drop}
+use Rattle.std.proofs.Common.{◌∙◌, ◌+◌, List, Option, Bool, Some, None, option_map, ap, sym, subst, map, take, drop}
 use Rattle.std.specs.Prelude.{not, ◌&&◌}
 use Rattle.std.specs.List.{list_any, find}
 use Rattle.std.proofs.lemmas.List.{take_all}
-use Rattle.ss_text.specs.Texts.{Text, Row, text_eq}
+use Rattle.ss_text.specs.Texts.{Text, text_eq}
 use Rattle.ss_text.specs.Label.{is_table_label}
 use Rattle.indexmap.specs.IndexMap.{get}
 use Rattle.flow_law.specs.declared.refused.IllegalLabel.{IllegalLabel}

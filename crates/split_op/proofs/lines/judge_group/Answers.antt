@@ -1,4 +1,4 @@
-use Rattle.std.proofs.Common.{◌≡◌, ◌∙◌, ap}
+use Rattle.std.proofs.Common.{ap}
 use Rattle.split_op.specs.declared.judged.Judged.{Judged}
 use Rattle.split_op.specs.Labels.{rows_of}
 use Rattle.split_op.proofs.Judging.{judged_lines, judged_clash}

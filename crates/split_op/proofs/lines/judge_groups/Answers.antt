@@ -1,8 +1,7 @@
-use Rattle.std.proofs.Common.{◌≡◌, ◌∙◌, ◌≤◌, ◌+◌, ℕ, List, Option, Some, ◌⊎◌, ⊎_elim, inl, inr, ap, sym, subst, map, take, drop, arith}
-use Rattle.std.specs.List.{AllByRecursion}
+use Rattle.std.proofs.Common.{◌≡◌, ◌∙◌, ◌+◌, List, Option, Some, ◌⊎◌, ⊎_elim, inl, inr, ap, sym, subst, map, take, drop, arith}
 use Rattle.std.proofs.lemmas.List.{take_all}
 use Rattle.operator_law.specs.Bags.{weigh}
-use Rattle.ss_text.specs.Texts.{Text, Row, text_eq}
+use Rattle.ss_text.specs.Texts.{Text, text_eq}
 use Rattle.ss_text.proofs.PlaceLemmas.{each_at}
 use Rattle.indexmap.specs.IndexMap.{get}
 use Rattle.unfold_op.specs.FactMoves.{facts_in}

@@ -1,5 +1,4 @@
-use Rattle.std.proofs.Common.{◌≡◌, ◌∙◌, ⊎_elim, List, Option, ap, sym, subst, map}
-use Rattle.flow_law.specs.declared.line.TableLine.{TableLine}
+use Rattle.std.proofs.Common.{◌∙◌, ⊎_elim, ap, sym, subst, map}
 use Rattle.flow_law.specs.declared.refused.Stop.{Stop}
 use Rattle.fact_counts.specs.Stopped.{StopsFor}
 use Rattle.unfold_op.specs.FactMoves.{facts_in}

@@ -1,5 +1,3 @@
-use Rattle.std.proofs.Common.{◌≡◌, ◌∙◌, sym, ap, Option}
-use Rattle.std.specs.Prelude.{if◌then◌else◌}
 use Rattle.ss_text.specs.Texts.{text_eq}
 use Rattle.indexmap.specs.IndexMap.{get}
 use Rattle.ss_text.proofs.KeyLemmas.{text_order, equal_itself}

@@ -1,4 +1,4 @@
-use Rattle.std.proofs.Common.{◌≡◌, ◌∙◌, ◌++◌, ◌∷◌, [], List, ap, sym, subst, length, arith}
+use Rattle.std.proofs.Common.{◌∙◌, ◌∷◌, [], ap, subst, length, arith}
 use Rattle.std.proofs.lemmas.List.{length-append}
 use Rattle.ss_text.specs.Texts.{text_eq}
 use Rattle.indexmap.specs.IndexMap.{get}

@@ -1,4 +1,4 @@
-use Rattle.std.proofs.Common.{◌≡◌, ◌∙◌, sym, subst, arith}
+use Rattle.std.proofs.Common.{subst, arith}
 use Rattle.split_op.specs.Parts.{SameColumns}
 use Rattle.split_op.proofs.Columns.{can_keep_columns}
 use Rattle.split_op.proofs.PartMoves.{none_left}

@@ -1,4 +1,4 @@
-use Rattle.std.proofs.Common.{◌≡◌, [], subst}
+use Rattle.std.proofs.Common.{[], subst}
 use Rattle.split_op.specs.Parts.{SameColumns}
 use Rattle.split_op.proofs.Columns.{fits_columns, can_keep_columns}
 use Rattle.split_op.proofs.FitMoves.{bears_one}

@@ -1,8 +1,7 @@
-use Rattle.std.proofs.Common.{◌≡◌, ◌∙◌, [], List, Option, Some, refl, sym, subst, IsSome}
-use Rattle.ss_text.specs.Texts.{Row, text_eq}
+use Rattle.std.proofs.Common.{Option, refl, sym, subst, IsSome}
+use Rattle.ss_text.specs.Texts.{text_eq}
 use Rattle.indexmap.specs.IndexMap.{get}
-use Rattle.flow_law.specs.declared.shape.Shape.{Shape}
-use Rattle.split_op.specs.Parts.{SameColumns, KeepsRows, KeepsPart}
+use Rattle.split_op.specs.Parts.{SameColumns, KeepsPart}
 use Rattle.split_op.proofs.Columns.{fits_columns, can_keep_columns}
 use Rattle.split_op.proofs.FitMoves.{bears_one}
 use Rattle.split_op.proofs.PartMoves.{parts_stay}

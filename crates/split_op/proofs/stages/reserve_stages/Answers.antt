@@ -1,7 +1,6 @@
-use Rattle.std.proofs.Common.{◌≡◌, ◌∙◌, ap, subst, arith, List, ◌++◌, ◌∷◌, []}
+use Rattle.std.proofs.Common.{arith}
 use Rattle.ss_text.specs.Texts.{text_eq}
 use Rattle.indexmap.specs.IndexMap.{get}
-use Rattle.split_op.specs.declared.stages.Stage.{Stage}
 use Rattle.split_op.proofs.Readying.{one_more_ready}
 use Rattle.split_op.proofs.stages.reserve_stages.Goals as goal
 

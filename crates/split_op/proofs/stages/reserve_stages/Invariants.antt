@@ -1,4 +1,4 @@
-use Rattle.std.proofs.Common.{◌≡◌, ◌≤◌, ◌+◌, take, length, List}
+use Rattle.std.proofs.Common.{◌≤◌, take, length, List}
 use Rattle.ss_text.specs.Texts.{Text, Row, text_eq}
 use Rattle.indexmap.specs.IndexMap.{get, spare}
 use Rattle.flow_law.specs.declared.shape.Shape.{Shape}

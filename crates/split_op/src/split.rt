@@ -1,0 +1,165 @@
+//! The tables of all labels, where the label is a variable.
+ghost use Rattle.std.specs.Prelude.{◌≡◌, [], None};
+ghost use Rattle.split_op.specs.Parts.{SameColumns};
+ghost use Rattle.split_op.specs.Splits.{KeepsSplit};
+
+use crate::moved::{moved_lines, moved_stages};
+use crate::stages::{Stage, commit_stages};
+use flow_law::{Shape, Stop, TableLine};
+use indexmap::IndexMap;
+use operator_law::{Delta, Fresh, Kept, Operator};
+use ss_text::{NoMemory, Steps, Text};
+use std::alloc::Global;
+use std::marker::Model;
+use std::snapshot::Snapshot;
+use std::sync::ledger::Ledger;
+use unfold_op::TableOperator;
+
+/// What was made ready for a change.
+#[derive(Drop)]
+pub(crate) struct Waiting<I: TableOperator> {
+    pub of: Snapshot<Delta>,
+    pub stages: Vec<Stage<I>>,
+}
+
+/// Names the change that the tables were made ready for.
+#[derive(Drop)]
+pub struct SplitReady {
+    of: Snapshot<Delta>,
+}
+
+impl Model for SplitReady {
+    ghost use Rattle.std.specs.Prelude.{List};
+    ghost use Rattle.operator_law.specs.declared.delta.Signed.{Signed};
+
+    ghost Value = { List Signed };
+
+    ghost view = { λ r. r.of.value };
+}
+
+/// Keeps the facts of the tables of all labels, by an operator for one table each. A label without facts has none.
+#[derive(Drop)]
+pub struct Split<I: TableOperator> {
+    shape: Shape,
+    pattern: I,
+    parts: IndexMap<Text, I>,
+    waiting: Option<Waiting<I>>,
+}
+
+impl<I: TableOperator> Model for Split<I> {
+    ghost use Rattle.std.specs.Prelude.{option_map};
+    ghost use Rattle.split_op.specs.Splits.{SplitValue};
+
+    ghost Value = { SplitValue I };
+
+    ghost use Rattle.split_op.specs.SplitFields.{IsSplit};
+
+    ghost view = { λ s. record { shape = s.shape; pattern = s.pattern; parts = s.parts.entries; waiting = option_map (λ w. w.of.value) s.waiting } };
+
+    ghost invariant = { λ s. IsSplit I.table I.waiting I.made_for s.shape s.pattern s.parts s.waiting };
+}
+
+impl<I: TableOperator> Split<I> {
+    /// No facts, of tables of this form, whose label is a variable. The operators of the labels are made after the pattern, which
+    /// keeps no facts.
+    pub fn new(alloc: Global, shape: Shape, pattern: I) -> Split<I>
+        requires label { shape.label ≡ None }
+        requires columns { SameColumns shape (I.table pattern).shape }
+        ensures shape { result.shape ≡ shape }
+        ensures pattern { result.pattern ≡ pattern }
+        ensures keeps { KeepsSplit I.table result [] }
+        ensures none { result.waiting ≡ None }
+    {
+        Split {
+            shape,
+            pattern,
+            parts: IndexMap::new(alloc),
+            waiting: None,
+        }
+    }
+}
+
+impl<I: TableOperator> Operator for Split<I> {
+    ghost use Rattle.flow_law.specs.FactTables.{tables};
+    ghost use Rattle.flow_law.specs.Stops.{IsStop};
+    ghost use Rattle.operator_law.specs.Bags.{MovesBag};
+    ghost use Rattle.unfold_op.specs.FactMoves.{facts_in};
+    ghost use Rattle.split_op.specs.Tables.{ScriptLines};
+    ghost use Rattle.split_op.specs.Splits.{part_of, KeepsSplit, CanPrepareSplit, IsSplitBound};
+    ghost use Rattle.ss_text.specs.Texts.{Row as RowValue};
+    ghost use Rattle.std.specs.Prelude.{List};
+
+    type Input = ();
+
+    type Change = Delta;
+
+    type Output = Vec<TableLine>;
+
+    ghost value = { λ s x. tables s.shape (facts_in s.shape x) };
+
+    ghost stands_for = { λ s i x. KeepsSplit I.table s x };
+
+    ghost can_prepare = { λ s i g. CanPrepareSplit I.table s g };
+
+    ghost gives = { λ s i g lines. (old new : List RowValue) → KeepsSplit I.table s old → MovesBag old g new → ScriptLines s.shape lines.items (facts_in s.shape old) (facts_in s.shape new) };
+
+    ghost may_stop = { λ s i g stop. (old new : List RowValue) → KeepsSplit I.table s old → MovesBag old g new → IsStop s.shape (facts_in s.shape new) stop };
+
+    ghost is_bound = { λ s i g n. IsSplitBound (λ t. I.is_bound t tt) I.alike s.pattern (part_of s.parts) g n };
+
+    fn prepare<L: Ledger>(
+        &self,
+        alloc: Global,
+        input: &(),
+        change: &Delta,
+        steps: &mut Steps<L>,
+    ) -> Result<Vec<TableLine>, Stop> {
+        match moved_lines(alloc, &self.pattern, &self.parts, change, steps) {
+            Ok(lines) => Ok(lines),
+            Err(stop) => Err(stop),
+        }
+    }
+}
+
+impl<I: TableOperator> Kept for Split<I> {
+    ghost use Rattle.std.specs.Prelude.{◌≡◌};
+    ghost use Rattle.std.proofs.Common.{subst};
+    ghost use Rattle.flow_law.specs.declared.shape.Shape.{Shape};
+    ghost use Rattle.split_op.specs.Splits.{KeepsSplit, CanKeepSplit, AreWide, AlikeSplits};
+
+    type Change = Delta;
+
+    type Ready = SplitReady;
+
+    ghost keeps = { λ s x. KeepsSplit I.table s x };
+
+    ghost can_keep = { λ s x. CanKeepSplit s.shape x };
+
+    ghost alike = { λ a b. AlikeSplits I.alike a b };
+
+    ghost waiting = { λ s. s.waiting };
+
+    ghost made_for = { λ r. r };
+
+    ghost can_reserve = { λ s g. AreWide s.shape g };
+
+    fn reserve(&mut self, alloc: Global, change: &Delta) -> Result<SplitReady, NoMemory> {
+        self.waiting = None;
+        let stages = moved_stages(alloc, &self.pattern, &mut self.parts, change)?;
+        self.waiting = Some(Waiting {
+            of: Snapshot::of(change),
+            stages,
+        });
+        Ok(SplitReady {
+            of: Snapshot::of(change),
+        })
+    }
+
+    fn commit(&mut self, ready: SplitReady) {
+        if let Some(waiting) = self.waiting.take() {
+            commit_stages(&mut self.parts, waiting.stages);
+        }
+    }
+
+    ghost keeps_alike = { λ s t x a h. subst (λ (v : Shape). CanKeepSplit v x) a.shape h };
+}
