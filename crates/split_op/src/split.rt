@@ -163,3 +163,27 @@ impl<I: TableOperator> Kept for Split<I> {
 
     ghost keeps_alike = { λ s t x a h. subst (λ (v : Shape). CanKeepSplit v x) a.shape h };
 }
+
+impl<I: TableOperator> Fresh for Split<I> {
+    ghost use Rattle.std.proofs.Common.{ap, ◌∙◌};
+    ghost use Rattle.flow_law.specs.declared.shape.Shape.{Shape};
+    ghost use Rattle.flow_law.specs.FactTables.{tables};
+    ghost use Rattle.unfold_op.specs.FactMoves.{facts_in};
+
+    fn fresh(&self, alloc: Global) -> Result<Split<I>, NoMemory> {
+        let constants = self.shape.constants.copy()?;
+        let pattern = self.pattern.fresh(alloc)?;
+        let shape = Shape {
+            label: None,
+            constants,
+            spot: self.shape.spot,
+        };
+        Ok(Split::new(alloc, shape, pattern))
+    }
+
+    ghost stands = { λ s x h. h };
+
+    ghost same_value = { λ s t x a. ap (λ (v : Shape). tables v (facts_in v x)) a.shape };
+
+    ghost alike_on = { λ s t u a b. record { shape = a.shape ∙ b.shape; pattern = λ i h. a.pattern i (b.pattern i h) } };
+}
