@@ -1,2 +1,3 @@
 mod OperatorPlaces
 mod UnitedNames
+mod PageLemmas

@@ -136,7 +136,7 @@ fn text(alloc: Global, part: &str) -> Result<Text, NoMemory> {
 }
 
 // The fields of a line, which are parted by blanks.
-fn fields(alloc: Global, line: &str) -> Result<Row, NoMemory> {
+pub(crate) fn fields(alloc: Global, line: &str) -> Result<Row, NoMemory> {
     let mut cells = Vec::new(alloc);
     if !line.is_empty() {
         for cell in line.split(' ') {
@@ -246,7 +246,7 @@ fn line(alloc: Global, m: &Signed) -> Result<Text, NoMemory> {
 }
 
 // The lines of all moves, sorted.
-fn lines(alloc: Global, deltas: &[Delta]) -> Result<Vec<u8>, NoMemory> {
+pub(crate) fn lines(alloc: Global, deltas: &[Delta]) -> Result<Vec<u8>, NoMemory> {
     let mut lines = Vec::new(alloc);
     for delta in deltas {
         for m in &delta.moves {
@@ -261,15 +261,39 @@ fn lines(alloc: Global, deltas: &[Delta]) -> Result<Vec<u8>, NoMemory> {
     Ok(all)
 }
 
+// The lines of what a change moves, if it is not refused.
+fn shown(
+    alloc: Global,
+    catalogue: &Catalogue,
+    change: &Change,
+    specs: &[FlatSpec],
+) -> Result<Option<Vec<u8>>, NoMemory> {
+    match moves_of(alloc, catalogue, change, specs)? {
+        Some(deltas) => Ok(Some(lines(alloc, &deltas)?)),
+        None => Ok(None),
+    }
+}
+
+// The lines of what a change of the catalogue moves.
+fn moved_lines(
+    alloc: Global,
+    catalogue: &Catalogue,
+    moved: &Moved,
+) -> Result<Option<Vec<u8>>, ChangeFault> {
+    let specs = specs(alloc, moved)?;
+    let change = change(alloc, moved.change)?;
+    let shown = shown(alloc, catalogue, &change, &specs);
+    drop(change);
+    Ok(shown?)
+}
+
 // Whether a change moves just these rows.
 fn is_moved(alloc: Global, moved: &Moved) -> Result<bool, ChangeFault> {
     let catalogue = before(alloc)?;
-    let specs = specs(alloc, moved)?;
-    let change = change(alloc, moved.change)?;
-    let deltas = moves_of(alloc, &catalogue, &change, &specs);
-    drop(change);
-    match deltas? {
-        Some(deltas) => Ok(lines(alloc, &deltas)?.as_slice() == moved.moves.as_bytes()),
+    let shown = moved_lines(alloc, &catalogue, moved);
+    drop(catalogue);
+    match shown? {
+        Some(shown) => Ok(shown.as_slice() == moved.moves.as_bytes()),
         None => Ok(false),
     }
 }

@@ -1,4 +1,5 @@
-//! Worked rows of what an engine will stand on: how changes move the flat rows of declarations, and rows on shelves.
+//! Worked rows of what an engine will stand on: how changes move the flat rows of declarations, what `Pick` and `Fold`
+//! give by themselves, and rows on shelves.
 //!
 //! It has tests alone. What they want is worked out by hand.
 #![tactic(auto)]
@@ -9,6 +10,8 @@ mod bags;
 mod flat;
 #[cfg(test)]
 mod operators;
+#[cfg(test)]
+mod pages;
 #[cfg(test)]
 mod shelves;
 #[cfg(test)]
