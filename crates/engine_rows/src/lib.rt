@@ -1,5 +1,5 @@
-//! Worked rows of what an engine will stand on: how changes move the flat rows of declarations, what `Pick` and `Fold`
-//! give by themselves, and rows on shelves.
+//! Worked rows of what an engine will stand on: bags, what operators of rows and of things with names give, what `Pick`
+//! and `Fold` give by themselves, a join, how changes move the flat rows of declarations, and rows on shelves.
 //!
 //! It has tests alone. What they want is worked out by hand.
 #![tactic(auto)]
@@ -8,6 +8,8 @@
 mod bags;
 #[cfg(test)]
 mod flat;
+#[cfg(test)]
+mod joins;
 #[cfg(test)]
 mod operators;
 #[cfg(test)]
