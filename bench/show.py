@@ -69,7 +69,7 @@ def main():
                 compare("show", "cut, uniq and sort", shown, "cut -o -f k,d then uniq -a then sort -f k -f d".split(), source, root)
             shown = show(root, "C", f"values to columns, {keys}", 1)
             compare("show", "reshape -s", shown, ["reshape", "-s", "d,v"], source, root)
-            verified = wanted(run([program(), "verify", "C"], root), 0, "same")
+            verified = wanted(run([program(), "verify", "C"], root), 0, "same\t1")
             report("verify", verified, f"; {verified.seconds / shown.seconds:.2f} of the time of show")
             shown = show(root, "S", f"values to tables, {keys}", COLUMNS)
             compare("show", "split", shown, ["split", "-g", "d", "then", "nothing"], source, root)
