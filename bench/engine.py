@@ -33,7 +33,7 @@ def time_of_change(word, kept, changes, count):
 
 
 def compare(word, changes, count):
-    """One change over many rows against one over few; a run comes to the count of the rows that are kept."""
+    """One change over many rows against one over few; a run comes to a count, which is told from that of the kept rows."""
     few = time_of_change(word, FEW, changes, count(FEW))
     many = time_of_change(word, MANY, changes, count(MANY))
     print(f"{word}: a change over {MANY // FEW} times as many rows takes {many / few:.1f} times as long")
@@ -43,6 +43,7 @@ def main():
     changes = int(sys.argv[2]) if len(sys.argv) > 2 else 100_000
     compare("links", changes, lambda kept: kept)
     compare("sources", changes, lambda kept: kept)
+    compare("join", changes, lambda kept: 3 * changes)
 
 
 main()

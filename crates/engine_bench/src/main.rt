@@ -3,6 +3,7 @@
 //! `bench/engine.py` runs it. It is no part of the program `schemasql`.
 #![tactic(auto)]
 
+mod joins;
 mod linked;
 mod made;
 mod sources;
@@ -33,6 +34,7 @@ fn words<R: Env + AllocGlobal>(rt: &R) -> anyhow::Result<Vec<String>> {
 // word names none.
 fn work(alloc: Global, name: &str, kept: u32, changes: u32) -> Result<Option<usize>, NoMemory> {
     match name {
+        "join" => Ok(Some(joins::come(alloc, kept, changes)?)),
         "links" => Ok(Some(linked::left(alloc, kept, changes)?)),
         "sources" => Ok(Some(sources::left(alloc, kept, changes)?)),
         _ => Ok(None),

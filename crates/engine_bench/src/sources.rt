@@ -10,21 +10,41 @@ use std::alloc::Global;
 /// How many rows are left of so many kept ones after so many changes, by which a row comes and goes in turn.
 pub(crate) fn left(alloc: Global, kept: u32, changes: u32) -> Result<usize, NoMemory> {
     let mut catalogue = Catalogue::empty(alloc);
-    make(&mut catalogue, &database(alloc)?)?;
-    make(&mut catalogue, &relation(alloc)?)?;
+    let moved = move_rows(alloc, &mut catalogue, kept, changes);
+    let count = catalogue.row_count();
+    drop(catalogue);
+    moved?;
+    Ok(count)
+}
+
+// Puts the kept rows into a relation, and makes the changes.
+fn move_rows(
+    alloc: Global,
+    catalogue: &mut Catalogue,
+    kept: u32,
+    changes: u32,
+) -> Result<(), NoMemory> {
+    make(catalogue, &database(alloc)?)?;
+    make(catalogue, &relation(alloc)?)?;
     for number in 0..kept {
-        make(&mut catalogue, &come(alloc, number)?)?;
+        make(catalogue, &come(alloc, number)?)?;
     }
     for number in 0..changes {
-        let key = number / 2 % kept.max(1);
-        let change = if number % 2 == 0 {
-            come(alloc, key)?
-        } else {
-            go(alloc, key)?
-        };
-        make(&mut catalogue, &change)?;
+        make(catalogue, &change_at(alloc, number, kept)?)?;
     }
-    Ok(catalogue.row_count())
+    Ok(())
+}
+
+// A row comes, or the one before goes again.
+fn change_at(alloc: Global, number: u32, kept: u32) -> Result<Change, NoMemory>
+    ensures { IfOk result (λ change. IsTrue (is_well_formed change)) }
+{
+    let key = number / 2 % kept.max(1);
+    if number % 2 == 0 {
+        come(alloc, key)
+    } else {
+        go(alloc, key)
+    }
 }
 
 // Makes a change, if it is not refused.
