@@ -1,0 +1,328 @@
+//! Plans of views over two relations.
+ghost use Rattle.std.specs.Prelude.{◌≡◌, ◌<◌, IfOk, OnOk, IsTrue, None};
+ghost use Rattle.schema_model.specs.Changes.{is_well_formed};
+ghost use Rattle.schema_model.specs.Refusals.{fault};
+ghost use Rattle.view_def.specs.Query.{query_of};
+ghost use Rattle.view_def.specs.Profile.{IsViewOfProfile};
+ghost use Rattle.plan_translate.specs.Plans.{PlanStands, IsFresh};
+
+use operator_law::{Delta, Signed};
+use plan_translate::{Plan, translate};
+use schema_model::{Catalogue, Change, ChangeFault};
+use ss_parser::parse;
+use ss_text::{NoMemory, Row, Steps, Text};
+use std::alloc::Global;
+use std::marker::Brand;
+use std::sync::ledger::{Blank, Ledger};
+use std::test::Fail;
+use var_typing::type_view;
+use view_def::View;
+
+// A change, and the moves of fact rows that it makes, each a line, sorted.
+struct Moved {
+    change: &'static str,
+    moves: &'static str,
+}
+
+// A view, the fact rows that fill its plan, and the changes after that.
+struct Worked {
+    view: &'static str,
+    filled: &'static str,
+    moved: [Moved; 4],
+}
+
+// The catalogue before.
+const BEFORE: [&str; 7] = [
+    "create-database d",
+    "create-relation d r k a",
+    "insert d r 1 x",
+    "insert d r 2 y",
+    "create-relation d s a b",
+    "insert d s x p",
+    "insert d s x q",
+];
+
+const WORKED: [Worked; 5] = [
+    // Both sides of a join are moved, and a renamed attribute takes all facts away.
+    Worked {
+        view: "create view V::t(k, b) as select T.k, S.b from d::r T, d::s S where T.a = S.a",
+        filled: "+ t 1 p\n+ t 1 q\n",
+        moved: [
+            Moved {
+                change: "insert d s y q",
+                moves: "+ t 2 q\n",
+            },
+            Moved {
+                change: "delete d r 1 x",
+                moves: "- t 1 p\n- t 1 q\n",
+            },
+            Moved {
+                change: "insert d r 3 y",
+                moves: "+ t 3 q\n",
+            },
+            Moved {
+                change: "rename-attribute d s b c",
+                moves: "- t 2 q\n- t 3 q\n",
+            },
+        ],
+    },
+    // A test of one row alone, and a condition that is no equality.
+    Worked {
+        view: "create view V::t(k) as select T.k from d::r T, d::s S where T.a = S.a and S.b = 'p' and T.k <> '3'",
+        filled: "+ t 1\n",
+        moved: [
+            Moved {
+                change: "insert d s y q",
+                moves: "",
+            },
+            Moved {
+                change: "insert d s y p",
+                moves: "+ t 2\n",
+            },
+            Moved {
+                change: "insert d r 3 y",
+                moves: "",
+            },
+            Moved {
+                change: "delete d s x p",
+                moves: "- t 1\n",
+            },
+        ],
+    },
+    // One declaration, and so no join.
+    Worked {
+        view: "create view V::t(k) as select T.k from d::r T",
+        filled: "+ t 1\n+ t 2\n",
+        moved: [
+            Moved {
+                change: "insert d r 1 z",
+                moves: "+ t 1\n",
+            },
+            Moved {
+                change: "add-attribute d r n 0",
+                moves: "",
+            },
+            Moved {
+                change: "delete d r 2 y 0",
+                moves: "- t 2\n",
+            },
+            Moved {
+                change: "drop-relation d r",
+                moves: "- t 1\n- t 1\n",
+            },
+        ],
+    },
+    // One row moves both sides of a join, of which a pair is its own.
+    Worked {
+        view: "create view V::t(k, l) as select T.k, S.k from d::r T, d::r S where T.a = S.a",
+        filled: "+ t 1 1\n+ t 2 2\n",
+        moved: [
+            Moved {
+                change: "insert d r 3 x",
+                moves: "+ t 1 3\n+ t 3 1\n+ t 3 3\n",
+            },
+            Moved {
+                change: "delete d r 1 x",
+                moves: "- t 1 1\n- t 1 3\n- t 3 1\n",
+            },
+            Moved {
+                change: "rename-relation d r u",
+                moves: "- t 2 2\n- t 3 3\n",
+            },
+            Moved {
+                change: "rename-relation d u r",
+                moves: "+ t 2 2\n+ t 3 3\n",
+            },
+        ],
+    },
+    // Relations whose names are columns.
+    Worked {
+        view: "create view V::t(a, R) as select T.a, S.b from d -> R, d::R T, d::s S where T.a = S.a and R <> 's'",
+        filled: "+ t x r p\n+ t x r q\n",
+        moved: [
+            Moved {
+                change: "rename-relation d r u",
+                moves: "+ t x u p\n+ t x u q\n- t x r p\n- t x r q\n",
+            },
+            Moved {
+                change: "create-relation d w a",
+                moves: "",
+            },
+            Moved {
+                change: "insert d w x",
+                moves: "+ t x w p\n+ t x w q\n",
+            },
+            Moved {
+                change: "rename-database d e",
+                moves: "- t x u p\n- t x u q\n- t x w p\n- t x w q\n",
+            },
+        ],
+    },
+];
+
+// The fields of a line, which are parted by blanks.
+fn fields(alloc: Global, line: &str) -> Result<Row, NoMemory> {
+    let mut cells = Vec::new(alloc);
+    for cell in line.split(' ') {
+        cells.push(Text::of(alloc, cell.as_bytes())?)?;
+    }
+    Ok(Row::of(cells))
+}
+
+fn change(alloc: Global, line: &str) -> Result<Change, ChangeFault>
+    ensures { IfOk result (λ change. IsTrue (is_well_formed change)) }
+{
+    let line = fields(alloc, line)?;
+    Change::read(alloc, &line)
+}
+
+// Makes a change that is not refused.
+fn make(catalogue: &mut Catalogue, change: &Change) -> Result<(), NoMemory>
+    requires { IsTrue (is_well_formed change.now) }
+{
+    if catalogue.judge(change).is_none() {
+        let ready = catalogue.reserve(change)?;
+        catalogue.commit(ready);
+    }
+    Ok(())
+}
+
+fn before(alloc: Global) -> Result<Catalogue, ChangeFault> {
+    let mut catalogue = Catalogue::empty(alloc);
+    for line in BEFORE {
+        let change = change(alloc, line)?;
+        let made = make(&mut catalogue, &change);
+        drop(change);
+        made?;
+    }
+    Ok(catalogue)
+}
+
+// A signed row as a line.
+fn line(alloc: Global, m: &Signed) -> Result<Text, NoMemory> {
+    let mut bytes = Vec::new(alloc);
+    bytes.push(if m.up { b'+' } else { b'-' })?;
+    for cell in m.row.cells() {
+        bytes.push(b' ')?;
+        bytes.extend_from_slice(cell.as_slice())?;
+    }
+    bytes.push(b'\n')?;
+    Text::of(alloc, &bytes)
+}
+
+// Whether these are the lines of the moves, sorted.
+fn are(alloc: Global, delta: &Delta, wanted: &str) -> Result<bool, NoMemory> {
+    let mut lines = Vec::new(alloc);
+    for m in &delta.moves {
+        lines.push(line(alloc, m)?)?;
+    }
+    lines.sort()?;
+    let mut all = Vec::new(alloc);
+    for line in &lines {
+        all.extend_from_slice(line.as_slice())?;
+    }
+    Ok(all.as_slice() == wanted.as_bytes())
+}
+
+// Makes a change that is not refused, of the catalogue and of the plan, and tells whether it made these moves.
+fn step<L: Ledger>(
+    alloc: Global,
+    plan: &mut Plan,
+    catalogue: &mut Catalogue,
+    change: &Change,
+    moves: &str,
+    steps: &mut Steps<L>,
+) -> Result<bool, NoMemory>
+    requires stands { PlanStands catalogue.old.databases plan.old }
+    requires well_formed { IsTrue (is_well_formed change.now) }
+    requires accepted { fault catalogue.old.databases change.now ≡ None }
+    ensures { OnOk result (PlanStands catalogue.new.databases plan.new) }
+{
+    let moved = plan.prepare(alloc, catalogue, change, steps)?;
+    let same = are(alloc, moved.facts(), moves);
+    let ready = plan.reserve(alloc, moved)?;
+    let made = catalogue.reserve(change)?;
+    catalogue.commit(made);
+    plan.commit(ready);
+    same
+}
+
+// Whether each change makes its moves.
+fn all_steps<L: Ledger>(
+    alloc: Global,
+    plan: &mut Plan,
+    catalogue: &mut Catalogue,
+    moved: &[Moved],
+    steps: &mut Steps<L>,
+) -> Result<bool, ChangeFault>
+    requires { PlanStands catalogue.old.databases plan.old }
+{
+    for moved in moved {
+        let change = change(alloc, moved.change)?;
+        if catalogue.judge(&change).is_some() {
+            return Ok(false);
+        }
+        let same = step(alloc, plan, catalogue, &change, moved.moves, steps);
+        drop(change);
+        if !same? {
+            return Ok(false);
+        }
+    }
+    Ok(true)
+}
+
+// Whether the plan of a view is filled and moved so.
+fn is_worked<L: Ledger>(
+    alloc: Global,
+    plan: &mut Plan,
+    catalogue: &mut Catalogue,
+    worked: &Worked,
+    blank: Blank,
+) -> Result<bool, ChangeFault>
+    requires name { blank.name ≡ L.name }
+    requires parts { blank.parts ≡ L.parts }
+    requires some { 0 < L.parts }
+    requires fresh { IsFresh plan.old }
+{
+    let mut steps = Steps::<L>::of(blank);
+    let filled = plan.fill(alloc, catalogue, &mut steps)?;
+    if !are(alloc, &filled, worked.filled)? {
+        return Ok(false);
+    }
+    all_steps(alloc, plan, catalogue, &worked.moved, &mut steps)
+}
+
+fn typed(alloc: Global, text: &str) -> Result<View, Fail>
+    ensures { IfOk result (λ view. IsViewOfProfile (query_of view)) }
+{
+    let tree = parse(alloc, text.as_bytes())?;
+    let view = type_view(alloc, &tree);
+    drop(tree);
+    Ok(view?)
+}
+
+fn plan_of(alloc: Global, text: &str) -> Result<Plan, Fail>
+    ensures { IfOk result IsFresh }
+{
+    let view = typed(alloc, text)?;
+    let plan = translate(alloc, &view);
+    drop(view);
+    Ok(plan?)
+}
+
+#[test]
+fn changes_move_facts(rt: HostRuntime) -> Result<(), Fail> {
+    for worked in &WORKED {
+        let mut plan = plan_of(rt.alloc(), worked.view)?;
+        let mut catalogue = before(rt.alloc())?;
+        let same = is_worked::<Brand>(
+            rt.alloc(),
+            &mut plan,
+            &mut catalogue,
+            worked,
+            Blank::new(1),
+        )?;
+        assert!(rt; same, "at {}", worked.view);
+    }
+    Ok(())
+}
