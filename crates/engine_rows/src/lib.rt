@@ -1,5 +1,6 @@
 //! Worked rows of what an engine will stand on: bags, what operators of rows and of things with names give, what `Pick`
-//! and `Fold` give by themselves, a join, how changes move the flat rows of declarations, and rows on shelves.
+//! and `Fold` give by themselves, a join, rows that are linked, how changes move the flat rows of declarations, and rows
+//! on shelves.
 //!
 //! It has tests alone. What they want is worked out by hand.
 #![tactic(auto)]
@@ -10,6 +11,8 @@ mod bags;
 mod flat;
 #[cfg(test)]
 mod joins;
+#[cfg(test)]
+mod links;
 #[cfg(test)]
 mod operators;
 #[cfg(test)]

@@ -10,8 +10,6 @@ mod link;
 mod linked;
 mod part;
 mod seek;
-#[cfg(test)]
-mod tests;
 
 pub use linked::Linked;
 pub use part::agree;

@@ -3,7 +3,7 @@ use Rattle.row_links.specs.Parts.{cells_at, same_cells}
 use Rattle.row_links.specs.Live.{at_place}
 use Rattle.row_links.proofs.Seen.{some_row}
 use Rattle.row_links.proofs.Places.{passing_behind}
-use Rattle.row_links.proofs.tests.walk.Goals as goal
+use Rattle.engine_rows.proofs.links.walk.Goals as goal
 
 pub loop-preserved : goal.loop-preserved
 loop-preserved g c = λ p e.

@@ -2,7 +2,7 @@
 ghost use Rattle.std.specs.Prelude.{◌≡◌, ◌≤◌, ◌<◌, length, IfOk};
 ghost use Rattle.row_links.specs.Live.{LinkedRows};
 
-use crate::Linked;
+use row_links::Linked;
 use ss_text::{NoMemory, Row, Steps, Text};
 use std::alloc::Global;
 use std::marker::Brand;
@@ -23,7 +23,7 @@ fn numbered(alloc: Global, number: u32) -> Result<Row, NoMemory> {
 }
 
 // Adds so many of the rows that wait.
-#[tactic(auto, using(crate::proofs::Places::one_added, crate::proofs::Places::same_keys))]
+#[tactic(auto, using(row_links::proofs::Places::one_added, row_links::proofs::Places::same_keys))]
 fn add_waiting(linked: &mut Linked, count: usize)
     requires { count ≤ length linked.old.waiting }
     ensures { linked.new.keys ≡ linked.old.keys }
@@ -44,7 +44,7 @@ fn added(alloc: Global, linked: &mut Linked, rows: Vec<Row>) -> Result<usize, No
 }
 
 // Writes all live rows, each as its two cells.
-#[tactic(auto, using(crate::proofs::Places::first_live, crate::proofs::Places::first_behind))]
+#[tactic(auto, using(row_links::proofs::Places::first_live, row_links::proofs::Places::first_behind))]
 fn show(linked: &Linked, out: &mut Vec<u8>) -> Result<(), NoMemory> {
     let mut next = linked.first();
     for _ in 0..linked.count() {
@@ -62,7 +62,7 @@ fn show(linked: &Linked, out: &mut Vec<u8>) -> Result<(), NoMemory> {
 }
 
 // Writes a `+` for each live row with these cells at the only key.
-#[tactic(auto, using(crate::proofs::Places::first_passing, crate::proofs::Places::passing_behind))]
+#[tactic(auto, using(row_links::proofs::Places::first_passing, row_links::proofs::Places::passing_behind))]
 fn walk<L: Ledger>(
     linked: &Linked,
     value: &Row,
@@ -103,23 +103,41 @@ fn by_first_cell(alloc: Global) -> Result<Linked, NoMemory>
     Ok(Linked::new(alloc, keys))
 }
 
-// Four rows, of which three have the same first cell; then one of two equal rows is taken away.
-fn story(alloc: Global) -> Result<Vec<u8>, NoMemory> {
-    let mut linked = by_first_cell(alloc)?;
+// Four rows, of which three have the same first cell.
+fn four_rows(alloc: Global) -> Result<Vec<Row>, NoMemory> {
     let mut rows = Vec::new(alloc);
     rows.push(row(alloc, "a", "1")?)?;
     rows.push(row(alloc, "b", "1")?)?;
     rows.push(row(alloc, "a", "2")?)?;
     rows.push(row(alloc, "a", "1")?)?;
-    added(alloc, &mut linked, rows)?;
-    let mut out = Vec::new(alloc);
+    Ok(rows)
+}
+
+// The cell that three have.
+fn first_cell(alloc: Global) -> Result<Row, NoMemory> {
     let mut value = Vec::new(alloc);
     value.push(Text::of(alloc, b"a")?)?;
-    walk_once(&linked, &Row::of(value), &mut out)?;
-    show(&linked, &mut out)?;
+    Ok(Row::of(value))
+}
+
+// Writes the four rows that come, and those that are left once one of two equal ones is taken away.
+fn tell(alloc: Global, linked: &mut Linked, out: &mut Vec<u8>) -> Result<(), NoMemory>
+    requires { length linked.old.keys ≡ 1 }
+{
+    added(alloc, linked, four_rows(alloc)?)?;
+    walk_once(linked, &first_cell(alloc)?, out)?;
+    show(linked, out)?;
     linked.take_first(&row(alloc, "a", "1")?);
     linked.take_first(&row(alloc, "c", "1")?);
-    show(&linked, &mut out)?;
+    show(linked, out)
+}
+
+fn story(alloc: Global) -> Result<Vec<u8>, NoMemory> {
+    let mut linked = by_first_cell(alloc)?;
+    let mut out = Vec::new(alloc);
+    let told = tell(alloc, &mut linked, &mut out);
+    drop(linked);
+    told?;
     Ok(out)
 }
 
@@ -130,18 +148,31 @@ fn equal_cells_are_walked(rt: HostRuntime) -> Result<(), Fail> {
     Ok(())
 }
 
-// How many rows are left after so many came and went.
-fn left(alloc: Global, count: u32) -> Result<usize, NoMemory> {
-    let mut linked = by_first_cell(alloc)?;
+fn numbered_rows(alloc: Global, count: u32) -> Result<Vec<Row>, NoMemory> {
     let mut rows = Vec::new(alloc);
     for number in 0..count {
         rows.push(numbered(alloc, number)?)?;
     }
-    added(alloc, &mut linked, rows)?;
+    Ok(rows)
+}
+
+// So many rows come, and all go again.
+fn come_and_go(alloc: Global, linked: &mut Linked, count: u32) -> Result<(), NoMemory> {
+    added(alloc, linked, numbered_rows(alloc, count)?)?;
     for number in 0..count {
         linked.take_first(&numbered(alloc, number)?);
     }
-    Ok(linked.count())
+    Ok(())
+}
+
+// How many rows are left after so many came and went.
+fn left(alloc: Global, count: u32) -> Result<usize, NoMemory> {
+    let mut linked = by_first_cell(alloc)?;
+    let moved = come_and_go(alloc, &mut linked, count);
+    let count = linked.count();
+    drop(linked);
+    moved?;
+    Ok(count)
 }
 
 #[test]

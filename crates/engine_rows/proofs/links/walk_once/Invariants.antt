@@ -1,4 +1,4 @@
-use Rattle.row_links.proofs.tests.walk_once.Given as goal
+use Rattle.engine_rows.proofs.links.walk_once.Given as goal
 
 abbrev pub ghosts-walk : goal.ghosts-walk
 ghosts-walk a = record { name = a.blank.name; parts = a.blank.parts }
