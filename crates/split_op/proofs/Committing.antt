@@ -20,7 +20,7 @@ pub record IsCommitted {I R : Type 0} (table : I → OneTableValue) (waiting : I
   pub moved : (form : Shape) → AllByRecursion (IsStage table waiting made_for form old) stages → AllByRecursion (MovesPart table made_for form old now) done
   pub others : (q : Text) → list_any (λ (s : Stage I R). text_eq q s.label) done ≡ false → now q ≡ old q
 
-either_false : (a b : Bool) → (a || b) ≡ false → (a ≡ false) × (b ≡ false)
+pub either_false : (a b : Bool) → (a || b) ≡ false → (a ≡ false) × (b ≡ false)
 either_false true b e = absurd (cc)
 either_false false b e = (refl, e)
 

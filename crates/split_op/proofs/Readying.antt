@@ -1,6 +1,5 @@
 -- Operators that are made ready one after another.
 use Rattle.std.proofs.Common.{◌≡◌, ◌<◌, ◌+◌, ◌∷◌, ◌++◌, [], ℕ, List, Option, Bool, true, false, refl, sym, ◌∙◌, ap, subst, map, take, drop, length, get_or, Less}
-use Rattle.std.specs.Prelude.{◌||◌}
 use Rattle.std.specs.List.{AllByRecursion, list_any}
 use Rattle.std.specs.List.Sorted.{IsStrictlySortedBy}
 use Rattle.std.proofs.lemmas.List.{take_more, take-append-drop, map-append}
@@ -15,6 +14,7 @@ use Rattle.split_op.specs.declared.groups.Group.{Group}
 use Rattle.split_op.specs.declared.stages.Stage.{Stage}
 use Rattle.split_op.specs.Groups.{group_label}
 use Rattle.split_op.specs.Stages.{IsStage, AreReady}
+use Rattle.split_op.proofs.Committing.{either_false}
 use Rattle.split_op.proofs.PartMoves.{stage_at}
 
 earlier : (ks : List Text) (k : Text) → IsStrictlySortedBy text_cmp (ks ++ k ∷ []) → list_any (text_eq k) ks ≡ false
@@ -25,10 +25,6 @@ earlier (j ∷ js) k h = rw (less_differs text_order j k (last js h.0)) (earlier
     last : (is : List Text) → AllByRecursion (λ q. text_cmp j q ≡ Less) (is ++ k ∷ []) → text_cmp j k ≡ Less
     last [] a = a.0
     last (i ∷ is) a = last is a.1
-
-either_false : (a b : Bool) → (a || b) ≡ false → (a ≡ false) × (b ≡ false)
-either_false true b e = absurd (cc)
-either_false false b e = (refl, e)
 
 taken : (groups : List Group) (n : ℕ) → IsStrictlySortedBy text_cmp (map group_label groups) → IsStrictlySortedBy text_cmp (map group_label (take n groups))
 taken groups n h =

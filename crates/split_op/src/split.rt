@@ -60,8 +60,8 @@ impl<I: TableOperator> Model for Split<I> {
 }
 
 impl<I: TableOperator> Split<I> {
-    /// No facts, of tables of this form, whose label is a variable. The operators of the labels are made after the pattern, which
-    /// keeps no facts.
+    /// No facts, of tables of this form, whose label is a variable. The operator of a label is made like the pattern, whose tables
+    /// have the same columns.
     pub fn new(alloc: Global, shape: Shape, pattern: I) -> Split<I>
         requires label { shape.label ≡ None }
         requires columns { SameColumns shape (I.table pattern).shape }
