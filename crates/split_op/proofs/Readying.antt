@@ -1,5 +1,5 @@
 -- Operators that are made ready one after another.
-use Rattle.std.proofs.Common.{◌≡◌, ◌<◌, ◌+◌, ◌∷◌, ◌++◌, [], ℕ, List, Option, Bool, true, false, refl, sym, ◌∙◌, ap, subst, map, take, drop, length, get_or, Less}
+use Rattle.std.proofs.Common.{◌≡◌, ◌<◌, ◌+◌, ◌∷◌, ◌++◌, [], ℕ, List, Option, false, refl, sym, ◌∙◌, ap, subst, map, take, drop, length, get_or, Less}
 use Rattle.std.specs.List.{AllByRecursion, list_any}
 use Rattle.std.specs.List.Sorted.{IsStrictlySortedBy}
 use Rattle.std.proofs.lemmas.List.{take_more, take-append-drop, map-append}
