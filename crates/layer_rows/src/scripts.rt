@@ -110,12 +110,27 @@ fn rows(alloc: Global, lines: &str) -> Result<Vec<Row>, NoMemory> {
     Ok(rows)
 }
 
-// The printed script of tables and of those that further lines make of them.
+// The printed script of two values of tables.
+fn printed(alloc: Global, old: &Tables, new: &Tables) -> Result<Vec<Row>, NoMemory> {
+    let script = Script::between(alloc, old, new)?;
+    script_lines(alloc, &script)
+}
+
+// That of tables and of those that further lines make of them.
 fn found(alloc: Global, before: &str, then: &str) -> Result<Vec<Row>, NoMemory> {
     let old = made(alloc, before, "")?;
     let new = made(alloc, before, then)?;
-    let script = Script::between(alloc, &old, &new)?;
-    script_lines(alloc, &script)
+    let rows = printed(alloc, &old, &new);
+    drop(new);
+    drop(old);
+    rows
+}
+
+// Whether the script of tables and of those that its lines make of them has these lines.
+fn is_found(alloc: Global, before: &str, script: &str) -> Result<bool, NoMemory> {
+    let found = found(alloc, before, script)?;
+    let wanted = rows(alloc, script)?;
+    Ok(found == wanted)
 }
 
 #[test]
@@ -143,9 +158,7 @@ fn scripts_of_worked_rows(rt: HostRuntime) -> Result<(), Fail> {
             "row- salInfo Assoc,row- salInfo Prof,column- salInfo cs,column- salInfo math",
         ),
     ] {
-        let found = found(alloc, before, script)?;
-        let wanted = rows(alloc, script)?;
-        assert_eq!(rt; found.as_slice(), wanted.as_slice(), "at {script}");
+        assert!(rt; is_found(alloc, before, script)?, "at {script}");
     }
     Ok(())
 }
@@ -185,30 +198,47 @@ fn outcome(
     }
 }
 
+// The lines that are handed in one after another, and what becomes of each.
+const LINES: [(&str, &str); 15] = [
+    ("done 3", "passed"),
+    ("aborted", "passed"),
+    ("sync", "unknown-verb"),
+    ("cell salInfo cs 70", "field-count"),
+    ("row+ salInfo Lect x", "key-length"),
+    ("row+ none Lect x", "key-length"),
+    ("table+ .a", "illegal-label"),
+    ("column+ none category", "illegal-label"),
+    ("table- none", "no-target"),
+    ("cell salInfo art 5 Prof", "no-target"),
+    ("table+ salInfo", "target-there"),
+    ("row+ salInfo Prof", "target-there"),
+    ("column+ salInfo art", "applied"),
+    ("cell salInfo art 5 Prof", "applied"),
+    ("column- salInfo cs", "applied"),
+];
+
+// The first line of which something else becomes.
+fn first_other(
+    alloc: Global,
+    tables: &mut Tables,
+    shape: &Shape,
+) -> Result<Option<&'static str>, NoMemory> {
+    for (line, becomes) in LINES {
+        if outcome(alloc, tables, shape, line)? != becomes {
+            return Ok(Some(line));
+        }
+    }
+    Ok(None)
+}
+
 #[test]
 fn lines_are_read_and_applied(rt: HostRuntime) -> Result<(), Fail> {
     let alloc = rt.alloc();
     let shape = salaries(alloc)?;
     let mut tables = made(alloc, ONE_CELL, "")?;
-    for (line, becomes) in [
-        ("done 3", "passed"),
-        ("aborted", "passed"),
-        ("sync", "unknown-verb"),
-        ("cell salInfo cs 70", "field-count"),
-        ("row+ salInfo Lect x", "key-length"),
-        ("row+ none Lect x", "key-length"),
-        ("table+ .a", "illegal-label"),
-        ("column+ none category", "illegal-label"),
-        ("table- none", "no-target"),
-        ("cell salInfo art 5 Prof", "no-target"),
-        ("table+ salInfo", "target-there"),
-        ("row+ salInfo Prof", "target-there"),
-        ("column+ salInfo art", "applied"),
-        ("cell salInfo art 5 Prof", "applied"),
-        ("column- salInfo cs", "applied"),
-    ] {
-        let found = outcome(alloc, &mut tables, &shape, line)?;
-        assert_eq!(rt; found, becomes, "at {line}");
-    }
+    let other = first_other(alloc, &mut tables, &shape);
+    drop(tables);
+    drop(shape);
+    assert_eq!(rt; other?, None);
     Ok(())
 }

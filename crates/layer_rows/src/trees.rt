@@ -2,7 +2,7 @@
 use ss_parser::{ParseFault, parse};
 use std::alloc::Global;
 use std::test::Fail;
-use view_def::RawCond;
+use view_def::{RawCond, ViewText};
 
 // The fault of a text.
 fn fault_of(alloc: Global, text: &[u8]) -> Option<ParseFault> {
@@ -91,22 +91,28 @@ fn depth(rt: HostRuntime) -> Result<(), Fail> {
     Ok(())
 }
 
+// Whether the parts of a view are those of the text.
+fn has_its_parts(view: &ViewText) -> bool {
+    view.view_db.text.as_slice() == b"V\"w".as_slice()
+        && view.view_db.quoted
+        && view.label.quoted
+        && (view.columns.len(), view.select.len(), view.decls.len()) == (2, 2, 6)
+        && view.filter.as_ref().is_some_and(is_all_of_not_any)
+}
+
 #[test]
 fn read(rt: HostRuntime) -> Result<(), Fail> {
     let text =
         b"CREATE view \"V\"\"w\"::\"select\"(a-1, D) as select T.a, -5 from d::r T, -> X, d -> Y, d::r -> Z, d::r.c W, T.a U
         where not (T.a = 5 or T.b < 'k''l') and T.c <> 'q';";
-    let view = parse(rt.alloc(), text).ok().ok_or("refused")?;
-    assert_eq!(rt; view.view_db.text.as_slice(), b"V\"w".as_slice());
-    assert!(rt; view.view_db.quoted && view.label.quoted);
-    assert_eq!(rt; view.columns.len(), 2);
-    assert_eq!(rt; view.select.len(), 2);
-    assert_eq!(rt; view.decls.len(), 6);
-    // the NOT has ended before the AND, and the OR stands inside it
-    assert!(rt; view.filter.as_ref().is_some_and(is_all_of_not_any));
+    let view = parse(rt.alloc(), text)?;
+    let has_its_parts = has_its_parts(&view);
+    drop(view);
+    assert!(rt; has_its_parts);
     Ok(())
 }
 
+// The NOT has ended before the AND, and the OR stands inside it.
 fn is_all_of_not_any(condition: &RawCond) -> bool {
     match condition {
         RawCond::All(members) => match members.as_slice() {
