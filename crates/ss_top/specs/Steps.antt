@@ -93,6 +93,11 @@ abbrev pub IsRefusal : Opened → Type 0
 IsRefusal (opened_as.Open v) = Unit {0}
 IsRefusal (opened_as.Ended v) = is_refused_status (verdict_status v) ≡ true
 
+-- how a run ends that opens a view and does no more
+abbrev pub verdict_of : Opened → Verdict
+verdict_of (opened_as.Open v) = verdict.Done
+verdict_of (opened_as.Ended v) = v
+
 -- nothing was done: the store was only read, and nothing was printed
 pub record Idle (old new : World) : Type 0 where
   pub store : OnlyRead old.store new.store

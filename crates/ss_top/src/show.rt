@@ -8,7 +8,7 @@ ghost use Rattle.ss_top.specs.Stages.{DefinitionOrRefusal};
 ghost use Rattle.ss_top.specs.Opening.{IsDefinition, definition_bytes, opening, done_at_once};
 ghost use Rattle.ss_top.specs.Commands.{can_show};
 ghost use Rattle.ss_top.specs.Course.{verdict_status};
-ghost use Rattle.ss_top.specs.Steps.{IdleUnread};
+ghost use Rattle.ss_top.specs.Steps.{IdleUnread, verdict_of};
 
 use crate::opening::{Opened, open};
 use course::Verdict;
@@ -18,7 +18,7 @@ use ss_text::Text;
 use std::alloc::Global;
 
 // Opens the view, and that is all.
-#[tactic(auto, using(crate::proofs::RunLemmas::shown_ends, crate::proofs::RunLemmas::shown_done, crate::proofs::RunLemmas::shown_stops, crate::proofs::IdleLemmas::refused_can_show))]
+#[tactic(auto, using(crate::proofs::RunLemmas::shown, crate::proofs::RunLemmas::shown_can, crate::proofs::RunLemmas::shown_stops))]
 pub(crate) fn show<F: Folders, K: Sink>(
     alloc: Global,
     store: &mut F,
@@ -30,8 +30,18 @@ pub(crate) fn show<F: Folders, K: Sink>(
     ensures idle { IdleUnread result (world_of (F.state store.old) (K.state output.old)) (world_of (F.state store.new) (K.state output.new)) }
     ensures blames { Blames (world_of (F.state store.old) (K.state output.old)) (world_of (F.state store.new) (K.state output.new)) result }
 {
-    match open(alloc, store, output, name)? {
-        Opened::Open(_) => Ok(Verdict::Done),
-        Opened::Ended(verdict) => Ok(verdict),
+    let opened = open(alloc, store, output, name)?;
+    let verdict = verdict_of(&opened);
+    drop(opened);
+    Ok(verdict)
+}
+
+// How a run ends that opens the view and does no more.
+fn verdict_of(opened: &Opened) -> Verdict
+    ensures { result ≡ verdict_of opened.now }
+{
+    match opened {
+        Opened::Open(_) => Verdict::Done,
+        Opened::Ended(verdict) => *verdict,
     }
 }
