@@ -1,0 +1,40 @@
+-- The tables of all labels, by the form of their view.
+use Rattle.std.proofs.Common.{◌≡◌, ◌≤◌, ℕ, List, [], ◌∷◌, Some, None, sym, ◌∙◌, subst, arith}
+use Rattle.std.specs.Prelude.{length}
+use Rattle.ss_text.specs.Texts.{Text, Row}
+use Rattle.flow_law.specs.declared.shape.Shape.{Shape}
+use Rattle.flow_law.specs.declared.line.TableLine.{TableLine}
+use Rattle.flow_law.specs.declared.refused.Stop.{Stop}
+use Rattle.flow_law.specs.Stops.{IsStop}
+use Rattle.operator_law.specs.declared.delta.Signed.{Signed}
+use Rattle.operator_law.specs.Bags.{weigh}
+use Rattle.operator_law.proofs.Weights.{weigh-none}
+use Rattle.unfold_op.specs.FactMoves.{facts_in}
+use Rattle.unfold_op.specs.OneTables.{OneTableValue}
+use Rattle.split_op.specs.Tables.{ScriptLines}
+use Rattle.split_op.specs.Labels.{labels_moved}
+use Rattle.split_op.specs.Splits.{SplitValue, KeepsSplit, CanKeepSplit, AreWide, CanPrepareSplit}
+use Rattle.view_engine.specs.Forms.{seen, KeepsEach, MovesForm, CanKeepTables}
+
+-- no steps for each label are none together
+pub no_steps : (labels : List Text) → weigh (λ (label : Text). 0) labels ≤ 0
+no_steps labels = omega (arith, weigh-none labels)
+
+module _ (shape : Shape) (s : SplitValue OneTableValue) (old : List Row) (h : KeepsEach shape s old) where
+  pub script_each : (new : List Row) (lines : List TableLine) → ScriptLines s.shape lines (facts_in s.shape old) (facts_in s.shape new) → ScriptLines shape lines (facts_in shape old) (facts_in shape new)
+  script_each new lines l = subst (λ (f : Shape). ScriptLines f lines (facts_in f old) (facts_in f new)) h.shape_is l
+
+  pub stop_each : (new : List Row) (e : Stop) → IsStop s.shape (facts_in s.shape new) e → IsStop shape (facts_in shape new) e
+  stop_each new e i = subst (λ (f : Shape). IsStop f (facts_in f new) e) h.shape_is i
+
+  pub wide_each : (ms : List Signed) (new : List Row) → MovesForm shape ms old new → AreWide s.shape ms
+  wide_each ms new m = subst (λ (f : Shape). AreWide f ms) (sym h.shape_is) m.wide
+
+  pub can_prepare_each : (ms : List Signed) (new : List Row) → MovesForm shape ms old new → CanPrepareSplit seen s ms
+  can_prepare_each ms new m = record { old = old; new = new; keeps = h.keeps; wide = wide_each ms new m; moves = m.moves; few = m.few }
+
+  pub can_keep_each : (new : List Row) → CanKeepTables shape new → CanKeepSplit s.shape new
+  can_keep_each new can = subst (λ (f : Shape). CanKeepSplit f new) (sym h.shape_is) (record { few = can.few; legal = can.legal; clean = can.clean })
+
+  pub keeps_each : (t : SplitValue OneTableValue) → s.shape ≡ t.shape → (new : List Row) → KeepsSplit seen t new → KeepsEach shape t new
+  keeps_each t f new k = record { shape_is = sym f ∙ h.shape_is; keeps = k }

@@ -1,0 +1,3 @@
+pub mod NetRows
+pub mod OneForms
+pub mod EachForms

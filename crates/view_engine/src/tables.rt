@@ -1,0 +1,168 @@
+//! The tables of a view, by the form that they have.
+ghost use Rattle.std.specs.Prelude.{◌≡◌, [], List, IfOk, IfErr, true, false};
+ghost use Rattle.std.specs.Option.{ForSome};
+ghost use Rattle.ss_text.specs.Texts.{Row as RowValue};
+ghost use Rattle.ss_text.specs.Label.{is_table_label};
+ghost use Rattle.flow_law.specs.declared.shape.Shape.{Shape as ShapeValue};
+ghost use Rattle.operator_law.specs.Bags.{MovesBag};
+ghost use Rattle.view_engine.specs.Forms.{KeepsTables, CanKeepTables, MovesTables, TellsLines, StopsSo, IsReadyFor, made_for, is_one};
+
+use flow_law::{Shape, Stop, TableLine};
+use operator_law::{Delta, Kept, Operator};
+use split_op::{Split, SplitReady, Whole};
+use ss_text::{NoMemory, Row, Steps, Text};
+use std::alloc::Global;
+use std::marker::PhantomData;
+use std::sync::ledger::Ledger;
+use unfold_op::{Distinct, TableReady, Unfold};
+
+/// Keeps the facts of a view's tables, by the form of the tables.
+#[derive(Drop)]
+pub(crate) enum TableForm {
+    /// The one table of a constant label, with constant columns alone.
+    OneOfRows(Whole<Distinct>),
+    /// The one table of a constant label, with a variable column.
+    OneOfCells(Whole<Unfold>),
+    /// A table for each label, with constant columns alone.
+    EachOfRows(Split<Distinct>),
+    /// A table for each label, with a variable column.
+    EachOfCells(Split<Unfold>),
+}
+
+/// Keeps the facts of a view's tables.
+#[derive(Drop)]
+pub struct ViewTables {
+    form: TableForm,
+    // What each form answers. Functions over the operators of labels are proved only where this type is named.
+    lines: PhantomData<Vec<TableLine>>,
+}
+
+/// Names the moves of facts that the tables were made ready for.
+#[derive(Drop)]
+pub enum TablesReady {
+    One(TableReady),
+    Each(SplitReady),
+}
+
+// The one table of this label, without facts.
+fn one_table(alloc: Global, label: Text, constants: Row, spot: Option<usize>) -> ViewTables
+    requires { is_table_label label ≡ true }
+    ensures { KeepsTables (record { label = Some label; constants = constants; spot = spot }) result [] }
+{
+    let form = match spot {
+        None => TableForm::OneOfRows(Whole::new(label, Distinct::new(alloc, constants))),
+        Some(_) => TableForm::OneOfCells(Whole::new(label, Unfold::new(alloc, constants))),
+    };
+    ViewTables {
+        form,
+        lines: PhantomData,
+    }
+}
+
+// No table of any label.
+fn each_table(alloc: Global, constants: Row, spot: Option<usize>) -> Result<ViewTables, NoMemory>
+    ensures { IfOk result (λ tables. KeepsTables (record { label = None; constants = constants; spot = spot }) tables []) }
+{
+    let columns = constants.copy()?;
+    let shape = Shape {
+        label: None,
+        constants,
+        spot,
+    };
+    let form = match spot {
+        None => TableForm::EachOfRows(Split::new(alloc, shape, Distinct::new(alloc, columns))),
+        Some(_) => TableForm::EachOfCells(Split::new(alloc, shape, Unfold::new(alloc, columns))),
+    };
+    Ok(ViewTables {
+        form,
+        lines: PhantomData,
+    })
+}
+
+// What one table was made ready by, and what the tables of all labels were.
+fn one(ready: TablesReady) -> TableReady
+    requires { is_one ready ≡ true }
+    ensures { result ≡ made_for ready }
+{
+    match ready {
+        TablesReady::One(ready) => ready,
+        TablesReady::Each(_) => unreachable!(),
+    }
+}
+
+fn each(ready: TablesReady) -> SplitReady
+    requires { is_one ready ≡ false }
+    ensures { result ≡ made_for ready }
+{
+    match ready {
+        TablesReady::One(_) => unreachable!(),
+        TablesReady::Each(ready) => ready,
+    }
+}
+
+impl ViewTables {
+    /// No facts, of tables of this form, whose label is legal where it is constant.
+    pub fn new(alloc: Global, shape: Shape) -> Result<ViewTables, NoMemory>
+        requires { ForSome shape.label (λ label. is_table_label label ≡ true) }
+        ensures { IfOk result (λ tables. KeepsTables shape tables []) }
+    {
+        let Shape {
+            label,
+            constants,
+            spot,
+        } = shape;
+        match label {
+            Some(label) => Ok(one_table(alloc, label, constants, spot)),
+            None => each_table(alloc, constants, spot),
+        }
+    }
+
+    /// The lines by which the tables change where their facts move so, or why the facts after that are refused. Nothing is
+    /// changed.
+    pub fn prepare<L: Ledger>(
+        &self,
+        alloc: Global,
+        facts: &Delta,
+        steps: &mut Steps<L>,
+    ) -> Result<Vec<TableLine>, Stop>
+        requires { (shape : ShapeValue) × (old : List RowValue) × (new : List RowValue) × MovesTables shape self.now facts.now old new }
+        ensures lines { IfOk result (λ lines. TellsLines self.now.form facts.now lines.items) }
+        ensures stops { IfErr result (StopsSo self.now.form facts.now) }
+        ensures steps { steps.new ≡ steps.old }
+    {
+        match &self.form {
+            TableForm::OneOfRows(whole) => whole.prepare(alloc, &(), facts, steps),
+            TableForm::OneOfCells(whole) => whole.prepare(alloc, &(), facts, steps),
+            TableForm::EachOfRows(split) => split.prepare(alloc, &(), facts, steps),
+            TableForm::EachOfCells(split) => split.prepare(alloc, &(), facts, steps),
+        }
+    }
+
+    /// Takes all memory that these moves of facts need. What is kept stays, after `NoMemory` too.
+    pub fn reserve(&mut self, alloc: Global, facts: &Delta) -> Result<TablesReady, NoMemory>
+        requires { (shape : ShapeValue) × (old : List RowValue) × (new : List RowValue) × MovesTables shape self.old facts.now old new × CanKeepTables shape new }
+        ensures keeps { (shape : ShapeValue) (rows : List RowValue) → KeepsTables shape self.old rows → KeepsTables shape self.new rows }
+        ensures ready { IfOk result (IsReadyFor self.new) }
+        ensures made { IfOk result (λ ready. made_for ready ≡ facts.now) }
+    {
+        match &mut self.form {
+            TableForm::OneOfRows(whole) => Ok(TablesReady::One(whole.reserve(alloc, facts)?)),
+            TableForm::OneOfCells(whole) => Ok(TablesReady::One(whole.reserve(alloc, facts)?)),
+            TableForm::EachOfRows(split) => Ok(TablesReady::Each(split.reserve(alloc, facts)?)),
+            TableForm::EachOfCells(split) => Ok(TablesReady::Each(split.reserve(alloc, facts)?)),
+        }
+    }
+
+    /// Moves what is kept by the moves that wait. It takes no memory.
+    pub fn commit(&mut self, ready: TablesReady)
+        requires { IsReadyFor self.old ready }
+        ensures { (shape : ShapeValue) (old new : List RowValue) → KeepsTables shape self.old old → MovesBag old (made_for ready) new → CanKeepTables shape new → KeepsTables shape self.new new }
+    {
+        match &mut self.form {
+            TableForm::OneOfRows(whole) => whole.commit(one(ready)),
+            TableForm::OneOfCells(whole) => whole.commit(one(ready)),
+            TableForm::EachOfRows(split) => split.commit(each(ready)),
+            TableForm::EachOfCells(split) => split.commit(each(ready)),
+        }
+    }
+}
