@@ -1,3 +1,5 @@
 pub mod NetRows
 pub mod OneForms
 pub mod EachForms
+pub mod FactForms
+pub mod Standing

@@ -18,8 +18,7 @@ use Rattle.split_op.specs.Parts.{SameColumns}
 use Rattle.split_op.specs.Wholes.{KeepsWhole}
 use Rattle.split_op.specs.Splits.{SplitValue, KeepsSplit}
 use Rattle.view_engine.specs.declared.tables.ViewTables.{ViewTables}
-use Rattle.view_engine.specs.declared.tables.TableForm.{TableForm}
-use Rattle.view_engine.specs.declared.tables.TableForm.TheVariants.{OneOfRows, OneOfCells, EachOfRows, EachOfCells}
+use Rattle.view_engine.specs.declared.tables.ViewTables.TheVariants.{OneOfRows, OneOfCells, EachOfRows, EachOfCells}
 use Rattle.view_engine.specs.declared.tables.TablesReady.{TablesReady}
 use Rattle.view_engine.specs.declared.tables.TablesReady.TheVariants.{One, Each}
 
@@ -39,14 +38,11 @@ pub record KeepsEach (shape : Shape) (s : SplitValue OneTableValue) (rows : List
   pub keeps : KeepsSplit seen s rows
 
 -- tables of this form keep the facts in these rows
-abbrev pub KeepsForm : Shape → TableForm → List Row → Type 0
-KeepsForm shape (OneOfRows w) rows = KeepsOne shape w.label w.inner rows
-KeepsForm shape (OneOfCells w) rows = KeepsOne shape w.label w.inner rows
-KeepsForm shape (EachOfRows s) rows = KeepsEach shape s rows
-KeepsForm shape (EachOfCells s) rows = KeepsEach shape s rows
-
 abbrev pub KeepsTables : Shape → ViewTables → List Row → Type 0
-KeepsTables shape t rows = KeepsForm shape t.form rows
+KeepsTables shape (OneOfRows w) rows = KeepsOne shape w.label w.inner rows
+KeepsTables shape (OneOfCells w) rows = KeepsOne shape w.label w.inner rows
+KeepsTables shape (EachOfRows s a) rows = KeepsEach shape s rows
+KeepsTables shape (EachOfCells s a) rows = KeepsEach shape s rows
 
 -- tables of this form can keep them
 pub record CanKeepTables (shape : Shape) (rows : List Row) : Type 0 where
@@ -59,6 +55,7 @@ pub record CanKeepTables (shape : Shape) (rows : List Row) : Type 0 where
 pub record MovesForm (shape : Shape) (ms : List Signed) (old new : List Row) : Type 0 where
   pub wide : All (λ (m : Signed). length m.row ≡ fact_width shape) ms
   pub bear : BearLabel shape.label (facts_moved shape ms)
+  pub bear_new : BearLabel shape.label (facts_in shape new)
   pub moves : MovesBag old ms new
   pub few : length new < 2 ^ 128
 
@@ -68,38 +65,38 @@ pub record MovesTables (shape : Shape) (t : ViewTables) (ms : List Signed) (old 
   pub form : MovesForm shape ms old new
 
 -- whatever is kept, the lines are the script to the tables of the facts after the moves
-abbrev pub TellsLines : TableForm → List Signed → List TableLine → Type 0
+abbrev pub TellsLines : ViewTables → List Signed → List TableLine → Type 0
 TellsLines t ms lines =
-    (shape : Shape) (old new : List Row) → KeepsForm shape t old → MovesBag old ms new → ScriptLines shape lines (facts_in shape old) (facts_in shape new)
+    (shape : Shape) (old new : List Row) → KeepsTables shape t old → MovesBag old ms new → ScriptLines shape lines (facts_in shape old) (facts_in shape new)
 
 -- and those facts are refused so
-abbrev pub StopsSo : TableForm → List Signed → Stop → Type 0
+abbrev pub StopsSo : ViewTables → List Signed → Stop → Type 0
 StopsSo t ms stop =
-    (shape : Shape) (old new : List Row) → KeepsForm shape t old → MovesBag old ms new → IsStop shape (facts_in shape new) stop
+    (shape : Shape) (old new : List Row) → KeepsTables shape t old → MovesBag old ms new → IsStop shape (facts_in shape new) stop
 
 -- the moves that tables were made ready for, and those that wait in tables
 abbrev pub made_for : TablesReady → List Signed
 made_for (One ms) = ms
 made_for (Each ms) = ms
 
-abbrev pub waiting_in : TableForm → Option (List Signed)
+abbrev pub waiting_in : ViewTables → Option (List Signed)
 waiting_in (OneOfRows w) = w.inner.waiting
 waiting_in (OneOfCells w) = w.inner.waiting
-waiting_in (EachOfRows s) = s.waiting
-waiting_in (EachOfCells s) = s.waiting
+waiting_in (EachOfRows s a) = s.waiting
+waiting_in (EachOfCells s a) = s.waiting
 
 -- whether there is one table, of a constant label
 abbrev pub is_one : TablesReady → Bool
 is_one (One ms) = true
 is_one (Each ms) = false
 
-abbrev pub has_one : TableForm → Bool
+abbrev pub has_one : ViewTables → Bool
 has_one (OneOfRows w) = true
 has_one (OneOfCells w) = true
-has_one (EachOfRows s) = false
-has_one (EachOfCells s) = false
+has_one (EachOfRows s a) = false
+has_one (EachOfCells s a) = false
 
 -- these tables were made ready so
 pub record IsReadyFor (t : ViewTables) (ready : TablesReady) : Type 0 where
-  pub waits : waiting_in t.form ≡ Some (made_for ready)
-  pub one : is_one ready ≡ has_one t.form
+  pub waits : waiting_in t ≡ Some (made_for ready)
+  pub one : is_one ready ≡ has_one t

@@ -1,5 +1,5 @@
 //! The tables of a view, by the form that they have.
-ghost use Rattle.std.specs.Prelude.{◌≡◌, [], List, IfOk, IfErr, true, false};
+ghost use Rattle.std.specs.Prelude.{◌≡◌, [], List, IfOk, IfErr, OnOk, true, false};
 ghost use Rattle.std.specs.Option.{ForSome};
 ghost use Rattle.ss_text.specs.Texts.{Row as RowValue};
 ghost use Rattle.ss_text.specs.Label.{is_table_label};
@@ -18,24 +18,20 @@ use unfold_op::{Distinct, TableReady, Unfold};
 
 /// Keeps the facts of a view's tables, by the form of the tables.
 #[derive(Drop)]
-pub(crate) enum TableForm {
+pub enum ViewTables {
     /// The one table of a constant label, with constant columns alone.
     OneOfRows(Whole<Distinct>),
     /// The one table of a constant label, with a variable column.
     OneOfCells(Whole<Unfold>),
     /// A table for each label, with constant columns alone.
-    EachOfRows(Split<Distinct>),
+    EachOfRows(Split<Distinct>, Answer),
     /// A table for each label, with a variable column.
-    EachOfCells(Split<Unfold>),
+    EachOfCells(Split<Unfold>, Answer),
 }
 
-/// Keeps the facts of a view's tables.
-#[derive(Drop)]
-pub struct ViewTables {
-    form: TableForm,
-    // What each form answers. Functions over the operators of labels are proved only where this type is named.
-    lines: PhantomData<Vec<TableLine>>,
-}
+/// What an operator of each label answers. It has no value: a function over `Split` at a given operator is proved only where
+/// this type is named.
+pub type Answer = PhantomData<Vec<TableLine>>;
 
 /// Names the moves of facts that the tables were made ready for.
 #[derive(Drop)]
@@ -49,13 +45,9 @@ fn one_table(alloc: Global, label: Text, constants: Row, spot: Option<usize>) ->
     requires { is_table_label label ≡ true }
     ensures { KeepsTables (record { label = Some label; constants = constants; spot = spot }) result [] }
 {
-    let form = match spot {
-        None => TableForm::OneOfRows(Whole::new(label, Distinct::new(alloc, constants))),
-        Some(_) => TableForm::OneOfCells(Whole::new(label, Unfold::new(alloc, constants))),
-    };
-    ViewTables {
-        form,
-        lines: PhantomData,
+    match spot {
+        None => ViewTables::OneOfRows(Whole::new(label, Distinct::new(alloc, constants))),
+        Some(_) => ViewTables::OneOfCells(Whole::new(label, Unfold::new(alloc, constants))),
     }
 }
 
@@ -69,14 +61,16 @@ fn each_table(alloc: Global, constants: Row, spot: Option<usize>) -> Result<View
         constants,
         spot,
     };
-    let form = match spot {
-        None => TableForm::EachOfRows(Split::new(alloc, shape, Distinct::new(alloc, columns))),
-        Some(_) => TableForm::EachOfCells(Split::new(alloc, shape, Unfold::new(alloc, columns))),
-    };
-    Ok(ViewTables {
-        form,
-        lines: PhantomData,
-    })
+    match spot {
+        None => {
+            let split = Split::new(alloc, shape, Distinct::new(alloc, columns));
+            Ok(ViewTables::EachOfRows(split, PhantomData))
+        }
+        Some(_) => {
+            let split = Split::new(alloc, shape, Unfold::new(alloc, columns));
+            Ok(ViewTables::EachOfCells(split, PhantomData))
+        }
+    }
 }
 
 // What one table was made ready by, and what the tables of all labels were.
@@ -126,15 +120,15 @@ impl ViewTables {
         steps: &mut Steps<L>,
     ) -> Result<Vec<TableLine>, Stop>
         requires { (shape : ShapeValue) × (old : List RowValue) × (new : List RowValue) × MovesTables shape self.now facts.now old new }
-        ensures lines { IfOk result (λ lines. TellsLines self.now.form facts.now lines.items) }
-        ensures stops { IfErr result (StopsSo self.now.form facts.now) }
+        ensures lines { IfOk result (λ lines. TellsLines self.now facts.now lines.items) }
+        ensures stops { IfErr result (StopsSo self.now facts.now) }
         ensures steps { steps.new ≡ steps.old }
     {
-        match &self.form {
-            TableForm::OneOfRows(whole) => whole.prepare(alloc, &(), facts, steps),
-            TableForm::OneOfCells(whole) => whole.prepare(alloc, &(), facts, steps),
-            TableForm::EachOfRows(split) => split.prepare(alloc, &(), facts, steps),
-            TableForm::EachOfCells(split) => split.prepare(alloc, &(), facts, steps),
+        match self {
+            ViewTables::OneOfRows(whole) => whole.prepare(alloc, &(), facts, steps),
+            ViewTables::OneOfCells(whole) => whole.prepare(alloc, &(), facts, steps),
+            ViewTables::EachOfRows(split, _) => split.prepare(alloc, &(), facts, steps),
+            ViewTables::EachOfCells(split, _) => split.prepare(alloc, &(), facts, steps),
         }
     }
 
@@ -145,11 +139,11 @@ impl ViewTables {
         ensures ready { IfOk result (IsReadyFor self.new) }
         ensures made { IfOk result (λ ready. made_for ready ≡ facts.now) }
     {
-        match &mut self.form {
-            TableForm::OneOfRows(whole) => Ok(TablesReady::One(whole.reserve(alloc, facts)?)),
-            TableForm::OneOfCells(whole) => Ok(TablesReady::One(whole.reserve(alloc, facts)?)),
-            TableForm::EachOfRows(split) => Ok(TablesReady::Each(split.reserve(alloc, facts)?)),
-            TableForm::EachOfCells(split) => Ok(TablesReady::Each(split.reserve(alloc, facts)?)),
+        match self {
+            ViewTables::OneOfRows(whole) => Ok(TablesReady::One(whole.reserve(alloc, facts)?)),
+            ViewTables::OneOfCells(whole) => Ok(TablesReady::One(whole.reserve(alloc, facts)?)),
+            ViewTables::EachOfRows(split, _) => Ok(TablesReady::Each(split.reserve(alloc, facts)?)),
+            ViewTables::EachOfCells(split, _) => Ok(TablesReady::Each(split.reserve(alloc, facts)?)),
         }
     }
 
@@ -158,11 +152,34 @@ impl ViewTables {
         requires { IsReadyFor self.old ready }
         ensures { (shape : ShapeValue) (old new : List RowValue) → KeepsTables shape self.old old → MovesBag old (made_for ready) new → CanKeepTables shape new → KeepsTables shape self.new new }
     {
-        match &mut self.form {
-            TableForm::OneOfRows(whole) => whole.commit(one(ready)),
-            TableForm::OneOfCells(whole) => whole.commit(one(ready)),
-            TableForm::EachOfRows(split) => split.commit(each(ready)),
-            TableForm::EachOfCells(split) => split.commit(each(ready)),
+        match self {
+            ViewTables::OneOfRows(whole) => whole.commit(one(ready)),
+            ViewTables::OneOfCells(whole) => whole.commit(one(ready)),
+            ViewTables::EachOfRows(split, _) => split.commit(each(ready)),
+            ViewTables::EachOfCells(split, _) => split.commit(each(ready)),
+        }
+    }
+
+    /// Moves what is kept at once, and answers the lines by which the tables change; or why the facts after that are refused.
+    pub fn put<L: Ledger>(
+        &mut self,
+        alloc: Global,
+        facts: &Delta,
+        steps: &mut Steps<L>,
+    ) -> Result<Vec<TableLine>, Stop>
+        requires { (shape : ShapeValue) × (old : List RowValue) × (new : List RowValue) × MovesTables shape self.old facts.now old new }
+        ensures keeps { OnOk result ((shape : ShapeValue) (old new : List RowValue) → MovesTables shape self.old facts.now old new → KeepsTables shape self.new new) }
+        ensures lines { IfOk result (λ lines. TellsLines self.old facts.now lines.items) }
+        ensures stops { IfErr result (StopsSo self.old facts.now) }
+        ensures steps { steps.new ≡ steps.old }
+    {
+        match self.prepare(alloc, facts, steps) {
+            Ok(lines) => {
+                let ready = self.reserve(alloc, facts)?;
+                self.commit(ready);
+                Ok(lines)
+            }
+            Err(stop) => Err(stop),
         }
     }
 }

@@ -1,6 +1,6 @@
 use Rattle.std.proofs.Common.{sym, subst, arith}
 use Rattle.split_op.specs.Labels.{labels_moved}
-use Rattle.view_engine.specs.Forms.{KeepsForm, TellsLines, StopsSo}
+use Rattle.view_engine.specs.Forms.{KeepsTables, TellsLines, StopsSo}
 use Rattle.view_engine.proofs.OneForms.{can_prepare_one, script_one, stop_one, told_ok, told_err}
 use Rattle.view_engine.proofs.EachForms.{no_steps, can_prepare_each, script_each, stop_each}
 use Rattle.view_engine.proofs.tables.ViewTables.prepare.Goals as goal
@@ -9,7 +9,7 @@ pub prepare-requires : goal.prepare-requires
 prepare-requires g c =
     let w = c.in-OneOfRows.whole in
     let r = c.requires in
-    let keeps = subst (λ v. KeepsForm r.0 v r.1) c.in-OneOfRows.is r.3.keeps in
+    let keeps = subst (λ v. KeepsTables r.0 v r.1) c.in-OneOfRows.is r.3.keeps in
     can_prepare_one r.0 w.label w.inner r.1 keeps c.args.facts.now r.2 r.3.form
 
 pub returns-in-OneOfRows-clause-lines : goal.returns-in-OneOfRows-clause-lines
@@ -33,7 +33,7 @@ pub prepare-requires-in-OneOfCells : goal.prepare-requires-in-OneOfCells
 prepare-requires-in-OneOfCells g c =
     let w = c.in-OneOfCells.whole in
     let r = c.requires in
-    let keeps = subst (λ v. KeepsForm r.0 v r.1) c.in-OneOfCells.is r.3.keeps in
+    let keeps = subst (λ v. KeepsTables r.0 v r.1) c.in-OneOfCells.is r.3.keeps in
     can_prepare_one r.0 w.label w.inner r.1 keeps c.args.facts.now r.2 r.3.form
 
 pub returns-in-OneOfCells-clause-lines : goal.returns-in-OneOfCells-clause-lines
@@ -57,7 +57,7 @@ pub prepare-requires-in-EachOfRows : goal.prepare-requires-in-EachOfRows
 prepare-requires-in-EachOfRows g c =
     let w = c.in-EachOfRows.split in
     let r = c.requires in
-    let keeps = subst (λ v. KeepsForm r.0 v r.1) c.in-EachOfRows.is r.3.keeps in
+    let keeps = subst (λ v. KeepsTables r.0 v r.1) c.in-EachOfRows.is r.3.keeps in
     can_prepare_each r.0 w r.1 keeps c.args.facts.now r.2 r.3.form
 
 pub returns-in-EachOfRows-clause-lines : goal.returns-in-EachOfRows-clause-lines
@@ -81,7 +81,7 @@ pub prepare-requires-in-EachOfCells : goal.prepare-requires-in-EachOfCells
 prepare-requires-in-EachOfCells g c =
     let w = c.in-EachOfCells.split in
     let r = c.requires in
-    let keeps = subst (λ v. KeepsForm r.0 v r.1) c.in-EachOfCells.is r.3.keeps in
+    let keeps = subst (λ v. KeepsTables r.0 v r.1) c.in-EachOfCells.is r.3.keeps in
     can_prepare_each r.0 w r.1 keeps c.args.facts.now r.2 r.3.form
 
 pub returns-in-EachOfCells-clause-lines : goal.returns-in-EachOfCells-clause-lines
