@@ -1,6 +1,5 @@
 -- The tables of all labels, by the form of their view.
-use Rattle.std.proofs.Common.{◌≡◌, ◌≤◌, ℕ, List, [], ◌∷◌, Some, None, sym, ◌∙◌, subst, arith}
-use Rattle.std.specs.Prelude.{length}
+use Rattle.std.proofs.Common.{◌≡◌, ◌≤◌, List, sym, ◌∙◌, subst, arith}
 use Rattle.ss_text.specs.Texts.{Text, Row}
 use Rattle.flow_law.specs.declared.shape.Shape.{Shape}
 use Rattle.flow_law.specs.declared.line.TableLine.{TableLine}
@@ -12,7 +11,6 @@ use Rattle.operator_law.proofs.Weights.{weigh-none}
 use Rattle.unfold_op.specs.FactMoves.{facts_in}
 use Rattle.unfold_op.specs.OneTables.{OneTableValue}
 use Rattle.split_op.specs.Tables.{ScriptLines}
-use Rattle.split_op.specs.Labels.{labels_moved}
 use Rattle.split_op.specs.Splits.{SplitValue, KeepsSplit, CanKeepSplit, AreWide, CanPrepareSplit}
 use Rattle.view_engine.specs.Forms.{seen, KeepsEach, MovesForm, CanKeepTables}
 

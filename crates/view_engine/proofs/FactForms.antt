@@ -1,7 +1,7 @@
 -- The facts of a view over a catalogue, as what its tables keep.
-use Rattle.std.proofs.Common.{◌≡◌, ◌<◌, ◌+◌, ℕ, List, [], ◌∷◌, Option, Some, None, true, refl, sym, ◌∙◌, ap, subst, map, length, arith}
+use Rattle.std.proofs.Common.{◌≡◌, ◌<◌, ℕ, List, [], ◌∷◌, Option, Some, None, true, refl, sym, ◌∙◌, ap, subst, length, arith}
 use Rattle.std.specs.Prelude.{◌^◌}
-use Rattle.std.specs.List.{All, AllByRecursion}
+use Rattle.std.specs.List.{AllByRecursion}
 use Rattle.std.proofs.lemmas.List.Elements.{All-from_recursion}
 use Rattle.ss_text.specs.Texts.{Text, Row}
 use Rattle.schema_model.specs.Catalogue.{CatalogueValue}
@@ -14,9 +14,8 @@ use Rattle.flow_law.specs.declared.refused.IllegalLabel.{IllegalLabel}
 use Rattle.flow_law.specs.declared.refused.Clash.{Clash}
 use Rattle.flow_law.specs.declared.refused.Stop.{Stop}
 use Rattle.flow_law.specs.Facts.{Fact, illegal, conflict, first_refusal, refusal_by}
-use Rattle.flow_law.specs.FactRows.{fact_row, fact_width, fact_in}
-use Rattle.flow_law.specs.FactTables.{tables}
-use Rattle.flow_law.specs.Labelled.{AllBear, BearLabel}
+use Rattle.flow_law.specs.FactRows.{fact_width, fact_in}
+use Rattle.flow_law.specs.Labelled.{BearLabel}
 use Rattle.flow_law.specs.Script.{script}
 use Rattle.flow_law.specs.Stops.{IsStop}
 use Rattle.valuation_meaning.specs.Meaning.{facts, meaning, shape_of}
@@ -25,7 +24,7 @@ use Rattle.valuation_meaning.proofs.EvalLemmas.{facts_bear}
 use Rattle.fact_limits.proofs.FactsFew.{facts_few}
 use Rattle.fact_limits.proofs.FactsForm.{have_form, read_back, are_wide}
 use Rattle.operator_law.specs.declared.delta.Signed.{Signed}
-use Rattle.operator_law.specs.Bags.{MovesBag, SameBag, all_signed, weigh, come, go}
+use Rattle.operator_law.specs.Bags.{MovesBag, all_signed}
 use Rattle.operator_law.proofs.SignedRows.{come-up, go-up}
 use Rattle.plan_law.specs.Net.{IsNet}
 use Rattle.plan_law.specs.PlanMoves.{fact_rows}

@@ -1,5 +1,5 @@
 -- Each row that moves in net is among the rows before or after.
-use Rattle.std.proofs.Common.{◌≡◌, ◌≤◌, ◌+◌, ℕ, List, [], ◌∷◌, Bool, true, false, cond, refl, arith, sym, subst, ap, ◌∙◌}
+use Rattle.std.proofs.Common.{◌≡◌, ◌≤◌, ◌+◌, ℕ, List, [], ◌∷◌, Bool, true, false, cond, refl, arith, sym, subst, ap}
 use Rattle.std.specs.List.{AllByRecursion}
 use Rattle.ss_text.specs.Texts.{Row, row_eq}
 use Rattle.operator_law.specs.declared.delta.Signed.{Signed}

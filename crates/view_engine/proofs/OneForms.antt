@@ -1,7 +1,6 @@
 -- The one table of a constant label, by the form of its view.
-use Rattle.std.proofs.Common.{◌≡◌, ◌<◌, ◌+◌, ℕ, List, [], ◌∷◌, Option, Some, None, refl, sym, ◌∙◌, ap, subst, map, length}
-use Rattle.std.specs.Prelude.{is_some, ◌^◌}
-use Rattle.std.specs.List.{All}
+use Rattle.std.proofs.Common.{◌≡◌, ◌+◌, ℕ, List, [], ◌∷◌, Option, Some, None, refl, sym, ◌∙◌, ap, subst, map, length}
+use Rattle.std.specs.Prelude.{is_some}
 use Rattle.std.specs.Option.{option_or}
 use Rattle.std.specs.Prelude.{Result, Ok, Err, IfOk, IfErr}
 use Rattle.ss_text.specs.Texts.{Text, Row}
@@ -10,16 +9,15 @@ use Rattle.flow_law.specs.declared.line.TableLine.{TableLine}
 use Rattle.flow_law.specs.declared.refused.Stop.{Stop}
 use Rattle.flow_law.specs.declared.refused.Stop.TheVariants as stop
 use Rattle.flow_law.specs.declared.refused.IllegalLabel.{IllegalLabel}
-use Rattle.flow_law.specs.Facts.{Fact, illegal, illegal_table, illegal_column, conflict, refusal_by, first_refusal}
+use Rattle.flow_law.specs.Facts.{Fact, illegal, illegal_table, illegal_column, conflict, refusal_by}
 use Rattle.flow_law.specs.FactRows.{row_width, fact_width, cell_behind, fact_in}
 use Rattle.flow_law.specs.FactTables.{tables}
 use Rattle.flow_law.specs.Labelled.{AllBear, BearLabel}
 use Rattle.flow_law.specs.Script.{script}
 use Rattle.flow_law.specs.Stops.{IsStop}
 use Rattle.operator_law.specs.declared.delta.Signed.{Signed}
-use Rattle.operator_law.specs.Bags.{MovesBag}
 use Rattle.unfold_op.specs.FactMoves.{facts_in, facts_moved}
-use Rattle.unfold_op.specs.OneTables.{OneTableValue, CanKeep}
+use Rattle.unfold_op.specs.OneTables.{OneTableValue}
 use Rattle.split_op.specs.Tables.{ScriptLines}
 use Rattle.split_op.specs.Wholes.{labelled, KeepsWhole, CanKeepWhole, BearsLabel, CanPrepareWhole}
 use Rattle.view_engine.specs.Forms.{KeepsOne, MovesForm, CanKeepTables}

@@ -19,7 +19,8 @@ impl Engine {
         ensures waits { IfOk result (IsReadyEngine self.new) }
     {
         let EngineMove { plan, lines } = moved;
-        let tables = self.tables.reserve(alloc, plan.facts())?;
+        let facts = plan.facts();
+        let tables = self.tables.reserve(alloc, facts)?;
         let plan = self.plan.reserve(alloc, plan)?;
         Ok(EngineReady {
             plan,

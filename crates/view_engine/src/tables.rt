@@ -143,7 +143,9 @@ impl ViewTables {
             ViewTables::OneOfRows(whole) => Ok(TablesReady::One(whole.reserve(alloc, facts)?)),
             ViewTables::OneOfCells(whole) => Ok(TablesReady::One(whole.reserve(alloc, facts)?)),
             ViewTables::EachOfRows(split, _) => Ok(TablesReady::Each(split.reserve(alloc, facts)?)),
-            ViewTables::EachOfCells(split, _) => Ok(TablesReady::Each(split.reserve(alloc, facts)?)),
+            ViewTables::EachOfCells(split, _) => Ok(TablesReady::Each(split.reserve(
+                alloc, facts,
+            )?)),
         }
     }
 

@@ -1,6 +1,6 @@
 use Rattle.std.proofs.Common.{sym, subst, ap, ◌∙◌, Some}
 use Rattle.operator_law.specs.Bags.{MovesBag}
-use Rattle.view_engine.specs.Forms.{KeepsTables, IsReadyFor, waiting_in, has_one}
+use Rattle.view_engine.specs.Forms.{KeepsTables, waiting_in, has_one}
 use Rattle.view_engine.proofs.OneForms.{can_keep_one, keeps_on}
 use Rattle.view_engine.proofs.EachForms.{can_keep_each, keeps_each}
 use Rattle.view_engine.proofs.tables.ViewTables.commit.Goals as goal
