@@ -187,15 +187,23 @@ fn make(catalogue: &mut Catalogue, change: &Change) -> Result<(), NoMemory>
     Ok(())
 }
 
-fn before(alloc: Global) -> Result<Catalogue, ChangeFault> {
-    let mut catalogue = Catalogue::empty(alloc);
+// Makes the changes that lead to the catalogue before.
+fn fill(alloc: Global, catalogue: &mut Catalogue) -> Result<(), ChangeFault> {
     for line in BEFORE {
         let change = change(alloc, line)?;
-        let made = make(&mut catalogue, &change);
+        let made = make(catalogue, &change);
         drop(change);
         made?;
     }
-    Ok(catalogue)
+    Ok(())
+}
+
+fn before(alloc: Global) -> Result<Catalogue, ChangeFault> {
+    let mut catalogue = Catalogue::empty(alloc);
+    match fill(alloc, &mut catalogue) {
+        Ok(()) => Ok(catalogue),
+        Err(fault) => Err(fault),
+    }
 }
 
 // A signed row as a line.
@@ -310,19 +318,27 @@ fn plan_of(alloc: Global, text: &str) -> Result<Plan, Fail>
     Ok(plan?)
 }
 
+// Whether a plan that keeps nothing is filled and moved so.
+fn moves_so(alloc: Global, plan: &mut Plan, worked: &Worked) -> Result<bool, Fail>
+    requires { IsFresh plan.old }
+{
+    let mut catalogue = before(alloc)?;
+    let moved = is_worked::<Brand>(alloc, plan, &mut catalogue, worked, Blank::new(1));
+    drop(catalogue);
+    Ok(moved?)
+}
+
+fn is_as_worked(alloc: Global, worked: &Worked) -> Result<bool, Fail> {
+    let mut plan = plan_of(alloc, worked.view)?;
+    let moved = moves_so(alloc, &mut plan, worked);
+    drop(plan);
+    moved
+}
+
 #[test]
 fn changes_move_facts(rt: HostRuntime) -> Result<(), Fail> {
     for worked in &WORKED {
-        let mut plan = plan_of(rt.alloc(), worked.view)?;
-        let mut catalogue = before(rt.alloc())?;
-        let same = is_worked::<Brand>(
-            rt.alloc(),
-            &mut plan,
-            &mut catalogue,
-            worked,
-            Blank::new(1),
-        )?;
-        assert!(rt; same, "at {}", worked.view);
+        assert!(rt; is_as_worked(rt.alloc(), worked)?, "at {}", worked.view);
     }
     Ok(())
 }
