@@ -1,5 +1,5 @@
 //! Filling a plan that keeps nothing.
-ghost use Rattle.std.specs.Prelude.{◌≡◌, true, [], map, None, IfOk, OnOk, OnErr};
+ghost use Rattle.std.specs.Prelude.{◌≡◌, ◌≤◌, true, [], map, None, IfOk, OnOk, OnErr};
 ghost use Rattle.schema_delta.specs.Flat.{flat};
 ghost use Rattle.operator_law.specs.Bags.{all_signed};
 ghost use Rattle.plan_law.specs.PlanMoves.{fact_rows};
@@ -42,6 +42,7 @@ impl Plan {
         ensures moves { IfOk result (PlanMoves [] catalogue.now.databases (query_in self.now)) }
         ensures come { IfOk result (λ m. AllCome (fact_rows catalogue.now.databases (query_in self.now)) m.facts) }
         ensures steps { OnOk result (steps.new ≡ steps.old) }
+        ensures rises { steps.old ≤ steps.new }
     {
         // What a catalogue has is sound.
         let _databases = catalogue.databases();
@@ -65,6 +66,7 @@ impl Plan {
         ensures view { self.new.view ≡ self.old.view }
         ensures none { self.new.waiting ≡ None }
         ensures steps { OnOk result (steps.new ≡ steps.old) }
+        ensures rises { steps.old ≤ steps.new }
     {
         self.waiting = None;
         let moved = self.filling(alloc, catalogue, steps)?;
