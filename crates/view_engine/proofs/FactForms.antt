@@ -33,7 +33,7 @@ use Rattle.unfold_op.specs.FactMoves.{facts_in, facts_moved}
 use Rattle.unfold_op.proofs.BagMoves.{facts_length}
 use Rattle.split_op.specs.Tables.{ScriptLines}
 use Rattle.view_engine.specs.Forms.{CanKeepTables, MovesForm}
-use Rattle.view_engine.specs.Engines.{IsViewStop, OpensWith}
+use Rattle.view_engine.specs.Engines.{IsViewStop}
 use Rattle.view_engine.proofs.NetRows.{rows_moved}
 
 -- a view is refused for no facts that have neither an illegal label nor a conflict, and only for such
@@ -112,15 +112,6 @@ module _ (c : CatalogueValue) (q : Query) (profile : IsViewOfProfile q) where
   pub come_form : IsSound c → (ms : List Signed) → AllCome (fact_rows c q) ms → MovesForm (shape_of q) ms [] (fact_rows c q)
   come_form sound ms h =
       form_moves (shape_of q) ms [] (fact_rows c q) (come_moves (fact_rows c q) ms h) (come_net (fact_rows c q) ms h) tt wide_rows (none_bears (shape_of q).label) bear_rows (few_rows sound)
-
-  pub come_bag : (ms : List Signed) → AllCome (fact_rows c q) ms → MovesBag [] ms (fact_rows c q)
-  come_bag ms h = come_moves (fact_rows c q) ms h
-
-  pub opens : (lines : List TableLine) → ScriptLines (shape_of q) lines (facts_in (shape_of q) []) (facts_in (shape_of q) (fact_rows c q)) → OpensWith c q lines
-  unfolding meaning
-  opens lines s =
-      let t = subst (λ (fs : List Fact). ScriptLines (shape_of q) lines [] fs) in_rows s in
-      record { allowed = facts_allowed c q t.legal t.clean; lines_are = t.lines_are }
 
 module _ (c c' : CatalogueValue) (q : Query) (profile : IsViewOfProfile q) where
   pub move_form : IsSound c' → (ms : List Signed) → MovesFacts c c' q ms → MovesForm (shape_of q) ms (fact_rows c q) (fact_rows c' q)

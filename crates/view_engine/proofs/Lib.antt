@@ -3,3 +3,4 @@ pub mod OneForms
 pub mod EachForms
 pub mod FactForms
 pub mod Standing
+pub mod RowLimits

@@ -131,10 +131,6 @@ module _ (shape : Shape) (label : Text) (t : OneTableValue) where
       keeps = k;
     }
 
--- facts for which there is a script can be kept
-pub can_keep_new : (shape : Shape) (ms : List Signed) (old new : List Row) → MovesForm shape ms old new → (lines : List TableLine) → ScriptLines shape lines (facts_in shape old) (facts_in shape new) → CanKeepTables shape new
-can_keep_new shape ms old new m lines s = record { few = m.few; legal = s.legal; clean = s.clean; bear = m.bear_new }
-
 -- what holds of a value holds of what is made of it
 pub told_ok : {T E : Type 0} (P Q : T → Type 0) (r : Result T E) → ((v : T) → P v → Q v) → IfOk r P → IfOk r Q
 told_ok P Q (Ok v) f h = f v h

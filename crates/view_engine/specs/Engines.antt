@@ -1,20 +1,21 @@
 -- What an engine stands for, and what its moves do.
-use Rattle.std.specs.Prelude.{◌≡◌, ℕ, List, [], None, Some}
+use Rattle.std.specs.Prelude.{◌≡◌, ℕ, ◌+◌, ◌*◌, List, Option, None, Some}
 use Rattle.schema_model.specs.Catalogue.{CatalogueValue}
 use Rattle.schema_model.specs.Sound.{IsSound}
 use Rattle.schema_model.specs.declared.change.Change.{Change}
+use Rattle.schema_model.specs.declared.change.Change.TheVariants.{Insert, Delete}
 use Rattle.view_def.specs.Query.{Query}
 use Rattle.view_def.specs.Profile.{IsViewOfProfile}
 use Rattle.flow_law.specs.declared.line.TableLine.{TableLine}
 use Rattle.flow_law.specs.declared.refused.Stop.{Stop}
-use Rattle.flow_law.specs.FactTables.{tables}
 use Rattle.flow_law.specs.Script.{script}
 use Rattle.flow_law.specs.Stops.{IsStop}
 use Rattle.valuation_meaning.specs.Meaning.{facts, meaning, shape_of}
 use Rattle.valuation_meaning.specs.Refusal.{refusal}
 use Rattle.plan_law.specs.PlanMoves.{fact_rows}
+use Rattle.plan_law.specs.Marks.{touched_by, flat_moved_by}
 use Rattle.plan_translate.specs.Plans.{query_in, PlanStands, PlanMoves}
-use Rattle.plan_translate.specs.Costs as plan
+use Rattle.plan_translate.specs.Costs.{pairs_moved}
 use Rattle.view_engine.specs.declared.engine.Engine.{Engine}
 use Rattle.view_engine.specs.declared.moved.EngineMove.{EngineMove}
 use Rattle.view_engine.specs.declared.moved.EngineReady.{EngineReady}
@@ -35,11 +36,6 @@ pub record EngineStands (c : CatalogueValue) (e : Engine) : Type 0 where
 abbrev pub IsViewStop : CatalogueValue → Query → Stop → Type 0
 IsViewStop c q stop = IsStop (shape_of q) (facts c q) stop
 
--- the lines by which tables without facts become the view's over a catalogue, for which it is not refused
-pub record OpensWith (c : CatalogueValue) (q : Query) (lines : List TableLine) : Type 0 where
-  pub allowed : refusal c q ≡ None
-  pub lines_are : lines ≡ script (tables (shape_of q) []) (meaning c q)
-
 -- the lines of a move
 abbrev pub lines_in : EngineMove → List TableLine
 lines_in m = m.lines.items
@@ -51,12 +47,19 @@ pub record EngineMoves (c c' : CatalogueValue) (q : Query) (m : EngineMove) : Ty
   pub allowed : refusal c' q ≡ None
   pub lines_are : lines_in m ≡ script (meaning c q) (meaning c' q)
 
--- the steps of a move, and what bounds them for a change of one row
+-- the steps of a move
 abbrev pub steps_of : Engine → EngineMove → ℕ
-steps_of e m = plan.pairs_moved e.plan m.plan
+steps_of e m = pairs_moved e.plan m.plan
 
-abbrev pub IsRowBounded : CatalogueValue → Change → Engine → EngineMove → Type 0
-IsRowBounded c g e m = plan.IsRowBounded c g e.plan m.plan
+-- four for each partial combination that holds a flat row of the changed row, and four for each such flat row
+abbrev pub four_each : CatalogueValue → Query → Change → ℕ
+four_each c q g = 4 * touched_by c q g + 4 * flat_moved_by c q g
+
+-- at most how many steps a change of one row takes; of other changes nothing is said
+abbrev pub row_limit : CatalogueValue → Query → Change → Option ℕ
+row_limit c q (Insert db rel row) = Some (four_each c q (Insert db rel row))
+row_limit c q (Delete db rel row) = Some (four_each c q (Delete db rel row))
+row_limit c q g = None
 
 -- an engine has another's view, and stands for all that it stood for
 pub record StandsAs (old new : Engine) : Type 0 where

@@ -1,6 +1,5 @@
 //! Moves of an engine.
 ghost use Rattle.std.specs.Prelude.{◌≡◌};
-ghost use Rattle.view_engine.specs.Engines.{lines_in};
 
 use crate::TablesReady;
 use flow_law::TableLine;
@@ -15,8 +14,8 @@ pub struct EngineMove {
 
 impl EngineMove {
     /// The lines by which the tables change.
-    pub fn lines(&self) -> &[TableLine]
-        ensures { result.now ≡ lines_in self.now }
+    pub fn lines(&self) -> &Vec<TableLine>
+        ensures { result.now ≡ self.now.lines }
     {
         &self.lines
     }

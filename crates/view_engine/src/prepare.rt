@@ -1,12 +1,13 @@
 //! How changes of the catalogue move an engine.
-ghost use Rattle.std.specs.Prelude.{◌≡◌, ◌+◌, ◌≤◌, None, IfOk, IfErr, IsTrue};
+ghost use Rattle.std.specs.Prelude.{◌≡◌, ◌≢◌, ◌+◌, ◌≤◌, None, Err, IfOk, IfErr, IsTrue};
 ghost use Rattle.std.specs.List.{AllByRecursion};
+ghost use Rattle.std.specs.Option.{ForSome};
 ghost use Rattle.schema_model.specs.Catalogue.{CatalogueValue};
 ghost use Rattle.schema_model.specs.Changes.{after, after_all, is_well_formed};
 ghost use Rattle.schema_model.specs.Refusals.{fault, group_fault};
 ghost use Rattle.schema_model.specs.Sound.{IsSound};
 ghost use Rattle.plan_translate.specs.Plans.{PlanMoves};
-ghost use Rattle.view_engine.specs.Engines.{view_in, EngineStands, EngineMoves, IsViewStop, steps_of, IsRowBounded};
+ghost use Rattle.view_engine.specs.Engines.{view_in, EngineStands, EngineMoves, IsViewStop, steps_of, row_limit};
 
 use crate::{Engine, EngineMove};
 use flow_law::Stop;
@@ -51,7 +52,7 @@ impl Engine {
         ensures moves { IfOk result (EngineMoves catalogue.now.databases (after catalogue.now.databases change.now) (view_in self.now)) }
         ensures stops { IfErr result (IsViewStop (after catalogue.now.databases change.now) (view_in self.now)) }
         ensures cost { IfOk result (λ m. steps.new ≤ steps.old + steps_of self.now m) }
-        ensures row { IfOk result (IsRowBounded catalogue.now.databases change.now self.now) }
+        ensures within { result ≢ Err Stop.NoMemory → ForSome (row_limit catalogue.now.databases (view_in self.now) change.now) (λ n. steps.new ≤ steps.old + n) }
         ensures rises { steps.old ≤ steps.new }
     {
         let _databases = catalogue.databases();

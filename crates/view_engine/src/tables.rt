@@ -162,26 +162,13 @@ impl ViewTables {
         }
     }
 
-    /// Moves what is kept at once, and answers the lines by which the tables change; or why the facts after that are refused.
-    pub fn put<L: Ledger>(
-        &mut self,
-        alloc: Global,
-        facts: &Delta,
-        steps: &mut Steps<L>,
-    ) -> Result<Vec<TableLine>, Stop>
-        requires { (shape : ShapeValue) × (old : List RowValue) × (new : List RowValue) × MovesTables shape self.old facts.now old new }
-        ensures keeps { OnOk result ((shape : ShapeValue) (old new : List RowValue) → MovesTables shape self.old facts.now old new → KeepsTables shape self.new new) }
-        ensures lines { IfOk result (λ lines. TellsLines self.old facts.now lines.items) }
-        ensures stops { IfErr result (StopsSo self.old facts.now) }
-        ensures steps { steps.new ≡ steps.old }
+    /// Moves what is kept at once, where the facts after that can be kept.
+    pub fn fill(&mut self, alloc: Global, facts: &Delta) -> Result<(), NoMemory>
+        requires { (shape : ShapeValue) × (old : List RowValue) × (new : List RowValue) × MovesTables shape self.old facts.now old new × CanKeepTables shape new }
+        ensures { OnOk result ((shape : ShapeValue) (old new : List RowValue) → MovesTables shape self.old facts.now old new → CanKeepTables shape new → KeepsTables shape self.new new) }
     {
-        match self.prepare(alloc, facts, steps) {
-            Ok(lines) => {
-                let ready = self.reserve(alloc, facts)?;
-                self.commit(ready);
-                Ok(lines)
-            }
-            Err(stop) => Err(stop),
-        }
+        let ready = self.reserve(alloc, facts)?;
+        self.commit(ready);
+        Ok(())
     }
 }

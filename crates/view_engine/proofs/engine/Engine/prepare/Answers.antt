@@ -1,6 +1,10 @@
+use Rattle.std.proofs.Common.{ℕ, ◌+◌, ◌≤◌, sym, subst}
+use Rattle.std.specs.Option.{ForSome}
 use Rattle.schema_model.specs.Changes.{after}
 use Rattle.schema_model.proofs.SoundAfter.{sound_after}
+use Rattle.view_engine.specs.Engines.{view_in, row_limit}
 use Rattle.view_engine.proofs.OneForms.{told_ok, told_err}
+use Rattle.view_engine.proofs.RowLimits.{within_row}
 use Rattle.view_engine.proofs.engine.Engine.prepare.Goals as goal
 
 pub with_lines-requires : goal.with_lines-requires
@@ -20,3 +24,10 @@ returns-clause-stops g c =
     let d = c.args.catalogue.now.databases in
     let sound = sound_after d c.args.change.now c.databases-databases.ensures.sound c.requires.well_formed c.requires.accepted in
     told_err _ _ c.with_lines.result (λ s h. h d (after d c.args.change.now) sound c.requires.stands c.in_ok-plan.ensures.moves) c.with_lines.ensures.stops
+
+pub returns-clause-within : goal.returns-clause-within
+returns-clause-within g c = λ told.
+    let d = c.args.catalogue.now.databases in
+    let e = c.args.self.now in
+    let bounded = within_row d e.plan c.args.change.now c.in_ok-plan.plan c.args.steps.now c.prepare.new.steps c.in_ok-plan.ensures.cost c.in_ok-plan.ensures.row in
+    subst (λ (s : ℕ). ForSome (row_limit d (view_in e) c.args.change.now) (λ (n : ℕ). s ≤ c.args.steps.now + n)) (sym c.with_lines.ensures.steps) bounded
