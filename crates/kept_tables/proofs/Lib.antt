@@ -4,3 +4,4 @@ pub mod RoomLemmas
 pub mod MadeLemmas
 pub mod WaitLemmas
 pub mod OpeningLemmas
+pub mod ThereLemmas

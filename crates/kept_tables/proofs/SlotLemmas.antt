@@ -180,7 +180,7 @@ all_labels_kept : (P : Text → Type 0) (p : Slot → Bool) (ss : List Slot) →
 all_labels_kept P p [] h = tt
 all_labels_kept P p (s ∷ ss) h = either (p s) _ (λ e. rw e (h.0, all_labels_kept P p ss h.1)) (λ e. rw e (all_labels_kept P p ss h.1))
 
-ascends_kept : (p : Slot → Bool) (ss : List Slot) → Ascends ss → Ascends (filter p ss)
+pub ascends_kept : (p : Slot → Bool) (ss : List Slot) → Ascends ss → Ascends (filter p ss)
 unfolding IsStrictlySortedBy
 ascends_kept p [] s = tt
 ascends_kept p (x ∷ ss) s = either (p x) _ (λ e. rw e (all_labels_kept (λ q. text_cmp x.label q ≡ Less) p ss s.0, ascends_kept p ss s.1)) (λ e. rw e (ascends_kept p ss s.1))

@@ -7,6 +7,7 @@
 
 mod copies;
 mod kept;
+mod labels;
 mod making;
 mod opening;
 mod room;

@@ -2,8 +2,10 @@
 ghost use Rattle.std.specs.Prelude.{◌≡◌, [], Vec, None, Some, IsTrue, IfOk, OnOk, OnErr, option_map};
 ghost use Rattle.std.proofs.Common.{Global as GlobalValue};
 ghost use Rattle.std.specs.Option.{option_copied};
+ghost use Rattle.std.specs.List.Sorted.{IsStrictlySortedBy};
+ghost use Rattle.ss_text.specs.Texts.{text_cmp};
 ghost use Rattle.flow_law.specs.declared.line.TableLine.{TableLine as Line};
-ghost use Rattle.flow_law.specs.Tables.{table_of};
+ghost use Rattle.flow_law.specs.Tables.{labels_of, table_of};
 ghost use Rattle.flow_law.specs.Lines.{fit_lines, after_lines};
 ghost use Rattle.kept_tables.specs.Kept.{KeptTableValue};
 ghost use Rattle.kept_tables.specs.Slots.{tables_in};
@@ -11,6 +13,7 @@ ghost use Rattle.kept_tables.specs.KeptTables.{kept_tables};
 
 use crate::KeptTable;
 use crate::copies::copies;
+use crate::labels::labels_of;
 use crate::making::make_all;
 use crate::opening::slots_of;
 use crate::room::{expect_all, forget};
@@ -72,9 +75,19 @@ impl KeptTables {
 
     /// The places of the tables, in ascending order of their labels.
     pub fn slots(&self) -> &[Slot]
-        ensures { tables_in result.now ≡ self.now.tables }
+        ensures tables { tables_in result.now ≡ self.now.tables }
+        ensures ascend { IsStrictlySortedBy text_cmp (labels_of self.now.tables) }
     {
         &self.slots
+    }
+
+    /// The labels of the tables, in ascending order.
+    pub fn labels(&self, alloc: Global) -> Result<Vec<Text>, NoMemory>
+        ensures labels { IfOk result (λ labels. labels.items ≡ labels_of self.now.tables) }
+        ensures ascend { IfOk result (λ labels. IsStrictlySortedBy text_cmp labels.items) }
+    {
+        let labels = labels_of(alloc, &self.slots)?;
+        Ok(labels)
     }
 
     /// The table of a label, if there is one.

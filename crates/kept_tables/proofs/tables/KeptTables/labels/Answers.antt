@@ -1,0 +1,5 @@
+use Rattle.kept_tables.proofs.ThereLemmas.{labels_ascend}
+use Rattle.kept_tables.proofs.tables.KeptTables.labels.Goals as goal
+
+pub returns-clause-ascend : goal.returns-clause-ascend
+returns-clause-ascend c = rw (c.in_ok-labels.ensures, c.deref.ensures.value) (labels_ascend c.self.inside.slots.items c.self.invariant.slots)
