@@ -1,13 +1,13 @@
 -- The records of a table's file are read back as the table, and what is read as a table are its records.
-use Rattle.std.proofs.Common.{◌≡◌, ◌≤◌, ◌+◌, ◌==◌, ◌∷◌, ◌++◌, ◌∙◌, [], ℕ, List, Bool, true, false, not, Option, Some, None, refl, sym, ap, subst, length, map, take, drop, append_assoc, arith, is_some, eq-eqb, inl, inr}
+use Rattle.std.proofs.Common.{◌≡◌, ◌≤◌, ◌+◌, ◌∷◌, ◌++◌, ◌∙◌, [], ℕ, List, Bool, true, false, not, Option, Some, None, refl, sym, ap, subst, length, map, take, drop, append_assoc, arith, is_some, eq-eqb}
 use Rattle.std.specs.Prelude.{◌&&◌, ◌||◌, unwrap_or, option_map, bytes_eq, if◌then◌else◌}
 use Rattle.std.specs.Option.{option_or}
 use Rattle.std.specs.List.{AllByRecursion, IsDistinct, list_all, list_any}
 use Rattle.std.specs.List.Sorted.{IsStrictlySortedBy}
 use Rattle.std.specs.declared.cmp.Ordering.TheVariants.{Less}
-use Rattle.std.proofs.lemmas.Bool.{and_parts, cases_Bool}
+use Rattle.std.proofs.lemmas.Bool.{and_parts}
 use Rattle.std.proofs.lemmas.List.{take-append-drop}
-use Rattle.ss_text.specs.Texts.{Text, Row, text_cmp, row_cmp, row_eq, text_eq, is_in}
+use Rattle.ss_text.specs.Texts.{Text, Row, text_cmp, row_cmp, row_eq, is_in}
 use Rattle.ss_text.specs.Label.{is_column_label, has_label_length, is_column_byte}
 use Rattle.ss_text.proofs.KeyLemmas.{text_order, row_order, equal_is, equal_itself, less_differs}
 use Rattle.ss_text.proofs.PairLemmas.{turned}
@@ -17,9 +17,8 @@ use Rattle.flow_law.specs.Tables.{TableValue, row_keys}
 use Rattle.view_folder.specs.declared.held.TablesFault.{TablesFault}
 use Rattle.view_folder.specs.declared.held.TablesFault.TheVariants.{NameTwice, Ragged, NotThisView}
 use Rattle.view_folder.specs.TableFiles.{spliced, table_records}
-use Rattle.view_folder.specs.Records.{ascends, ragged, dynamic_part, constant_part, are_columns, is_header, are_of_view, key_and_cells, table_under, table_in, rows_fault, lengths_fault, view_fault, records_fault}
+use Rattle.view_folder.specs.Records.{ascends, ragged, dynamic_part, constant_part, are_columns, is_header, are_of_view, key_and_cells, table_in, records_fault}
 use Rattle.view_folder.specs.Forms.{IsForm, HasForm}
-use Rattle.view_folder.specs.Held.{KeysFit}
 use Rattle.view_folder.proofs.RecordLemmas.{strict_ascends, none_ragged, dynamic_length}
 use Rattle.view_folder.proofs.PartLemmas.{NoneWithout, no_cells, whole, spliced_length, cells_back, key_back, parts_back, header_long}
 

@@ -1,7 +1,7 @@
 -- The files of a folder, one after the other, and the tables that they are.
 use Rattle.std.proofs.Common.{◌≡◌, ◌∷◌, ◌++◌, ◌∙◌, [], ℕ, List, Bool, true, false, Option, Some, None, cond, refl, sym, ap, subst, append_assoc}
 use Rattle.std.specs.Prelude.{fold, filter}
-use Rattle.std.specs.List.{AllByRecursion, cons_option}
+use Rattle.std.specs.List.{cons_option}
 use Rattle.std.specs.List.Sorted.{IsStrictlySortedBy}
 use Rattle.std.specs.Option.{option_or}
 use Rattle.std.specs.Ordering.{match_ordering}

@@ -86,12 +86,19 @@ fits_of shape (p ∷ ps) l t h e = by_case (text_eq l p.0) e (fits_of shape ps l
     by_case true e later = subst (FitsShape shape) (ap (λ (o : Option TableValue). unwrap_or o t) (sym e)) h.0
     by_case false e later = later e
 
--- what the sync of a label does, where it has a table and where it has none
-pub synced_write : (d : Text) (shape : Shape) (ts : TablesValue) (l : Text) (t : TableValue) → Some t ≡ table_of ts l → label_synced d shape ts l ≡ Write d (file_name l) (table_text shape t)
-synced_write d shape ts l t e = ap (λ (o : Option TableValue). option_map_or (λ (t : TableValue). Write d (file_name l) (table_text shape t)) o (Remove d (file_name l))) (sym e)
+-- what the sync of a label does, where its table has a text and where it has no table
+by_text : (d : Text) (shape : Shape) (ts : TablesValue) (l : Text) → label_synced d shape ts l ≡ option_map_or (λ (text : Text). Write d (file_name l) text) (option_map (table_text shape) (table_of ts l)) (Remove d (file_name l))
+by_text d shape ts l = by_table (table_of ts l)
+  where
+    by_table : (o : Option TableValue) → option_map_or (λ (t : TableValue). Write d (file_name l) (table_text shape t)) o (Remove d (file_name l)) ≡ option_map_or (λ (text : Text). Write d (file_name l) text) (option_map (table_text shape) o) (Remove d (file_name l))
+    by_table None = refl
+    by_table (Some t) = refl
 
-pub synced_remove : (d : Text) (shape : Shape) (ts : TablesValue) (l : Text) → None ≡ table_of ts l → label_synced d shape ts l ≡ Remove d (file_name l)
-synced_remove d shape ts l e = ap (λ (o : Option TableValue). option_map_or (λ (t : TableValue). Write d (file_name l) (table_text shape t)) o (Remove d (file_name l))) (sym e)
+pub synced_write : (d : Text) (shape : Shape) (ts : TablesValue) (l text : Text) → Some text ≡ option_map (table_text shape) (table_of ts l) → label_synced d shape ts l ≡ Write d (file_name l) text
+synced_write d shape ts l text e = by_text d shape ts l ∙ ap (λ (o : Option Text). option_map_or (λ (x : Text). Write d (file_name l) x) o (Remove d (file_name l))) (sym e)
+
+pub synced_remove : (d : Text) (shape : Shape) (ts : TablesValue) (l : Text) → None ≡ option_map (table_text shape) (table_of ts l) → label_synced d shape ts l ≡ Remove d (file_name l)
+synced_remove d shape ts l e = by_text d shape ts l ∙ ap (λ (o : Option Text). option_map_or (λ (x : Text). Write d (file_name l) x) o (Remove d (file_name l))) (sym e)
 
 -- the same effect under two names
 pub does_as : {A : Type 0} (e f : Effect) (w v : World) (r : Result A Stop) → e ≡ f → Does (f ∷ []) w v r → Does (e ∷ []) w v r

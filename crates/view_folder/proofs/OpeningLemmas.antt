@@ -1,6 +1,6 @@
 -- The files of tables, and what the opening sync leaves and counts.
 use Rattle.std.proofs.Common.{◌≡◌, ◌+◌, ◌<◌, ◌∙◌, ℕ, Bool, true, false, cond, not, ◌&&◌, ◌||◌, Bor, List, [], ◌∷◌, ◌++◌, append_assoc, map, length, take, drop, get_or, Option, Some, is_some, refl, sym, ap, subst, arith}
-use Rattle.std.specs.Prelude.{unwrap_or, Result, Ok, Err, IfOk}
+use Rattle.std.specs.Prelude.{unwrap_or, Result}
 use Rattle.std.specs.Int.{from_bool}
 use Rattle.std.specs.List.{AllByRecursion}
 use Rattle.std.specs.List.Sorted.{IsStrictlySortedBy}
@@ -22,7 +22,7 @@ use Rattle.view_folder.specs.Files.{is_named, has_name, is_csv_name, file_name, 
 use Rattle.view_folder.specs.TableFiles.{table_file, table_files}
 use Rattle.view_folder.specs.Sync.{written, opening_sync, opening_count, HoldsExactly}
 use Rattle.view_folder.proofs.FolderLemmas.{now, wrote, synced, holds_exactly, performed_written, each_there, others_apart, still_there}
-use Rattle.view_folder.proofs.LaterLemmas.{nothing_held, file_name_csv, same_file, drop_at, tree_of}
+use Rattle.view_folder.proofs.LaterLemmas.{file_name_csv, same_file, drop_at, tree_of}
 
 -- the files of tables are named by their labels, each once
 module _ (shape : Shape) where
@@ -35,9 +35,13 @@ module _ (shape : Shape) where
   files_of_tables [] h = tt
   files_of_tables (p ∷ ps) h = (file_name_csv p.0, unnamed p.0 ps h.0, files_of_tables ps h.1)
 
-pub are_view_files : (shape : Shape) (ts : TablesValue) → AreTables ts → AreViewFiles (table_files shape ts)
+-- and so where labels ascend, as those of tables do
+pub labelled_files : (shape : Shape) (ts : TablesValue) → IsStrictlySortedBy text_cmp (labels_of ts) → AreViewFiles (table_files shape ts)
 unfolding table_files
-are_view_files shape ts h = files_of_tables shape ts h.labels
+labelled_files shape ts ascend = files_of_tables shape ts ascend
+
+pub are_view_files : (shape : Shape) (ts : TablesValue) → AreTables ts → AreViewFiles (table_files shape ts)
+are_view_files shape ts h = labelled_files shape ts h.labels
 
 -- one more name among those of files
 pub named_more : (files : List File) (i : ℕ) (f : File) (q : Text) (b : Bool) → i < length files → f ≡ get_or files i f → b ≡ is_named (take i files) q → cond (text_eq f.name q) true b ≡ is_named (take (i + 1) files) q
@@ -75,11 +79,6 @@ module _ (d : Text) (fs : List File) (h : AreViewFiles fs) where
       ap (λ (c : Contents). c.stored) (did ∙ ap (λ (tree : Option Tree). performed (opening_sync d fs (files_of t d)) (record { stored = stored_of tree old.writes; held = o.held })) was ∙ synced d fs s h o.held) in
       let same : last.tree ≡ u = ap (λ (tree : Option Tree). unwrap_or tree u) (sym (tree_of new.tree new.writes last done) ∙ is) in
       subst (HoldsExactly d fs t) same (holds_exactly d fs s h)
-
-  pub all_hold : (old new : StoreState) (r : Result ℕ Stop) → ((o : SinkState) (t : Tree) → old.tree ≡ Some t → Does (opening_sync d fs (files_of t d)) (world_of old o) (world_of new o) r)
-      → IfOk r (λ _. (t u : Tree) → old.tree ≡ Some t → new.tree ≡ Some u → HoldsExactly d fs t u)
-  all_hold old new (Ok n) does = λ t u was is. all_held old new nothing_held t u was is (does nothing_held t was)
-  all_hold old new (Err e) does = tt
 
   -- each other file was there when its turn came
   pub others_counted : (old mid : StoreState) (o : SinkState) (t : Tree) (names : List Text) (n : ℕ) → old.tree ≡ Some t → names ≡ other_names fs (files_of t d)

@@ -1,6 +1,6 @@
 -- The records of a table's file.
-use Rattle.std.proofs.Common.{◌≡◌, ◌<◌, ◌≤◌, ◌+◌, ◌-◌, ◌==◌, ◌∷◌, ◌++◌, ◌∙◌, [], ℕ, List, Bool, true, false, Option, Some, None, cond, refl, sym, ap, subst, zero, suc, length, map, take, drop, get_or, min, arith, inl, inr, eq-eqb, append_assoc}
-use Rattle.std.specs.Prelude.{◌&&◌, ◌↔◌, unwrap_or}
+use Rattle.std.proofs.Common.{◌≡◌, ◌<◌, ◌≤◌, ◌+◌, ◌-◌, ◌==◌, ◌∷◌, ◌++◌, ◌∙◌, [], ℕ, List, Bool, true, false, Some, None, cond, refl, sym, ap, subst, zero, suc, length, map, take, drop, get_or, arith, inl, inr, eq-eqb, append_assoc}
+use Rattle.std.specs.Prelude.{unwrap_or}
 use Rattle.std.specs.List.{AllByRecursion, list_all, AllAdjacentBelow}
 use Rattle.std.specs.List.Sorted.{IsStrictlySortedBy}
 use Rattle.std.specs.Ordering.{is_lt}
@@ -10,7 +10,7 @@ use Rattle.std.specs.declared.cmp.Ordering.TheVariants.{Less, Equal, Greater}
 use Rattle.std.proofs.lemmas.Bool.{and_parts, cases_Bool, eqb-true}
 use Rattle.std.proofs.lemmas.List.{length-take, length-drop, length-append, drop_all, take-append-drop, map-append}
 use Rattle.std.proofs.lemmas.Map.Keys.{sorted_from_all_adjacent, Less-from_sorted}
-use Rattle.ss_text.specs.Texts.{Text, Row, row_cmp}
+use Rattle.ss_text.specs.Texts.{Row, row_cmp}
 use Rattle.ss_text.proofs.KeyLemmas.{row_order, equal_is}
 use Rattle.ss_text.proofs.GroupLemmas.{strict_front}
 use Rattle.csv_catalog.proofs.ListLemmas.{next_left}

@@ -1,5 +1,5 @@
 -- Forms of tables, and the tables that have a form.
-use Rattle.std.specs.Prelude.{◌≡◌, ◌≤◌, ℕ, true, length, is_some, unwrap_or, bytes_eq}
+use Rattle.std.specs.Prelude.{◌≡◌, ◌≤◌, true, length, is_some, unwrap_or, bytes_eq}
 use Rattle.std.specs.List.{AllByRecursion, IsDistinct}
 use Rattle.ss_text.specs.Texts.{Text}
 use Rattle.ss_text.specs.Label.{is_column_label}

@@ -13,9 +13,13 @@ abbrev pub spliced : Option ℕ → Row → Row → Row
 spliced None constant dynamic = constant
 spliced (Some spot) constant dynamic = take spot constant ++ dynamic ++ drop spot constant
 
+-- a record for each row
+abbrev pub row_records : Option ℕ → List (Row × Row) → List Row
+row_records spot rows = map (λ (r : Row × Row). spliced spot r.0 r.1) rows
+
 -- the header, and a record for each key, ascending
 abbrev pub table_records : Shape → TableValue → List Row
-table_records shape t = spliced shape.spot shape.constants t.columns ∷ map (λ (r : Row × Row). spliced shape.spot r.0 r.1) t.rows
+table_records shape t = spliced shape.spot shape.constants t.columns ∷ row_records shape.spot t.rows
 
 unfoldable pub table_text : Shape → TableValue → Text
 table_text shape t = csv_text (table_records shape t)

@@ -10,10 +10,10 @@ ghost use Rattle.view_folder.specs.Files.{view_folder};
 ghost use Rattle.view_folder.specs.TableFiles.{FitShape};
 ghost use Rattle.view_folder.specs.Sync.{label_synced, later_sync, is_counted, later_count, HoldsNamed};
 
+use crate::TableTexts;
 use crate::file::{file_name, folder_of_view};
-use crate::table_file::table_text;
 use effects::{Stop, remove_file, write_file};
-use flow_law::{Shape, Tables};
+use flow_law::Shape;
 use outside::Folders;
 use ss_text::Text;
 use std::alloc::Global;
@@ -21,19 +21,19 @@ use std::alloc::Global;
 /// Syncs the files of these labels in the folder of a view's database, in order: a label's file gets the text of its
 /// table, or is removed where the label has no table. Answers how many files were written, or were there and removed.
 #[tactic(auto, using(effects::proofs::EffectLemmas::nothing_yet))]
-pub fn sync<F: Folders>(
+pub fn sync<F: Folders, T: TableTexts>(
     alloc: Global,
     store: &mut F,
     view_db: &Text,
     shape: &Shape,
-    tables: &Tables,
+    tables: &T,
     labels: &[Text],
 ) -> Result<usize, Stop>
-    requires { FitShape shape.now tables.now }
-    ensures does { (o : _) → Does (later_sync (view_folder view_db.now) shape.now tables.now labels.now) (world_of (F.state store.old) o) (world_of (F.state store.new) o) result }
-    ensures holds { IfOk result (λ _. (t u : Tree) → (F.state store.old).tree ≡ Some t → (F.state store.new).tree ≡ Some u → HoldsNamed (view_folder view_db.now) shape.now tables.now labels.now t u) }
+    requires { FitShape shape.now (T.tables tables.now) }
+    ensures does { (o : _) → Does (later_sync (view_folder view_db.now) shape.now (T.tables tables.now) labels.now) (world_of (F.state store.old) o) (world_of (F.state store.new) o) result }
+    ensures holds { IfOk result (λ _. (t u : Tree) → (F.state store.old).tree ≡ Some t → (F.state store.new).tree ≡ Some u → HoldsNamed (view_folder view_db.now) shape.now (T.tables tables.now) labels.now t u) }
     ensures writes { IfOk result (λ n. (F.state store.new).writes ≡ risen ((F.state store.old).writes) n) }
-    ensures count { IfOk result (λ n. (t : Tree) → (F.state store.old).tree ≡ Some t → IsStrictlySortedBy text_cmp labels.now → n ≡ later_count (view_folder view_db.now) tables.now labels.now t) }
+    ensures count { IfOk result (λ n. (t : Tree) → (F.state store.old).tree ≡ Some t → IsStrictlySortedBy text_cmp labels.now → n ≡ later_count (view_folder view_db.now) (T.tables tables.now) labels.now t) }
     ensures reads { (F.state store.new).read_faults ≡ (F.state store.old).read_faults }
     ensures no_read { IfErr result (λ e. e ≢ Stop.ReadFault) }
     ensures blames { StoreBlames (F.state store.old) (F.state store.new) result }
@@ -44,18 +44,18 @@ pub fn sync<F: Folders>(
 
 // Syncs the files of these labels in a folder, in order.
 #[tactic(auto, using(effects::proofs::EffectLemmas::each_stops, effects::proofs::EffectLemmas::each_ends, effects::proofs::EffectLemmas::doing_all))]
-fn sync_labels<F: Folders>(
+fn sync_labels<F: Folders, T: TableTexts>(
     alloc: Global,
     store: &mut F,
     folder: &Text,
     shape: &Shape,
-    tables: &Tables,
+    tables: &T,
     labels: &[Text],
 ) -> Result<usize, Stop>
-    requires { FitShape shape.now tables.now }
-    ensures does { (o : _) → Does (later_sync folder.now shape.now tables.now labels.now) (world_of (F.state store.old) o) (world_of (F.state store.new) o) result }
+    requires { FitShape shape.now (T.tables tables.now) }
+    ensures does { (o : _) → Does (later_sync folder.now shape.now (T.tables tables.now) labels.now) (world_of (F.state store.old) o) (world_of (F.state store.new) o) result }
     ensures writes { IfOk result (λ n. (F.state store.new).writes ≡ risen ((F.state store.old).writes) n) }
-    ensures count { IfOk result (λ n. (t : Tree) → (F.state store.old).tree ≡ Some t → IsStrictlySortedBy text_cmp labels.now → n ≡ later_count folder.now tables.now labels.now t) }
+    ensures count { IfOk result (λ n. (t : Tree) → (F.state store.old).tree ≡ Some t → IsStrictlySortedBy text_cmp labels.now → n ≡ later_count folder.now (T.tables tables.now) labels.now t) }
     ensures reads { (F.state store.new).read_faults ≡ (F.state store.old).read_faults }
     ensures no_read { IfErr result (λ e. e ≢ Stop.ReadFault) }
     ensures blames { StoreBlames (F.state store.old) (F.state store.new) result }
@@ -68,28 +68,27 @@ fn sync_labels<F: Folders>(
 }
 
 // Syncs the file of a label, and answers whether it was written, or was there and removed.
-#[tactic(auto, using(effects::proofs::EffectLemmas::none_off, effects::proofs::EffectLemmas::nothing_yet, crate::proofs::LaterLemmas::synced_write, crate::proofs::LaterLemmas::synced_remove, crate::proofs::LaterLemmas::fits_of))]
-fn sync_label<F: Folders>(
+#[tactic(auto, using(effects::proofs::EffectLemmas::none_off, effects::proofs::EffectLemmas::nothing_yet, crate::proofs::LaterLemmas::synced_write, crate::proofs::LaterLemmas::synced_remove))]
+fn sync_label<F: Folders, T: TableTexts>(
     alloc: Global,
     store: &mut F,
     folder: &Text,
     shape: &Shape,
-    tables: &Tables,
+    tables: &T,
     label: &Text,
 ) -> Result<bool, Stop>
-    requires { FitShape shape.now tables.now }
-    ensures does { (o : _) → Does (label_synced folder.now shape.now tables.now label.now ∷ []) (world_of (F.state store.old) o) (world_of (F.state store.new) o) result }
-    ensures was { IfOk result (λ was. (t : Tree) → (F.state store.old).tree ≡ Some t → was ≡ is_counted folder.now tables.now t label.now) }
+    requires { FitShape shape.now (T.tables tables.now) }
+    ensures does { (o : _) → Does (label_synced folder.now shape.now (T.tables tables.now) label.now ∷ []) (world_of (F.state store.old) o) (world_of (F.state store.new) o) result }
+    ensures was { IfOk result (λ was. (t : Tree) → (F.state store.old).tree ≡ Some t → was ≡ is_counted folder.now (T.tables tables.now) t label.now) }
     ensures counted { IfOk result (λ was. (F.state store.new).writes ≡ (if was then risen ((F.state store.old).writes) 1 else (F.state store.old).writes)) }
     ensures reads { (F.state store.new).read_faults ≡ (F.state store.old).read_faults }
     ensures no_read { IfErr result (λ e. e ≢ Stop.ReadFault) }
     ensures blames { StoreBlames (F.state store.old) (F.state store.new) result }
 {
     let file = file_name(alloc, label)?;
-    let Some(table) = tables.table_of(label) else {
+    let Some(text) = tables.text_of(alloc, shape, label)? else {
         return remove_file(alloc, store, folder, &file);
     };
-    let text = table_text(alloc, table, shape)?;
     write_file(alloc, store, folder, &file, text.as_slice())?;
     Ok(true)
 }

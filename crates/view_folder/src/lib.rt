@@ -9,16 +9,20 @@
 mod comparison;
 mod file;
 mod held;
+mod kept_file;
 mod later;
 mod law;
 mod opening;
 mod records;
 mod table_file;
+mod table_texts;
 
 pub use comparison::{Comparison, compare};
 pub use file::{File, folder_of_view};
 pub use held::{TablesFault, read_tables};
+pub use kept_file::kept_text;
 pub use later::sync;
 pub use law::table_records_read_back;
-pub use opening::sync_all;
+pub use opening::{sync_all, sync_files};
 pub use table_file::{table_files, table_text};
+pub use table_texts::TableTexts;

@@ -9,10 +9,10 @@ ghost use Rattle.view_folder.specs.Files.{is_named, has_name, is_csv_name, other
 ghost use Rattle.view_folder.specs.TableFiles.{FitShape, table_files};
 ghost use Rattle.view_folder.specs.Sync.{written, removed, opening_sync, opening_count, HoldsExactly};
 
+use crate::TableTexts;
 use crate::file::{File, folder_of_view, is_csv_name};
-use crate::table_file::table_files;
 use effects::{Stop, list_files, remove_file, write_file};
-use flow_law::{Shape, Tables};
+use flow_law::Shape;
 use outside::Folders;
 use ss_text::{NoMemory, Text};
 use std::alloc::Global;
@@ -22,30 +22,31 @@ use std::collections::HashSet;
 /// labels, and then every other file of the folder whose name ends in `.csv` is removed, ascending. Answers how
 /// many files were written, or were there and removed. It reads before it writes.
 #[tactic(auto, using(effects::proofs::EffectLemmas::nothing_yet))]
-pub fn sync_all<F: Folders>(
+pub fn sync_all<F: Folders, T: TableTexts>(
     alloc: Global,
     store: &mut F,
     view_db: &Text,
     shape: &Shape,
-    tables: &Tables,
+    tables: &T,
 ) -> Result<usize, Stop>
-    requires { FitShape shape.now tables.now }
-    ensures does { (o : _) (t : Tree) → (F.state store.old).tree ≡ Some t → Does (opening_sync (view_folder view_db.now) (table_files shape.now tables.now) (files_of t (view_folder view_db.now))) (world_of (F.state store.old) o) (world_of (F.state store.new) o) result }
-    ensures holds { IfOk result (λ _. (t u : Tree) → (F.state store.old).tree ≡ Some t → (F.state store.new).tree ≡ Some u → HoldsExactly (view_folder view_db.now) (table_files shape.now tables.now) t u) }
-    ensures count { IfOk result (λ n. (t : Tree) → (F.state store.old).tree ≡ Some t → n ≡ opening_count (table_files shape.now tables.now) (files_of t (view_folder view_db.now))) }
+    requires { FitShape shape.now (T.tables tables.now) }
+    ensures does { (o : _) (t : Tree) → (F.state store.old).tree ≡ Some t → Does (opening_sync (view_folder view_db.now) (table_files shape.now (T.tables tables.now)) (files_of t (view_folder view_db.now))) (world_of (F.state store.old) o) (world_of (F.state store.new) o) result }
+    ensures holds { IfOk result (λ _. (t u : Tree) → (F.state store.old).tree ≡ Some t → (F.state store.new).tree ≡ Some u → HoldsExactly (view_folder view_db.now) (table_files shape.now (T.tables tables.now)) t u) }
+    ensures count { IfOk result (λ n. (t : Tree) → (F.state store.old).tree ≡ Some t → n ≡ opening_count (table_files shape.now (T.tables tables.now)) (files_of t (view_folder view_db.now))) }
     ensures writes { IfOk result (λ n. (F.state store.new).writes ≡ risen ((F.state store.old).writes) n) }
     ensures read_first { IsErrOf result Stop.ReadFault → OnlyRead (F.state store.old) (F.state store.new) }
     ensures blames { StoreBlames (F.state store.old) (F.state store.new) result }
 {
     let folder = folder_of_view(alloc, view_db)?;
-    let files = table_files(alloc, tables, shape)?;
+    let files = tables.files(alloc, shape)?;
     sync_files(alloc, store, &folder, &files)
 }
 
-// Writes these files in order, and then removes every other file of the folder whose name ends in `.csv`,
-// ascending. Answers how many files were written, or were there and removed.
+/// Brings a folder to exactly these files: each is written, in order, and then every other file of the folder whose
+/// name ends in `.csv` is removed, ascending. Answers how many files were written, or were there and removed. It reads
+/// before it writes.
 #[tactic(auto, using(effects::proofs::EffectLemmas::partly_more, effects::proofs::EffectLemmas::partly_later, effects::proofs::EffectLemmas::performed_append, effects::proofs::EffectLemmas::none_off, effects::proofs::EffectLemmas::nothing_yet))]
-fn sync_files<F: Folders>(
+pub fn sync_files<F: Folders>(
     alloc: Global,
     store: &mut F,
     folder: &Text,
@@ -53,6 +54,7 @@ fn sync_files<F: Folders>(
 ) -> Result<usize, Stop>
     requires { AreViewFiles files.now }
     ensures does { (o : _) (t : Tree) → (F.state store.old).tree ≡ Some t → Does (opening_sync folder.now files.now (files_of t folder.now)) (world_of (F.state store.old) o) (world_of (F.state store.new) o) result }
+    ensures holds { IfOk result (λ _. (t u : Tree) → (F.state store.old).tree ≡ Some t → (F.state store.new).tree ≡ Some u → HoldsExactly folder.now files.now t u) }
     ensures count { IfOk result (λ n. (t : Tree) → (F.state store.old).tree ≡ Some t → n ≡ opening_count files.now (files_of t folder.now)) }
     ensures writes { IfOk result (λ n. (F.state store.new).writes ≡ risen ((F.state store.old).writes) n) }
     ensures read_first { IsErrOf result Stop.ReadFault → OnlyRead (F.state store.old) (F.state store.new) }

@@ -54,8 +54,8 @@ fn table_file(alloc: Global, label: &Text, table: &Table, shape: &Shape) -> Resu
     Ok(File { name, bytes })
 }
 
-// Adds a record: the constant part, with the dynamic part behind as many of its texts as the spot says.
-fn with_record(
+/// Adds a record: the constant part, with the dynamic part behind as many of its texts as the spot says.
+pub(crate) fn with_record(
     alloc: Global,
     text: RecordsText,
     spot: Option<usize>,

@@ -9,7 +9,7 @@ use Rattle.view_folder.proofs.later.sync_labels.Goals as goal
 pub loop-label-init : goal.loop-label-init
 loop-label-init g c = record {
   doing = λ o. doing_all _ _;
-  counting = λ s h. counting_starts c.args.folder.now c.args.shape.now c.args.tables.now c.args.labels.now s _ h;
+  counting = λ s h. counting_starts c.args.folder.now c.args.shape.now (g.T.TableTexts.tables c.args.tables.now) c.args.labels.now s _ h;
   counted = omega arith;
   few = omega arith;
   reads = refl;
@@ -25,8 +25,8 @@ loop-label-preserved g c =
     let i = c.loop-label.label-index in
     let n = c.loop-label.count in
     record {
-      doing = λ o. each_done (label_synced c.args.folder.now c.args.shape.now c.args.tables.now) _ i c.label-item.result _ _ _ _ (omega arith) c.label-item.is (so_far.doing o) (did.does o);
-      counting = λ s h. counting_more c.args.folder.now c.args.shape.now c.args.tables.now c.args.labels.now s i n c.from.result (state c.loop-label.store) (state c.sync_label.new.store) sink c.label-item.result c.in_ok-sync_label.field-0
+      doing = λ o. each_done (label_synced c.args.folder.now c.args.shape.now (g.T.TableTexts.tables c.args.tables.now)) _ i c.label-item.result _ _ _ _ (omega arith) c.label-item.is (so_far.doing o) (did.does o);
+      counting = λ s h. counting_more c.args.folder.now c.args.shape.now (g.T.TableTexts.tables c.args.tables.now) c.args.labels.now s i n c.from.result (state c.loop-label.store) (state c.sync_label.new.store) sink c.label-item.result c.in_ok-sync_label.field-0
           (omega arith) c.label-item.is (so_far.counting s h) (did.does sink) did.was c.from.ensures;
       counted = counted_more (state c.args.store.now).writes (state c.loop-label.store).writes _ n c.from.result c.in_ok-sync_label.field-0 did.counted so_far.counted c.from.ensures;
       few = few_more n i c.from.result c.in_ok-sync_label.field-0 so_far.few c.from.ensures;
@@ -39,4 +39,4 @@ returns-clause-count g c =
     let old = g.F.Folders.state c.args.store.now in
     λ t told ascends.
     let s : Stored = record { tree = t; writes = old.writes } in
-    counting_done c.args.folder.now c.args.shape.now c.args.tables.now c.args.labels.now s c.loop-label.label-index c.loop-label.count _ (omega arith) (c.loop-label.invariant.counting s (ap (λ o. stored_of o old.writes) told)) ascends
+    counting_done c.args.folder.now c.args.shape.now (g.T.TableTexts.tables c.args.tables.now) c.args.labels.now s c.loop-label.label-index c.loop-label.count _ (omega arith) (c.loop-label.invariant.counting s (ap (λ o. stored_of o old.writes) told)) ascends

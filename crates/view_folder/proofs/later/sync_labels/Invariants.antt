@@ -10,8 +10,8 @@ abbrev pub invariant-loop-label : goal.invariant-loop-label
 invariant-loop-label g l =
     let state = g.F.Folders.state in
     record {
-      doing : (o : SinkState) → Doing (later_sync l.folder l.shape l.tables l.labels) (later_sync l.folder l.shape l.tables (drop l.label-index l.labels)) (contents (world_of (state l.fn.store) o)) (contents (world_of (state l.store) o));
-      counting : (s : Stored) → stored_of (state l.fn.store).tree (state l.fn.store).writes ≡ Some s → IsCounting l.folder l.shape l.tables l.labels s l.label-index l.count (stored_of (state l.store).tree (state l.store).writes);
+      doing : (o : SinkState) → Doing (later_sync l.folder l.shape (g.T.TableTexts.tables l.tables) l.labels) (later_sync l.folder l.shape (g.T.TableTexts.tables l.tables) (drop l.label-index l.labels)) (contents (world_of (state l.fn.store) o)) (contents (world_of (state l.store) o));
+      counting : (s : Stored) → stored_of (state l.fn.store).tree (state l.fn.store).writes ≡ Some s → IsCounting l.folder l.shape (g.T.TableTexts.tables l.tables) l.labels s l.label-index l.count (stored_of (state l.store).tree (state l.store).writes);
       counted : (state l.store).writes ≡ risen (state l.fn.store).writes l.count;
       few : l.count ≤ l.label-index;
       reads : (state l.store).read_faults ≡ (state l.fn.store).read_faults;

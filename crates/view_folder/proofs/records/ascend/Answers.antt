@@ -1,6 +1,6 @@
-use Rattle.std.proofs.Common.{◌≡◌, ◌<◌, ◌+◌, ◌-◌, ◌∙◌, sym, ap, subst, length, arith, get_or}
+use Rattle.std.proofs.Common.{◌≡◌, ◌+◌, ◌-◌, ◌∙◌, sym, ap, arith, get_or}
 use Rattle.std.specs.Ordering.{is_lt}
-use Rattle.ss_text.specs.Texts.{Text, text_cmp}
+use Rattle.ss_text.specs.Texts.{text_cmp}
 use Rattle.ss_text.proofs.KeyLemmas.{text_order}
 use Rattle.view_folder.proofs.RecordLemmas.{adjacent_ascends, not_adjacent}
 use Rattle.view_folder.proofs.records.ascend.Goals as goal

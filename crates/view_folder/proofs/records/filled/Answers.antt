@@ -1,10 +1,10 @@
-use Rattle.std.proofs.Common.{◌≡◌, ◌∙◌, ◌+◌, ◌++◌, ◌∷◌, [], List, sym, ap, subst, map, take, drop, length, arith}
+use Rattle.std.proofs.Common.{◌∙◌, ◌+◌, ◌++◌, ◌∷◌, [], List, sym, ap, subst, map, take, drop}
 use Rattle.std.specs.List.Sorted.{IsStrictlySortedBy}
 use Rattle.std.proofs.lemmas.Bool.{false≢true}
 use Rattle.std.proofs.lemmas.List.{take_all}
 use Rattle.ss_text.specs.Texts.{Row, row_cmp}
-use Rattle.flow_law.specs.Tables.{table_value, row_keys}
-use Rattle.view_folder.specs.Records.{ascends, constant_part, key_and_cells}
+use Rattle.flow_law.specs.Tables.{row_keys}
+use Rattle.view_folder.specs.Records.{ascends, constant_part}
 use Rattle.view_folder.proofs.RecordLemmas.{not_whole, front_keys, keys_split, strict_ascends}
 use Rattle.view_folder.proofs.records.filled.Goals as goal
 

@@ -1,6 +1,5 @@
-use Rattle.std.proofs.Common.{◌≡◌, ◌+◌, ◌∙◌, Some, length, ap, sym, arith}
+use Rattle.std.proofs.Common.{◌≡◌, ◌∙◌, length, ap, sym, arith}
 use Rattle.ss_text.specs.Texts.{Row}
-use Rattle.view_folder.specs.Records.{ragged}
 use Rattle.view_folder.proofs.RecordLemmas.{ragged_here, ragged_more, ragged_end}
 use Rattle.view_folder.proofs.records.first_ragged.Goals as goal
 

@@ -1,6 +1,5 @@
-use Rattle.std.proofs.Common.{◌≡◌, ◌∙◌, length, ap, sym, subst, None}
+use Rattle.std.proofs.Common.{◌≡◌, ◌∙◌, length, ap, sym}
 use Rattle.ss_text.specs.Texts.{Row}
-use Rattle.view_folder.specs.Records.{ragged}
 use Rattle.view_folder.proofs.RecordLemmas.{none_ragged}
 use Rattle.view_folder.proofs.records.table_of_lengths.Goals as goal
 

@@ -1,0 +1,75 @@
+//! Tables of which a view folder has the files.
+ghost use Rattle.std.specs.Prelude.{◌≡◌, IfOk, option_map};
+ghost use Rattle.flow_law.specs.Tables.{TablesValue, table_of};
+ghost use Rattle.view_folder.specs.Files.{AreViewFiles};
+ghost use Rattle.view_folder.specs.TableFiles.{table_text, table_files, FitShape};
+
+use crate::File;
+use crate::kept_file::{kept_files, kept_text};
+use crate::table_file::{table_files, table_text};
+use flow_law::{Shape, Tables};
+use kept_tables::KeptTables;
+use ss_text::{NoMemory, Text};
+use std::alloc::Global;
+
+/// Tables whose files can be made.
+pub trait TableTexts {
+    /// The tables.
+    ghost tables: { Self → TablesValue };
+
+    /// The text of the file of a label's table, if there is one.
+    fn text_of(&self, alloc: Global, shape: &Shape, label: &Text) -> Result<Option<Text>, NoMemory>
+        requires { FitShape shape.now (tables self.now) }
+        ensures { IfOk result (λ text. text ≡ option_map (table_text shape.now) (table_of (tables self.now) label.now)) };
+
+    /// The files of all tables, in the order of their labels.
+    fn files(&self, alloc: Global, shape: &Shape) -> Result<Vec<File>, NoMemory>
+        requires { FitShape shape.now (tables self.now) }
+        ensures files { IfOk result (λ files. files.items ≡ table_files shape.now (tables self.now)) }
+        ensures named { AreViewFiles (table_files shape.now (tables self.now)) };
+}
+
+impl TableTexts for Tables {
+    ghost tables = { λ tables. tables };
+
+    #[tactic(auto, using(crate::proofs::LaterLemmas::fits_of))]
+    fn text_of(
+        &self,
+        alloc: Global,
+        shape: &Shape,
+        label: &Text,
+    ) -> Result<Option<Text>, NoMemory> {
+        let Some(table) = self.table_of(label) else {
+            return Ok(None);
+        };
+        let text = table_text(alloc, table, shape)?;
+        Ok(Some(text))
+    }
+
+    fn files(&self, alloc: Global, shape: &Shape) -> Result<Vec<File>, NoMemory> {
+        table_files(alloc, self, shape)
+    }
+}
+
+impl TableTexts for KeptTables {
+    ghost tables = { λ kept. kept.tables };
+
+    #[tactic(auto, using(crate::proofs::LaterLemmas::fits_of))]
+    fn text_of(
+        &self,
+        alloc: Global,
+        shape: &Shape,
+        label: &Text,
+    ) -> Result<Option<Text>, NoMemory> {
+        let Some(table) = self.table_of(label) else {
+            return Ok(None);
+        };
+        let text = kept_text(alloc, table, shape)?;
+        Ok(Some(text))
+    }
+
+    #[tactic(auto, using(crate::proofs::OpeningLemmas::labelled_files))]
+    fn files(&self, alloc: Global, shape: &Shape) -> Result<Vec<File>, NoMemory> {
+        kept_files(alloc, self.slots(), shape)
+    }
+}
