@@ -1,2 +1,4 @@
 mod NameLemmas
 mod GroupLemmas
+mod ComingLemmas
+mod UpkeepLemmas

@@ -1,5 +1,7 @@
+pub mod Coming
 pub mod ConditionCode
 pub mod Group
+pub mod Limits
 pub mod Named
-pub mod Outcome
 pub mod Session
+pub mod Upkeeps

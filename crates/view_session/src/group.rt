@@ -1,42 +1,57 @@
 //! The changes that a session holds.
-ghost use Rattle.std.specs.Prelude.{◌≡◌, ◌++◌, ◌∷◌, [], None, IfOk, IfErr, OnOk, OnErr, IsTrue, option_map, unwrap_or, length};
+ghost use Rattle.std.specs.Prelude.{◌≡◌, ◌++◌, ◌∷◌, [], List, None, IfErr, OnOk, OnErr, IsTrue, length, unwrap_or};
 ghost use Rattle.schema_model.specs.Changes.{after_all, is_well_formed};
 ghost use Rattle.schema_model.specs.Refusals.{fault};
-ghost use Rattle.schema_model.specs.States.{CatalogueState};
 ghost use Rattle.change_draft.specs.Drafts.{StandsOver, empty};
-ghost use Rattle.view_session.specs.Named.{with_change, with_lines};
-ghost use Rattle.view_session.specs.Group.{IsOver};
+ghost use Rattle.flow_law.specs.declared.line.TableLine.{TableLine as Line};
+ghost use Rattle.view_session.specs.Named.{with_change, with_lines, of_lines};
+ghost use Rattle.view_session.specs.Group.{IsOver, names_held, names_with};
 ghost use Rattle.view_session.specs.Session.{IsNotHeld};
 
 use crate::HoldRefused;
 use crate::changed::Changed;
 use change_draft::Draft;
-use change_script::Script;
+use flow_law::TableLine;
 use schema_model::{Catalogue, Change};
 use ss_text::NoMemory;
 use std::alloc::Global;
-use std::marker::Model;
 
-/// A group of changes, and the names with theirs, where it holds some. It stands over the names and the catalogue of
-/// its session.
+/// A group of changes, and the names of its session with theirs, where it holds some. It stands over the names and the
+/// catalogue of its session.
 #[derive(Drop)]
 pub(crate) struct Group {
     draft: Draft,
     names: Option<Changed>,
 }
 
-impl Model for Group {
-    ghost use Rattle.view_session.specs.Group.{GroupState};
-
-    ghost Value = { GroupState };
-
-    ghost view = { λ g. record { draft = g.draft; names = g.names } };
+// Holds one more change in a draft, and puts its names among others. After `NoMemory` both are as before.
+fn hold(
+    alloc: Global,
+    draft: &mut Draft,
+    names: &mut Changed,
+    catalogue: &Catalogue,
+    change: &Change,
+) -> Result<(), NoMemory>
+    requires stands { StandsOver draft.old catalogue.now.databases }
+    requires well_formed { IsTrue (is_well_formed change.now) }
+    requires accepted { fault (after_all catalogue.now.databases draft.old.changes) change.now ≡ None }
+    ensures held { OnOk result (draft.new.changes ≡ draft.old.changes ++ change.now ∷ []) }
+    ensures stands { OnOk result (StandsOver draft.new catalogue.now.databases) }
+    ensures names { OnOk result (names.new.names ≡ with_change names.old.names (after_all catalogue.now.databases draft.old.changes) change.now) }
+    ensures same { OnErr result (draft.new ≡ draft.old) }
+    ensures same_names { OnErr result (names.new.names ≡ names.old.names) }
+{
+    names.expect_change(alloc, draft.catalogue(catalogue), change)?;
+    draft.hold(catalogue, change)?;
+    names.put();
+    Ok(())
 }
 
 impl Group {
     // A group without changes.
     pub(crate) fn new(alloc: Global) -> Group
-        ensures { result ≡ record { draft = empty; names = None } }
+        ensures draft { result.draft ≡ empty }
+        ensures names { result.names ≡ None }
     {
         Group {
             draft: Draft::new(alloc),
@@ -52,55 +67,78 @@ impl Group {
         names: &Changed,
         change: &Change,
     ) -> Result<(), HoldRefused>
-        requires over { IsOver self.old names.now catalogue.now.databases }
+        requires over { IsOver self.old names.now.names catalogue.now.databases }
         requires well_formed { IsTrue (is_well_formed change.now) }
         ensures held { OnOk result (self.new.draft.changes ≡ self.old.draft.changes ++ change.now ∷ []) }
-        ensures over { OnOk result (IsOver self.new names.now catalogue.now.databases) }
+        ensures over { IsOver self.new names.now.names catalogue.now.databases }
         ensures accepted { OnOk result (fault (after_all catalogue.now.databases self.old.draft.changes) change.now ≡ None) }
         ensures refused { IfErr result (λ e. IsNotHeld (after_all catalogue.now.databases self.old.draft.changes) change.now e) }
-        ensures same { OnErr result (self.new ≡ self.old) }
+        ensures same { OnErr result (self.new.draft ≡ self.old.draft) }
     {
         if let Some(refusal) = self.draft.judge(catalogue, change) {
             return Err(HoldRefused::Change(refusal));
         }
-        let all = self.names_with(alloc, catalogue, names, change)?;
-        self.draft.hold(catalogue, change)?;
-        self.names = Some(all);
+        self.hold_named(alloc, catalogue, names, change)?;
         Ok(())
     }
 
-    // The names with theirs, and with those of one more change.
-    fn names_with(
-        &self,
+    // Holds one more change, which is not refused. After `NoMemory` the group is as before.
+    fn hold_named(
+        &mut self,
         alloc: Global,
         catalogue: &Catalogue,
         names: &Changed,
         change: &Change,
-    ) -> Result<Changed, NoMemory>
-        requires { StandsOver self.now.draft catalogue.now.databases }
-        ensures { IfOk result (λ all. all ≡ with_change (unwrap_or self.now.names names.now) (after_all catalogue.now.databases self.now.draft.changes) change.now) }
+    ) -> Result<(), NoMemory>
+        requires over { IsOver self.old names.now.names catalogue.now.databases }
+        requires well_formed { IsTrue (is_well_formed change.now) }
+        requires accepted { fault (after_all catalogue.now.databases self.old.draft.changes) change.now ≡ None }
+        ensures held { OnOk result (self.new.draft.changes ≡ self.old.draft.changes ++ change.now ∷ []) }
+        ensures over { IsOver self.new names.now.names catalogue.now.databases }
+        ensures same { OnErr result (self.new.draft ≡ self.old.draft) }
     {
-        self.names(names)
-            .with_change(alloc, self.draft.catalogue(catalogue), change)
+        match &mut self.names {
+            Some(all) => hold(alloc, &mut self.draft, all, catalogue, change),
+            None => {
+                let mut all = names.copy(alloc)?;
+                hold(alloc, &mut self.draft, &mut all, catalogue, change)?;
+                self.names = Some(all);
+                Ok(())
+            }
+        }
     }
 
-    // The names with theirs, and with those of a script.
-    pub(crate) fn names_and(
-        &self,
+    // Expects the names of a script's lines beside its own, or where it holds no change beside those of its session.
+    pub(crate) fn expect_lines(
+        &mut self,
         alloc: Global,
-        names: &Changed,
-        script: &Script,
-    ) -> Result<Changed, NoMemory>
-        ensures { IfOk result (λ all. all ≡ with_lines (unwrap_or self.now.names names.now) script.now) }
+        names: &mut Changed,
+        lines: &[TableLine],
+    ) -> Result<(), NoMemory>
+        ensures draft { self.new.draft ≡ self.old.draft }
+        ensures held { names_held self.new ≡ names_held self.old }
+        ensures names { names.new.names ≡ names.old.names }
+        ensures coming { OnOk result ((names_with self.new names.new).coming ≡ of_lines lines.now) }
     {
-        self.names(names).with_lines(alloc, script)
+        match &mut self.names {
+            Some(all) => all.expect_lines(alloc, lines),
+            None => names.expect_lines(alloc, lines),
+        }
     }
 
-    // How many changes it holds.
-    pub(crate) fn count(&self) -> usize
-        ensures { result ≡ length self.now.draft.changes }
+    // Makes its changes, and puts the names that are expected. It takes no memory.
+    pub(crate) fn put(self, catalogue: &mut Catalogue, names: &mut Changed)
+        ensures catalogue { catalogue.new.databases ≡ unwrap_or self.draft.after catalogue.old.databases }
+        ensures names { (lines : List Line) → (names_with self names.old).coming ≡ of_lines lines → names.new.names ≡ with_lines (names_with self names.old).names lines }
     {
-        self.draft.changes().len()
+        let Group { draft, names: held } = self;
+        if let Some(all) = held {
+            *names = all;
+        }
+        names.put();
+        if let Some(after) = draft.into_catalogue() {
+            *catalogue = after;
+        }
     }
 
     // The catalogue after its changes.
@@ -111,20 +149,17 @@ impl Group {
         self.draft.catalogue(base)
     }
 
-    // The names with theirs.
-    fn names<'a>(&'a self, names: &'a Changed) -> &'a Changed
-        ensures { result.now ≡ unwrap_or self.now.names names.now }
+    // Its changes, in order.
+    pub(crate) fn changes(&self) -> &[Change]
+        ensures { result.now ≡ self.now.draft.changes }
     {
-        match &self.names {
-            Some(all) => all,
-            None => names,
-        }
+        self.draft.changes()
     }
 
-    // The catalogue after its changes, where it holds some.
-    pub(crate) fn into_catalogue(self) -> Option<Catalogue>
-        ensures { option_map (λ (c : CatalogueState). c.databases) result ≡ self.draft.after }
+    // How many changes it holds.
+    pub(crate) fn count(&self) -> usize
+        ensures { result ≡ length self.now.draft.changes }
     {
-        self.draft.into_catalogue()
+        self.changes().len()
     }
 }

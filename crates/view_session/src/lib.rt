@@ -8,7 +8,10 @@
 mod changed;
 mod fault;
 mod group;
+mod grouped;
+mod moving;
 mod session;
+mod upkeep;
 
 pub use fault::{GroupStop, HoldRefused, OpenFault, Refused};
 pub use session::Session;
