@@ -4,6 +4,7 @@ use Rattle.std.proofs.lemmas.Result.{err_from_is_err_and}
 use Rattle.tab_lines.specs.declared.lines.Next.TheVariants.{Line, End}
 use Rattle.course.proofs.AnsweringLemmas.{steady_more, none_answered, one_more, some_idle, some_stops, some_halts, some_end, some_end_stops}
 use Rattle.course.proofs.DrivingLemmas.{starts, none_ran, none_took, gave_out_took, line_stops_took, end_took, meet, gave_out, line_stops, line_ends, line_ends_all, line_stands, end_ran, end_all, no_line, fewer}
+use Rattle.course.proofs.StepLemmas.{none_spent, spent, line_spent, spent_more}
 use Rattle.course.proofs.answering.answer_lines.Goals as goal
 
 pub returns-in_err-lines-clause-ran : goal.returns-in_err-lines-clause-ran
@@ -12,7 +13,7 @@ returns-in_err-lines-clause-ran g c = λ bytes is.
     rw (p.1, p.2) (none_ran g.M.LineHandler.step g.M.LineHandler.finish c.args.machine.now bytes (g.S.Source.rest c.args.input.now) _)
 
 pub lines-init : goal.lines-init
-lines-init g c = record { stands = starts g.M.LineHandler.step c.args.machine.now _ _ _ c.in_ok-lines.ensures; answering = none_answered g.M.LineHandler.step g.M.LineHandler.finish c.args.machine.now _; steady = record { reads = omega arith; writes = omega arith; prints = omega arith }; input = omega arith; steps = refl }
+lines-init g c = record { stands = starts g.M.LineHandler.step c.args.machine.now _ _ _ c.in_ok-lines.ensures; answering = none_answered g.M.LineHandler.step g.M.LineHandler.finish c.args.machine.now _; steady = record { reads = omega arith; writes = omega arith; prints = omega arith }; input = omega arith; rises = omega arith; still = λ no. refl; spends = none_spent g.M.LineHandler.step g.M.LineHandler.limit c.args.machine.now _ _ _ c.in_ok-lines.ensures }
 
 pub returns-in_err-line-clause-ran : goal.returns-in_err-line-clause-ran
 returns-in_err-line-clause-ran g c = λ bytes is.
@@ -27,7 +28,9 @@ lines-preserved g c =
       answering = one_more g.M.LineHandler.step g.M.LineHandler.finish c.args.machine.now _ _ _ _ _ c.in-Line.line c.lines.invariant.answering (rw c.in-None.is at c.in_ok-verdict.ensures.answered);
       steady = steady_more _ _ _ c.lines.invariant.steady c.in_ok-verdict.ensures.blames.steady;
       input = omega (arith, c.lines.invariant.input, c.in_ok-line.ensures.steady);
-      steps = c.in_ok-verdict.ensures.steps ∙ c.lines.invariant.steps;
+      rises = omega (arith, c.lines.invariant.rises, c.in_ok-verdict.ensures.rises);
+      still = λ no. c.in_ok-verdict.ensures.still no ∙ c.lines.invariant.still no;
+      spends = spent_more g.M.LineHandler.step g.M.LineHandler.limit c.args.machine.now _ c.in-Line.line _ _ _ _ _ _ _ _ _ _ _ c.lines.invariant.spends (rw c.in-Line.is at c.in_ok-line.ensures.reads) (rw c.in-Line.is at c.in_ok-line.ensures.next) (rw c.in-None.is at c.in_ok-verdict.ensures.answered) (c.in_ok-verdict.ensures.within (λ is. cc));
     }
 
 pub lines-smaller : goal.lines-smaller
@@ -117,3 +120,26 @@ returns-in_err-verdict-2-clause-some g c =
 
 pub returns-clause-some : goal.returns-clause-some
 returns-clause-some g c = some_end g.M.LineHandler.step g.M.LineHandler.finish c.args.machine.now _ _ _ c.lines.machine c.in_ok-verdict-2.verdict c.lines.invariant.answering c.in_ok-verdict-2.ensures.ended
+
+pub returns-in_err-lines-clause-within : goal.returns-in_err-lines-clause-within
+returns-in_err-lines-clause-within g c = λ bytes is other n bound. omega arith
+
+pub returns-in_err-line-clause-within : goal.returns-in_err-line-clause-within
+returns-in_err-line-clause-within g c = λ bytes is other. spent g.M.LineHandler.step g.M.LineHandler.limit c.args.machine.now _ _ _ _ _ _ bytes c.lines.invariant.spends is
+
+pub returns-in_err-verdict-clause-within : goal.returns-in_err-verdict-clause-within
+returns-in_err-verdict-clause-within g c = λ bytes is other.
+    let p = err_from_is_err_and c.from_residual-in_err-verdict.result c.from_residual-in_err-verdict.ensures.1 in
+    line_spent g.M.LineHandler.step g.M.LineHandler.limit c.args.machine.now _ c.in-Line.line _ _ _ _ _ _ _ _ bytes c.lines.invariant.spends (rw c.in-Line.is at c.in_ok-line.ensures.reads) (rw c.in-Line.is at c.in_ok-line.ensures.next) (c.in_err-verdict.ensures.within (λ e. other (cc))) is
+
+pub returns-in-Some-clause-within : goal.returns-in-Some-clause-within
+returns-in-Some-clause-within g c = λ bytes is other.
+    line_spent g.M.LineHandler.step g.M.LineHandler.limit c.args.machine.now _ c.in-Line.line _ _ _ _ _ _ _ _ bytes c.lines.invariant.spends (rw c.in-Line.is at c.in_ok-line.ensures.reads) (rw c.in-Line.is at c.in_ok-line.ensures.next) (c.in_ok-verdict.ensures.within (λ e. cc)) is
+
+pub returns-in_err-verdict-2-clause-within : goal.returns-in_err-verdict-2-clause-within
+returns-in_err-verdict-2-clause-within g c = λ bytes is other n bound.
+    omega (arith, c.in_err-verdict-2.ensures.steps, spent g.M.LineHandler.step g.M.LineHandler.limit c.args.machine.now _ _ _ _ _ _ bytes c.lines.invariant.spends is n bound)
+
+pub returns-clause-within : goal.returns-clause-within
+returns-clause-within g c = λ bytes is other n bound.
+    omega (arith, c.in_ok-verdict-2.ensures.steps, spent g.M.LineHandler.step g.M.LineHandler.limit c.args.machine.now _ _ _ _ _ _ bytes c.lines.invariant.spends is n bound)
