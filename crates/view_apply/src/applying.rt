@@ -211,9 +211,14 @@ impl Applying {
 }
 
 impl LineHandler for Applying {
+    ghost use Rattle.std.specs.Prelude.{Some, false};
     ghost use Rattle.view_apply.specs.Applying.{step, finish};
 
     ghost step = { step };
+
+    ghost limit = { λ a line. Some 0 };
+
+    ghost counts = { false };
 
     ghost finish = { finish };
 
