@@ -2,3 +2,5 @@ mod GeneratorLemmas
 mod StartLemmas
 mod TableLemmas
 mod RunLemmas
+mod ProfileLemmas
+mod ShelfLemmas

@@ -1,5 +1,5 @@
 -- What a run begins with is sound, and the view over it is not refused.
-use Rattle.std.proofs.Common.{◌≡◌, ◌≤◌, refl, List, [], ◌∷◌, None, length, arith}
+use Rattle.std.proofs.Common.{◌≡◌, refl, [], ◌∷◌, None, arith}
 use Rattle.std.specs.Prelude.{codes, bytes_eq}
 use Rattle.std.specs.List.{IsDistinct}
 use Rattle.std.specs.Str.{is_utf8, chars}

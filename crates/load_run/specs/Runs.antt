@@ -3,6 +3,7 @@ use Rattle.std.specs.Prelude.{◌≡◌, ℕ, zero, suc, ◌+◌, ◌*◌, ◌^�
 use Rattle.schema_model.specs.declared.change.Change.{Change}
 use Rattle.schema_model.specs.Changes.{after}
 use Rattle.schema_model.specs.Refusals.{fault}
+use Rattle.flow_law.specs.declared.shape.Shape.{Shape}
 use Rattle.flow_law.specs.Tables.{TableValue, table_of}
 use Rattle.valuation_meaning.specs.Meaning.{shape_of}
 use Rattle.valuation_meaning.specs.Refusal.{refusal}
@@ -54,10 +55,14 @@ abbrev pub ran : ℕ → ℕ → RunState
 ran seed zero = started
 ran seed (suc n) = answered (ran seed n) (change_at seed n)
 
--- the size of a table of the view, nothing where there is none
+-- the size of a table of a form
+abbrev pub size_in : Shape → TableValue → Size
+size_in shape t = record { rows = length t.rows; columns = length t.columns; bytes = length (table_text shape t) }
+
+-- that of a table of the view, nothing where there is none
 abbrev pub size_by : SessionState → Option TableValue → Size
 size_by s None = record { rows = 0; columns = 0; bytes = 0 }
-size_by s (Some t) = record { rows = length t.rows; columns = length t.columns; bytes = length (table_text (shape_of s.query) t) }
+size_by s (Some t) = size_in (shape_of s.query) t
 
 abbrev pub size_of : SessionState → Size
 size_of s = size_by s (table_of (tables_of s) (codes "t"))

@@ -7,6 +7,7 @@
 mod generator;
 mod number;
 mod run;
+mod size;
 mod start;
 mod summary;
 

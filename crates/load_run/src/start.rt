@@ -1,5 +1,5 @@
 //! The session that a run begins with.
-ghost use Rattle.std.specs.Prelude.{◌≡◌, [], IfOk, OnOk};
+ghost use Rattle.std.specs.Prelude.{◌≡◌, ◌≤◌, [], IfOk, OnOk};
 ghost use Rattle.schema_model.specs.States.{settled};
 ghost use Rattle.view_def.specs.declared.typed.Place.TheVariants.{Fixed};
 ghost use Rattle.view_def.specs.declared.typed.Term.TheVariants.{Cell};
@@ -8,19 +8,21 @@ ghost use Rattle.view_session.specs.Session.{opened};
 ghost use Rattle.load_run.specs.Start.{header, catalogue, query};
 
 use schema_model::Catalogue;
-use ss_text::{NoMemory, Row, Text};
+use ss_text::{NoMemory, Row, Steps, Text};
 use std::alloc::Global;
+use std::sync::ledger::Ledger;
 use view_def::{Place, Range, Term, View};
 use view_session::{OpenFault, Session};
 
 // The view over the relation without rows, which has no facts and so is not refused.
 #[tactic(auto, using(crate::proofs::StartLemmas::not_refused))]
-pub(crate) fn session(alloc: Global) -> Result<Session, NoMemory>
-    ensures { IfOk result (λ session. session ≡ opened query catalogue) }
+pub(crate) fn session<L: Ledger>(alloc: Global, steps: &mut Steps<L>) -> Result<Session, NoMemory>
+    ensures session { IfOk result (λ session. session ≡ opened query catalogue) }
+    ensures rises { steps.old ≤ steps.new }
 {
     let view = boxed_view(alloc)?;
     let catalogue = catalogue(alloc)?;
-    match Session::open(alloc, catalogue, view) {
+    match Session::open(alloc, catalogue, view, steps) {
         Ok(session) => Ok(session),
         Err(OpenFault::Illegal(_) | OpenFault::Conflict(_)) => unreachable!(),
         Err(OpenFault::NoMemory) => Err(NoMemory),
