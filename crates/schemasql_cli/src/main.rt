@@ -33,7 +33,7 @@ fn main(rt: HostRuntime) -> ExitCode {
     }
 }
 
-// Runs over the current folder and the standard streams, and counts no steps.
+// Runs over the current folder and the standard streams, and lets the count of steps go.
 fn run_here<L: Ledger>(rt: &HostRuntime, words: &[Text], blank: Blank) -> Status
     requires name { blank.name ≡ L.name }
     requires parts { blank.parts ≡ L.parts }

@@ -21,6 +21,7 @@ pub mod MaintainedLemmas
 pub mod VerifyLemmas
 pub mod ViewLemmas
 pub mod AnswerLemmas
+pub mod LimitLemmas
 pub mod RefusedLemmas
 pub mod BetweenLemmas
 pub mod SyncLemmas

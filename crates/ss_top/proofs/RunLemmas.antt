@@ -5,24 +5,19 @@ use Rattle.ss_top.specs.Commands.{asked_of, command_named, command_counted, can_
 use Rattle.std.proofs.Common.{◌≡◌, ◌≢◌, ℕ, ◌+◌, ◌<◌, length-append, true, false, length, get_or, List, [], ◌∷◌, ◌++◌, Option, refl, sym, ap, ◌∙◌, arith, inl, inr}
 use Rattle.std.specs.Prelude.{Result, Ok, Err, OnErr}
 use Rattle.course.specs.Answering.{Ending}
-use Rattle.effects.specs.Effects.{Effect, World, contents}
+use Rattle.effects.specs.Effects.{Effect, World}
 use Rattle.effects.specs.declared.stop.Stop.{Stop}
 use Rattle.effects.specs.declared.stop.Stop.TheVariants as stop
-use Rattle.effects.proofs.EffectLemmas.{partly_more}
 use Rattle.course.specs.declared.status.Halt.{Halt}
 use Rattle.course.specs.declared.status.Halt.TheVariants as halt
 use Rattle.course.specs.declared.status.Verdict.{Verdict}
 use Rattle.course.specs.declared.status.Verdict.TheVariants as verdict
-use Rattle.course.specs.Answering.{Reply, Continues, Finishes, Ended, ending, BlamesRun}
-use Rattle.ss_top.specs.declared.opening.Opened.{Opened}
-use Rattle.ss_top.specs.declared.opening.Opened.TheVariants as opened_as
-use Rattle.ss_top.specs.Open.{OpenValue}
-use Rattle.ss_top.specs.Opening.{done_at_once}
-use Rattle.ss_top.specs.Steps.{Opens, IsRefusal, verdict_of, IdleRun, IdleStop}
+use Rattle.course.specs.Answering.{Ended, BlamesRun}
+use Rattle.ss_top.specs.Steps.{IdleRun, IdleStop}
 use Rattle.tab_lines.specs.Lines.{lines_of}
 use Rattle.tab_lines.specs.Taking.{most_taken}
 use Rattle.std.proofs.lemmas.Bool.{false≢true}
-use Rattle.ss_top.proofs.IdleLemmas.{idle_contents, refused_can_show}
+use Rattle.ss_top.proofs.IdleLemmas.{idle_contents}
 use Rattle.ss_top.specs.declared.status.Status.{Status}
 use Rattle.ss_top.specs.declared.status.Status.TheVariants as status
 use Rattle.ss_top.specs.Course.{Course, unread, verdict_status, status_of, Did, Cause, RanBy, RanSome, NoFault, Finished, is_fault_status}
@@ -30,27 +25,6 @@ use Rattle.ss_top.specs.Course.{Course, unread, verdict_status, status_of, Did, 
 pub append_none : (xs : List Effect) → xs ++ [] ≡ xs
 append_none [] = refl
 append_none (x ∷ xs) = ap (λ t. x ∷ t) (append_none xs)
-
--- `show`
-shown_ends : (r : Reply OpenValue) (old new : World) (v : Verdict) → Opens r old new (Ok (opened_as.Ended v)) → Ended (ending done_at_once r) old new (Ok v)
-shown_ends (Finishes es w) old new v h = h
-shown_ends (Continues es a) old new v h = absurd h
-
-shown_done : (r : Reply OpenValue) (old new : World) (s : OpenValue) → Opens r old new (Ok (opened_as.Open s)) → Ended (ending done_at_once r) old new (Ok verdict.Done)
-shown_done (Finishes es w) old new s h = absurd h
-shown_done (Continues es a) old new s h = (rw (append_none es) h.0, refl)
-
-pub shown : (r : Reply OpenValue) (old new : World) (o : Opened) → Opens r old new (Ok o) → Ended (ending done_at_once r) old new (Ok (verdict_of o))
-shown r old new (opened_as.Open s) h = shown_done r old new s h
-shown r old new (opened_as.Ended v) h = shown_ends r old new v h
-
-pub shown_can : (o : Opened) → IsRefusal o → can_show (verdict_status (verdict_of o)) ≡ true
-shown_can (opened_as.Open s) h = refl
-shown_can (opened_as.Ended v) h = refused_can_show v h
-
-pub shown_stops : (r : Reply OpenValue) (old new : World) (e : Stop) → Opens r old new (Err e) → Ended (ending done_at_once r) old new (Err e)
-shown_stops (Finishes es w) old new e h = h
-shown_stops (Continues es a) old new e h = partly_more es [] (contents old) (contents new) h
 
 -- a command without an input that ended, and one that stopped
 pub ended_ran : (e : Ending) (bytes : List ℕ) (rest : Option (List ℕ)) (old new : World) (v : Verdict) → Ended e old new (Ok v) → RanBy (unread e) bytes rest old new (Ok v)

@@ -1,5 +1,5 @@
 -- From what a command did to what is promised of a whole run.
-use Rattle.std.proofs.Common.{◌≡◌, ℕ, true, List, [], Option, Some, sym, subst}
+use Rattle.std.proofs.Common.{◌≡◌, ◌≢◌, ℕ, true, List, [], Option, Some, sym, ap, subst}
 use Rattle.std.specs.Prelude.{Result, Err, OnErr}
 use Rattle.std.specs.FinMap.{empty}
 use Rattle.ss_text.specs.Texts.{Text}
@@ -15,7 +15,10 @@ use Rattle.ss_top.specs.Stages.{DefinitionOrRefusal}
 use Rattle.ss_top.specs.Course.{Course, Did, RanBy, RanSome, Took, Finished, status_of}
 use Rattle.ss_top.specs.Runs.{IsAsked, course_of, Told}
 use Rattle.ss_top.specs.Steps.{IdleRun}
-use Rattle.ss_top.specs.Clauses.{DoesCourse, IsComplete, Checks, Shows, Maintains, StopsAtSync, Verifies, TellsDifference, Applies, AppliesNothing, Loads, KeepsAll, KeepsOthers, LeavesBetween, TakesLittle}
+use Rattle.ss_top.specs.Clauses.{DoesCourse, IsComplete, Checks, Shows, Maintains, StopsAtSync, Verifies, TellsDifference, Applies, AppliesNothing, Loads, KeepsAll, KeepsOthers, LeavesBetween, TakesLittle, TakesSteps}
+use Rattle.ss_top.specs.Limits.{StepsOf}
+use Rattle.effects.specs.declared.stop.Stop.TheVariants as stop
+use Rattle.course.specs.declared.status.Halt.TheVariants as halt
 use Rattle.ss_top.proofs.RunLemmas.{by_status, finishes, by_fault}
 use Rattle.ss_top.proofs.ShownLemmas.{did_show}
 use Rattle.ss_top.proofs.CheckedLemmas.{did_check, did_verify}
@@ -109,3 +112,12 @@ module _ (words : List Text) (old new : World) (r : Result Verdict Halt) where
     pub takes_little : Taken → TakesLittle words input rest old new (status_of r)
     takes_little taken c bytes has reads given fault =
         subst (λ (x : Course). Took x bytes rest old new) (sym has.is.course) (by_fault r (Took (course_of (asked_of words) has.tree has.is.definition) bytes rest old new) (taken has.tree bytes has.is.definition has.told reads given has.is.asked) fault)
+
+-- and how many steps it took
+module _ (words : List Text) (input : Option (List ℕ)) (old : World) (i j : ℕ) (r : Result Verdict Halt) where
+  abbrev Stepped : Type 0
+  Stepped = (t : Tree) (bytes : List ℕ) (d : DefinitionOrRefusal) → Told (uses_store (asked_of words)) old.store.tree t → Told (reads_input (asked_of words)) input bytes → IsAsked (asked_of words) t d → r ≢ Err (halt.Stopped stop.NoMemory) → StepsOf (asked_of words) t d (lines_of bytes) i j
+
+  pub takes_steps : Stepped → TakesSteps words input old i j (status_of r)
+  takes_steps within name t bytes d is defines given some =
+      subst (λ (a : Asked). Told (uses_store a) old.store.tree t → Told (reads_input a) input bytes → IsAsked a t d → r ≢ Err (halt.Stopped stop.NoMemory) → StepsOf a t d (lines_of bytes) i j) is (within t bytes d) (λ _. defines.told) (λ _. given) defines.is (λ lacks. some (ap status_of lacks))

@@ -9,7 +9,8 @@ use Rattle.ss_top.specs.declared.status.Status.{Status}
 use Rattle.ss_top.specs.declared.status.Status.TheVariants as status
 use Rattle.ss_top.specs.Commands.{Check, Show, Maintain, Verify, Apply, Load, asked_of, uses_store, reads_input}
 use Rattle.ss_top.specs.Stages.{DefinitionOrRefusal}
-use Rattle.ss_top.specs.Opening.{IsDefinition, definition_bytes}
+use Rattle.ss_top.specs.Opening.{IsDefinition, definition_bytes, opening}
+use Rattle.ss_top.specs.Limits.{StepsBehind}
 use Rattle.ss_top.specs.Course.{Course, Did, Took, NoFault, Finished, IsReadWhole, is_done_status, is_fault_status, is_refused_status, is_unread_status, GaveOutStatus}
 use Rattle.ss_top.specs.Runs.{IsAsked, IsCourse, Told}
 use Rattle.ss_top.specs.Between.{IsLeftBetween}
@@ -102,3 +103,9 @@ LeavesBetween words input old new = (t : Tree) (d : DefinitionOrRefusal) → old
 abbrev pub TakesLittle : List Text → Option (List ℕ) → Option (List ℕ) → World → World → Status → Type 0
 TakesLittle words input rest old new s =
     (c : Course) (bytes : List ℕ) → Has words old c → reads_input (asked_of words) ≡ true → input ≡ Some bytes → is_fault_status s ≡ true → Took c bytes rest old new
+
+-- where memory did not lack, `maintain` took no more steps than the answers to the lines of its input may, and none where the view was not opened: i and j are those before and after
+abbrev pub TakesSteps : List Text → Option (List ℕ) → World → ℕ → ℕ → Status → Type 0
+TakesSteps words input old i j s =
+    (name : Text) (t : Tree) (bytes : List ℕ) (d : DefinitionOrRefusal) → asked_of words ≡ Maintain name → Defines name old t d → input ≡ Some bytes
+    → s ≢ status.NoMemory → StepsBehind (opening t d) (lines_of bytes) i j

@@ -63,6 +63,12 @@ reads_input (Maintain name) = true
 reads_input (Apply name) = true
 reads_input asked = false
 
+-- and whether it counts steps
+abbrev pub counts : Asked → Bool
+counts (Maintain name) = true
+counts (Load changes seed) = true
+counts asked = false
+
 -- the statuses that any command can give
 abbrev pub can_always : Status → Bool
 can_always status.WriteFault = true

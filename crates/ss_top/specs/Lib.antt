@@ -5,8 +5,10 @@ pub mod Opening
 pub mod Records
 pub mod Checking
 pub mod Verifying
+pub mod Meant
 pub mod Loads
 pub mod Answers
+pub mod Limits
 pub mod Steps
 pub mod Course
 pub mod Runs

@@ -5,6 +5,7 @@ use Rattle.schema_model.specs.Catalogue.{CatalogueValue}
 use Rattle.view_def.specs.Query.{Query, query_of}
 use Rattle.view_def.specs.Tree.{tree_of}
 use Rattle.view_folder.specs.declared.file.File.{File}
+use Rattle.view_folder.specs.Files.{AreViewFiles}
 use Rattle.effects.specs.Effects.{World, contents, performed, Partly}
 use Rattle.effects.specs.declared.stop.Stop.{Stop}
 use Rattle.effects.specs.declared.stop.Stop.TheVariants as stop
@@ -33,6 +34,9 @@ use Rattle.ss_top.specs.declared.sources.Loading.{Loading}
 use Rattle.ss_top.specs.declared.sources.Loading.TheVariants as loading
 use Rattle.ss_top.specs.declared.tables.Showing.{Showing}
 use Rattle.ss_top.specs.declared.tables.Showing.TheVariants as showing
+use Rattle.ss_top.specs.Meant.{MeantOrRefused}
+use Rattle.ss_top.specs.declared.meant.Meant.{Meant}
+use Rattle.ss_top.specs.declared.meant.Meant.TheVariants as meant_as
 use Rattle.ss_top.specs.declared.opening.Viewing.{Viewing}
 use Rattle.ss_top.specs.declared.opening.Viewing.TheVariants as viewing
 use Rattle.view_apply.specs.Applying.{ApplyState}
@@ -57,6 +61,26 @@ Shows (showing.Files fs) None files = fs.items ≡ files
 Shows (showing.Files fs) (Some fields) files = ⊥
 Shows (showing.Refused row) None files = ⊥
 Shows (showing.Refused row) (Some fields) files = row ≡ fields
+
+-- these files are each named as that of a table
+abbrev pub AreNamed : Showing → Type 0
+AreNamed (showing.Files fs) = AreViewFiles fs.items
+AreNamed (showing.Refused row) = Unit {0}
+
+-- the files of a view with its database, or the fields of the first refusal with its verdict
+abbrev pub meant_of : Meant → MeantOrRefused
+meant_of (meant_as.Files view_db fs) = Ok (record { view_db = view_db; files = fs.items })
+meant_of (meant_as.Refused fields v) = Err (fields, v)
+
+-- a run that this ended was refused
+abbrev pub IsMeantRefusal : Meant → Type 0
+IsMeantRefusal (meant_as.Files view_db fs) = Unit {0}
+IsMeantRefusal (meant_as.Refused fields v) = is_refused_status (verdict_status v) ≡ true
+
+-- its files are each named as that of a table
+abbrev pub AreMeantNamed : Meant → Type 0
+AreMeantNamed (meant_as.Files view_db fs) = AreViewFiles fs.items
+AreMeantNamed (meant_as.Refused fields v) = Unit {0}
 
 -- a view that was just opened over a catalogue, or the fields of its refusal
 abbrev pub Views : Viewing → Query → CatalogueValue → Option Row → Type 0
@@ -92,11 +116,6 @@ IsStopFieldsOf group_stop.NoMemory row = ⊥
 abbrev pub IsRefusal : Opened → Type 0
 IsRefusal (opened_as.Open v) = Unit {0}
 IsRefusal (opened_as.Ended v) = is_refused_status (verdict_status v) ≡ true
-
--- how a run ends that opens a view and does no more
-abbrev pub verdict_of : Opened → Verdict
-verdict_of (opened_as.Open v) = verdict.Done
-verdict_of (opened_as.Ended v) = v
 
 -- nothing was done: the store was only read, and nothing was printed
 pub record Idle (old new : World) : Type 0 where

@@ -1,6 +1,7 @@
 //! A definition that is accepted.
+ghost use Rattle.std.proofs.Props.{props};
+ghost use Rattle.view_def.specs.Profile.{IsViewOfProfile};
 ghost use Rattle.view_def.specs.Query.{query_of};
-ghost use Rattle.ss_top.specs.Records.{HasRecords};
 
 use view_def::{View, ViewText};
 
@@ -9,5 +10,5 @@ use view_def::{View, ViewText};
 pub(crate) struct Definition {
     pub(crate) text: Box<ViewText>,
     pub(crate) view: Box<View>,
-    ghost records: { HasRecords (query_of view.value) },
+    ghost profile: { IsViewOfProfile (query_of view.value) } by { Prim.hlevel props },
 }

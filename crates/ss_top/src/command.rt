@@ -1,13 +1,15 @@
 //! The command that the words ask for.
-ghost use Rattle.std.specs.Prelude.{◌≡◌, ◌≢◌, List, ℕ, [], ◌∷◌, Some, true, false, IfOk, IfErr, OnErr};
+ghost use Rattle.std.specs.Prelude.{◌≡◌, ◌≢◌, ◌≤◌, List, ℕ, [], ◌∷◌, Some, Err, true, false, IfOk, IfErr, OnErr};
 ghost use Rattle.effects.specs.Effects.{world_of};
 ghost use Rattle.outside.specs.Reading.{OnlyRead};
 ghost use Rattle.outside.specs.Tree.{Tree};
+ghost use Rattle.tab_lines.specs.Lines.{lines_of};
 ghost use Rattle.course.specs.Answering.{Ended, BlamesRun};
 ghost use Rattle.course.specs.declared.status.Verdict.TheVariants.{Usage};
 ghost use Rattle.effects.specs.Blame.{Blames};
 ghost use Rattle.run_lines.specs.Printing.{prints_usage};
-ghost use Rattle.ss_top.specs.Commands.{Asked, asked_of, command_named, command_counted, uses_store, only_reads, reads_input, can_end};
+ghost use Rattle.ss_top.specs.Commands.{Asked, asked_of, command_named, command_counted, uses_store, only_reads, reads_input, counts, can_end};
+ghost use Rattle.ss_top.specs.Limits.{StepsOf};
 ghost use Rattle.ss_top.specs.Stages.{DefinitionOrRefusal};
 ghost use Rattle.ss_top.specs.Course.{RanBy, RanSome, Took, status_of, IsWholeInput};
 ghost use Rattle.ss_top.specs.Runs.{IsAsked, course_of, Told};
@@ -57,7 +59,9 @@ fn run_named<F: Folders, S: Source, K: Sink, L: Ledger>(
 ) -> Result<Verdict, Halt>
     ensures ran { (t : Tree) (bytes : List ℕ) (d : DefinitionOrRefusal) → Told (uses_store (command_named word.now name.now)) (F.state store.old).tree t → Told (reads_input (command_named word.now name.now)) (S.rest input.old) bytes → IsAsked (command_named word.now name.now) t d → RanBy (course_of (command_named word.now name.now) t d) bytes (S.rest input.new) (world_of (F.state store.old) (K.state output.old)) (world_of (F.state store.new) (K.state output.new)) result }
     ensures blames { BlamesRun (S.faults input.old) (S.faults input.new) (world_of (F.state store.old) (K.state output.old)) (world_of (F.state store.new) (K.state output.new)) result }
-    ensures steps { steps.new ≡ steps.old }
+    ensures rises { steps.old ≤ steps.new }
+    ensures steps { counts (command_named word.now name.now) ≡ false → steps.new ≡ steps.old }
+    ensures within { (t : Tree) (bytes : List ℕ) (d : DefinitionOrRefusal) → Told (uses_store (command_named word.now name.now)) (F.state store.old).tree t → Told (reads_input (command_named word.now name.now)) (S.rest input.old) bytes → IsAsked (command_named word.now name.now) t d → result ≢ Err (Halt.Stopped Stop.NoMemory) → StepsOf (command_named word.now name.now) t d (lines_of bytes) steps.old steps.new }
     ensures can { can_end (command_named word.now name.now) (status_of result) ≡ true }
     ensures some { (t : Tree) (d : DefinitionOrRefusal) → Told (uses_store (command_named word.now name.now)) (F.state store.old).tree t → IsAsked (command_named word.now name.now) t d → RanSome (course_of (command_named word.now name.now) t d) (world_of (F.state store.old) (K.state output.old)) (world_of (F.state store.new) (K.state output.new)) result }
     ensures took { (t : Tree) (bytes : List ℕ) (d : DefinitionOrRefusal) → Told (uses_store (command_named word.now name.now)) (F.state store.old).tree t → reads_input (command_named word.now name.now) ≡ true → S.rest input.old ≡ Some bytes → IsAsked (command_named word.now name.now) t d → OnErr result (Took (course_of (command_named word.now name.now) t d) bytes (S.rest input.new) (world_of (F.state store.old) (K.state output.old)) (world_of (F.state store.new) (K.state output.new))) }
@@ -104,7 +108,9 @@ fn run_counted<F: Folders, S: Source, K: Sink, L: Ledger>(
 ) -> Result<Verdict, Halt>
     ensures ran { (t : Tree) (bytes : List ℕ) (d : DefinitionOrRefusal) → Told (uses_store (command_counted word.now changes.now seed.now)) (F.state store.old).tree t → Told (reads_input (command_counted word.now changes.now seed.now)) (S.rest input.old) bytes → IsAsked (command_counted word.now changes.now seed.now) t d → RanBy (course_of (command_counted word.now changes.now seed.now) t d) bytes (S.rest input.new) (world_of (F.state store.old) (K.state output.old)) (world_of (F.state store.new) (K.state output.new)) result }
     ensures blames { BlamesRun (S.faults input.old) (S.faults input.new) (world_of (F.state store.old) (K.state output.old)) (world_of (F.state store.new) (K.state output.new)) result }
-    ensures steps { steps.new ≡ steps.old }
+    ensures rises { steps.old ≤ steps.new }
+    ensures steps { counts (command_counted word.now changes.now seed.now) ≡ false → steps.new ≡ steps.old }
+    ensures within { (t : Tree) (bytes : List ℕ) (d : DefinitionOrRefusal) → Told (uses_store (command_counted word.now changes.now seed.now)) (F.state store.old).tree t → Told (reads_input (command_counted word.now changes.now seed.now)) (S.rest input.old) bytes → IsAsked (command_counted word.now changes.now seed.now) t d → result ≢ Err (Halt.Stopped Stop.NoMemory) → StepsOf (command_counted word.now changes.now seed.now) t d (lines_of bytes) steps.old steps.new }
     ensures can { can_end (command_counted word.now changes.now seed.now) (status_of result) ≡ true }
     ensures some { (t : Tree) (d : DefinitionOrRefusal) → Told (uses_store (command_counted word.now changes.now seed.now)) (F.state store.old).tree t → IsAsked (command_counted word.now changes.now seed.now) t d → RanSome (course_of (command_counted word.now changes.now seed.now) t d) (world_of (F.state store.old) (K.state output.old)) (world_of (F.state store.new) (K.state output.new)) result }
     ensures took { (t : Tree) (bytes : List ℕ) (d : DefinitionOrRefusal) → Told (uses_store (command_counted word.now changes.now seed.now)) (F.state store.old).tree t → reads_input (command_counted word.now changes.now seed.now) ≡ true → S.rest input.old ≡ Some bytes → IsAsked (command_counted word.now changes.now seed.now) t d → OnErr result (Took (course_of (command_counted word.now changes.now seed.now) t d) bytes (S.rest input.new) (world_of (F.state store.old) (K.state output.old)) (world_of (F.state store.new) (K.state output.new))) }
@@ -117,7 +123,7 @@ fn run_counted<F: Folders, S: Source, K: Sink, L: Ledger>(
 {
     match counts_asked(word, changes, seed) {
         Some((changes, seed)) => {
-            let verdict = load(alloc, store, output, changes, seed)?;
+            let verdict = load(alloc, store, output, changes, seed, steps)?;
             Ok(verdict)
         }
         None => {
@@ -138,7 +144,9 @@ pub(crate) fn run_words<F: Folders, S: Source, K: Sink, L: Ledger>(
 ) -> Result<Verdict, Halt>
     ensures ran { (t : Tree) (bytes : List ℕ) (d : DefinitionOrRefusal) → Told (uses_store (asked_of words.now)) (F.state store.old).tree t → Told (reads_input (asked_of words.now)) (S.rest input.old) bytes → IsAsked (asked_of words.now) t d → RanBy (course_of (asked_of words.now) t d) bytes (S.rest input.new) (world_of (F.state store.old) (K.state output.old)) (world_of (F.state store.new) (K.state output.new)) result }
     ensures blames { BlamesRun (S.faults input.old) (S.faults input.new) (world_of (F.state store.old) (K.state output.old)) (world_of (F.state store.new) (K.state output.new)) result }
-    ensures steps { steps.new ≡ steps.old }
+    ensures rises { steps.old ≤ steps.new }
+    ensures steps { counts (asked_of words.now) ≡ false → steps.new ≡ steps.old }
+    ensures within { (t : Tree) (bytes : List ℕ) (d : DefinitionOrRefusal) → Told (uses_store (asked_of words.now)) (F.state store.old).tree t → Told (reads_input (asked_of words.now)) (S.rest input.old) bytes → IsAsked (asked_of words.now) t d → result ≢ Err (Halt.Stopped Stop.NoMemory) → StepsOf (asked_of words.now) t d (lines_of bytes) steps.old steps.new }
     ensures can { can_end (asked_of words.now) (status_of result) ≡ true }
     ensures some { (t : Tree) (d : DefinitionOrRefusal) → Told (uses_store (asked_of words.now)) (F.state store.old).tree t → IsAsked (asked_of words.now) t d → RanSome (course_of (asked_of words.now) t d) (world_of (F.state store.old) (K.state output.old)) (world_of (F.state store.new) (K.state output.new)) result }
     ensures took { (t : Tree) (bytes : List ℕ) (d : DefinitionOrRefusal) → Told (uses_store (asked_of words.now)) (F.state store.old).tree t → reads_input (asked_of words.now) ≡ true → S.rest input.old ≡ Some bytes → IsAsked (asked_of words.now) t d → OnErr result (Took (course_of (asked_of words.now) t d) bytes (S.rest input.new) (world_of (F.state store.old) (K.state output.old)) (world_of (F.state store.new) (K.state output.new))) }

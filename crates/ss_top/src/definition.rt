@@ -6,6 +6,7 @@ ghost use Rattle.outside.specs.Tree.{Tree};
 ghost use Rattle.effects.specs.Effects.{Does, world_of};
 ghost use Rattle.effects.specs.Blame.{StoreBlames};
 ghost use Rattle.view_def.specs.Tree.{tree_of};
+ghost use Rattle.view_def.specs.Written.{IsWritten};
 ghost use Rattle.ss_top.specs.Stages;
 ghost use Rattle.ss_top.specs.Stages.{ReadsAs, typed_or_refused};
 ghost use Rattle.ss_top.specs.Opening.{IsDefinition, definition_bytes};
@@ -89,6 +90,7 @@ fn parse_refusal(alloc: Global, fault: &ParseFault) -> Result<Row, NoMemory>
 // What a written view is typed as.
 #[tactic(auto, using(crate::proofs::DefinitionLemmas::has_type, crate::proofs::DefinitionLemmas::has_no_type))]
 fn type_text(alloc: Global, text: Box<ViewText>) -> Result<Understood, NoMemory>
+    requires { IsWritten (tree_of text.value) }
     ensures { IfOk result (λ r. definition_of r ≡ typed_or_refused (tree_of text.value)) }
 {
     match type_view(alloc, &text) {

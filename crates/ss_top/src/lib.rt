@@ -8,6 +8,7 @@ mod command;
 mod definition;
 mod load;
 mod maintain;
+mod meant;
 mod opening;
 mod show;
 mod sources;

@@ -1,17 +1,20 @@
 //! The command `maintain`.
-ghost use Rattle.std.specs.Prelude.{◌≡◌, true, List, ℕ, Some, OnErr};
+ghost use Rattle.std.specs.Prelude.{◌≡◌, ◌≢◌, ◌≤◌, true, List, ℕ, Some, Err, OnErr};
 ghost use Rattle.effects.specs.Effects.{world_of};
 ghost use Rattle.outside.specs.Tree.{Tree};
+ghost use Rattle.tab_lines.specs.Lines.{lines_of};
 ghost use Rattle.course.specs.Answering.{BlamesRun};
 ghost use Rattle.ss_top.specs.Stages.{DefinitionOrRefusal};
 ghost use Rattle.ss_top.specs.Opening.{IsDefinition, definition_bytes, opening};
 ghost use Rattle.ss_top.specs.Answers.{step, finish};
+ghost use Rattle.ss_top.specs.Limits.{StepsBehind};
 ghost use Rattle.ss_top.specs.Commands.{can_maintain};
 ghost use Rattle.ss_top.specs.Steps.{IdleRun};
 ghost use Rattle.ss_top.specs.Course.{RanBy, RanSome, Took, by_lines, status_of, IsWholeInput};
 
 use crate::opening::{Opened, open};
 use course::{Halt, Verdict, answer_lines};
+use effects::Stop;
 use outside::{Folders, Sink, Source};
 use ss_text::{Steps, Text};
 use std::alloc::Global;
@@ -34,10 +37,15 @@ pub(crate) fn maintain<F: Folders, S: Source, K: Sink, L: Ledger>(
     ensures idle { IdleRun result (world_of (F.state store.old) (K.state output.old)) (world_of (F.state store.new) (K.state output.new)) }
     ensures whole { (bytes : List ℕ) → S.rest input.old ≡ Some bytes → IsWholeInput bytes (S.rest input.new) result }
     ensures blames { BlamesRun (S.faults input.old) (S.faults input.new) (world_of (F.state store.old) (K.state output.old)) (world_of (F.state store.new) (K.state output.new)) result }
-    ensures steps { steps.new ≡ steps.old }
+    ensures rises { steps.old ≤ steps.new }
+    ensures within { (t : Tree) (bytes : List ℕ) (d : DefinitionOrRefusal) → (F.state store.old).tree ≡ Some t → S.rest input.old ≡ Some bytes → IsDefinition name.now (definition_bytes t name.now) d → result ≢ Err (Halt.Stopped Stop.NoMemory) → StepsBehind (opening t d) (lines_of bytes) steps.old steps.new }
 {
-    match open(alloc, store, output, name)? {
-        Opened::Open(mut view) => answer_lines(alloc, &mut view, store, input, output, steps),
+    match open(alloc, store, output, name, steps)? {
+        Opened::Open(mut view) => {
+            let ending = answer_lines(alloc, &mut view, store, input, output, steps);
+            drop(view);
+            ending
+        }
         Opened::Ended(verdict) => Ok(verdict),
     }
 }

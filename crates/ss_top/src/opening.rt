@@ -1,5 +1,5 @@
 //! Opens a view.
-ghost use Rattle.std.specs.Prelude.{◌≡◌, ◌∷◌, [], List, Some, IfOk};
+ghost use Rattle.std.specs.Prelude.{◌≡◌, ◌≢◌, ◌≤◌, ◌∷◌, [], List, Some, Err, IfOk, OnOk};
 ghost use Rattle.effects.specs.Effects.{world_of};
 ghost use Rattle.outside.specs.Tree.{Tree};
 ghost use Rattle.effects.specs.Blame.{Blames};
@@ -19,8 +19,9 @@ use outside::{Folders, Sink};
 use run_lines::refuse;
 use schema_model::Catalogue;
 use ss_print::{clash_fields, illegal_fields};
-use ss_text::{NoMemory, Row, Text};
+use ss_text::{NoMemory, Row, Steps, Text};
 use std::alloc::Global;
+use std::sync::ledger::Ledger;
 use view_session::{OpenFault, Session};
 
 /// What an opening gives: an open view, or the end of the run.
@@ -39,16 +40,19 @@ pub(crate) enum Viewing {
 
 // Opens the view of this name: reads what it stands on, writes its folder and prints that it did.
 #[tactic(auto, using(effects::proofs::Following::following, crate::proofs::OpeningLemmas::nothing_opened, outside::proofs::ReadingLemmas::only_read_then, outside::proofs::ReadingLemmas::only_read_nothing, crate::proofs::IdleLemmas::idle_read, crate::proofs::IdleLemmas::idle_print, crate::proofs::IdleLemmas::idle_later))]
-pub(crate) fn open<F: Folders, K: Sink>(
+pub(crate) fn open<F: Folders, K: Sink, L: Ledger>(
     alloc: Global,
     store: &mut F,
     output: &mut K,
     name: &Text,
+    steps: &mut Steps<L>,
 ) -> Result<Opened, Stop>
     ensures opens { (t : Tree) (d : DefinitionOrRefusal) → (F.state store.old).tree ≡ Some t → IsDefinition name.now (definition_bytes t name.now) d → Opens (opening t d) (world_of (F.state store.old) (K.state output.old)) (world_of (F.state store.new) (K.state output.new)) result }
     ensures refused { IfOk result IsRefusal }
     ensures idle { IdleUnread result (world_of (F.state store.old) (K.state output.old)) (world_of (F.state store.new) (K.state output.new)) }
     ensures blames { Blames (world_of (F.state store.old) (K.state output.old)) (world_of (F.state store.new) (K.state output.new)) result }
+    ensures rises { steps.old ≤ steps.new }
+    ensures steps { result ≢ Err Stop.NoMemory → steps.new ≡ steps.old }
 {
     match read_definition(alloc, store, name)? {
         Understood::Refused(fields) => {
@@ -56,7 +60,7 @@ pub(crate) fn open<F: Folders, K: Sink>(
             Ok(Opened::Ended(Verdict::BadDefinition))
         }
         Understood::Accepted(definition) => {
-            let opened = open_view(alloc, store, output, definition)?;
+            let opened = open_view(alloc, store, output, definition, steps)?;
             Ok(opened)
         }
     }
@@ -64,16 +68,19 @@ pub(crate) fn open<F: Folders, K: Sink>(
 
 // Opens a view over the source relations.
 #[tactic(auto, using(effects::proofs::Following::following, crate::proofs::OpeningLemmas::nothing_opened, outside::proofs::ReadingLemmas::only_read_then, outside::proofs::ReadingLemmas::only_read_nothing, crate::proofs::IdleLemmas::idle_read, crate::proofs::IdleLemmas::idle_print, crate::proofs::IdleLemmas::idle_later))]
-fn open_view<F: Folders, K: Sink>(
+fn open_view<F: Folders, K: Sink, L: Ledger>(
     alloc: Global,
     store: &mut F,
     output: &mut K,
     definition: accepted::Definition,
+    steps: &mut Steps<L>,
 ) -> Result<Opened, Stop>
     ensures opens { (t : Tree) → (F.state store.old).tree ≡ Some t → Opens (with_catalogue t (query_of definition.view.value) (loaded_or_refused t)) (world_of (F.state store.old) (K.state output.old)) (world_of (F.state store.new) (K.state output.new)) result }
     ensures refused { IfOk result IsRefusal }
     ensures idle { IdleUnread result (world_of (F.state store.old) (K.state output.old)) (world_of (F.state store.new) (K.state output.new)) }
     ensures blames { Blames (world_of (F.state store.old) (K.state output.old)) (world_of (F.state store.new) (K.state output.new)) result }
+    ensures rises { steps.old ≤ steps.new }
+    ensures steps { result ≢ Err Stop.NoMemory → steps.new ≡ steps.old }
 {
     match load_sources(alloc, store)? {
         Loading::Refused(fields) => {
@@ -81,7 +88,7 @@ fn open_view<F: Folders, K: Sink>(
             Ok(Opened::Ended(Verdict::BadCatalogue))
         }
         Loading::Catalogue(catalogue) => {
-            let opened = open_session(alloc, store, output, definition, catalogue)?;
+            let opened = open_session(alloc, store, output, definition, catalogue, steps)?;
             Ok(opened)
         }
     }
@@ -89,41 +96,50 @@ fn open_view<F: Folders, K: Sink>(
 
 // Opens a view over a catalogue.
 #[tactic(auto, using(effects::proofs::Following::following, crate::proofs::OpeningLemmas::nothing_opened, outside::proofs::ReadingLemmas::only_read_then, outside::proofs::ReadingLemmas::only_read_nothing, crate::proofs::IdleLemmas::idle_read, crate::proofs::IdleLemmas::idle_print, crate::proofs::IdleLemmas::idle_later))]
-fn open_session<F: Folders, K: Sink>(
+fn open_session<F: Folders, K: Sink, L: Ledger>(
     alloc: Global,
     store: &mut F,
     output: &mut K,
     definition: accepted::Definition,
     catalogue: Catalogue,
+    steps: &mut Steps<L>,
 ) -> Result<Opened, Stop>
     ensures opens { (t : Tree) → (F.state store.old).tree ≡ Some t → Opens (with_view t (query_of definition.view.value) catalogue.databases (refusal_of catalogue.databases (query_of definition.view.value))) (world_of (F.state store.old) (K.state output.old)) (world_of (F.state store.new) (K.state output.new)) result }
     ensures refused { IfOk result IsRefusal }
     ensures idle { IdleUnread result (world_of (F.state store.old) (K.state output.old)) (world_of (F.state store.new) (K.state output.new)) }
     ensures blames { Blames (world_of (F.state store.old) (K.state output.old)) (world_of (F.state store.new) (K.state output.new)) result }
+    ensures rises { steps.old ≤ steps.new }
+    ensures steps { result ≢ Err Stop.NoMemory → steps.new ≡ steps.old }
 {
-    match view_over(alloc, definition, catalogue)? {
+    match view_over(alloc, definition, catalogue, steps)? {
         Viewing::Refused(fields) => {
             refuse(alloc, output, &fields)?;
             Ok(Opened::Ended(Verdict::NoView))
         }
-        Viewing::View(view) => {
-            view.fill_folder(alloc, store, output)?;
-            Ok(Opened::Open(view))
-        }
+        Viewing::View(view) => match view.fill_folder(alloc, store, output) {
+            Ok(()) => Ok(Opened::Open(view)),
+            Err(stop) => {
+                drop(view);
+                Err(stop)
+            }
+        },
     }
 }
 
 // A view over a catalogue, whose folder is not synced yet.
 #[tactic(auto, using(crate::proofs::StageLemmas::not_refused, crate::proofs::AnswerLemmas::refused_views))]
-fn view_over(
+fn view_over<L: Ledger>(
     alloc: Global,
     definition: accepted::Definition,
     catalogue: Catalogue,
+    steps: &mut Steps<L>,
 ) -> Result<Viewing, NoMemory>
-    ensures { IfOk result (λ r. Views r (query_of definition.view.value) catalogue.databases (refusal_of catalogue.databases (query_of definition.view.value))) }
+    ensures views { IfOk result (λ r. Views r (query_of definition.view.value) catalogue.databases (refusal_of catalogue.databases (query_of definition.view.value))) }
+    ensures rises { steps.old ≤ steps.new }
+    ensures steps { OnOk result (steps.new ≡ steps.old) }
 {
     let view_db = definition.view.view_db.copy()?;
-    match Session::open(alloc, catalogue, definition.view) {
+    match Session::open(alloc, catalogue, definition.view, steps) {
         Ok(session) => {
             let view = OpenView::of(alloc, session, view_db)?;
             Ok(Viewing::View(view))

@@ -1,24 +1,27 @@
 //! The command `show`.
 ghost use Rattle.std.specs.Prelude.{◌≡◌, true, Some, IfOk};
-ghost use Rattle.effects.specs.Effects.{world_of};
-ghost use Rattle.outside.specs.Tree.{Tree};
+ghost use Rattle.effects.specs.Effects.{Does, world_of};
+ghost use Rattle.outside.specs.Tree.{Tree, files_of};
 ghost use Rattle.effects.specs.Blame.{Blames};
+ghost use Rattle.view_folder.specs.Files.{view_folder, AreViewFiles};
 ghost use Rattle.course.specs.Answering.{Ended, ending};
 ghost use Rattle.ss_top.specs.Stages.{DefinitionOrRefusal};
-ghost use Rattle.ss_top.specs.Opening.{IsDefinition, definition_bytes, opening, done_at_once};
+ghost use Rattle.ss_top.specs.Opening.{IsDefinition, definition_bytes, opening, opening_effects, done_at_once};
 ghost use Rattle.ss_top.specs.Commands.{can_show};
 ghost use Rattle.ss_top.specs.Course.{verdict_status};
-ghost use Rattle.ss_top.specs.Steps.{IdleUnread, verdict_of};
+ghost use Rattle.ss_top.specs.Steps.{IdleUnread};
 
-use crate::opening::{Opened, open};
+use crate::meant::{Meant, meant_files};
 use course::Verdict;
 use effects::Stop;
 use outside::{Folders, Sink};
+use run_lines::{print_synced, refuse};
 use ss_text::Text;
 use std::alloc::Global;
+use view_folder::{File, folder_of_view, sync_files};
 
-// Opens the view, and that is all.
-#[tactic(auto, using(crate::proofs::RunLemmas::shown, crate::proofs::RunLemmas::shown_can, crate::proofs::RunLemmas::shown_stops))]
+// Fills the folder of the view of this name with its files.
+#[tactic(auto, using(effects::proofs::Following::following, outside::proofs::ReadingLemmas::only_read_then, outside::proofs::ReadingLemmas::only_read_nothing, crate::proofs::IdleLemmas::idle_read, crate::proofs::IdleLemmas::idle_print, crate::proofs::IdleLemmas::idle_later, crate::proofs::IdleLemmas::refused_can_show, crate::proofs::VerifyLemmas::nothing_ended))]
 pub(crate) fn show<F: Folders, K: Sink>(
     alloc: Global,
     store: &mut F,
@@ -30,18 +33,34 @@ pub(crate) fn show<F: Folders, K: Sink>(
     ensures idle { IdleUnread result (world_of (F.state store.old) (K.state output.old)) (world_of (F.state store.new) (K.state output.new)) }
     ensures blames { Blames (world_of (F.state store.old) (K.state output.old)) (world_of (F.state store.new) (K.state output.new)) result }
 {
-    let opened = open(alloc, store, output, name)?;
-    let verdict = verdict_of(&opened);
-    drop(opened);
-    Ok(verdict)
+    match meant_files(alloc, store, name)? {
+        Meant::Refused(fields, verdict) => {
+            refuse(alloc, output, &fields)?;
+            Ok(verdict)
+        }
+        Meant::Files(view_db, files) => {
+            fill_folder(alloc, store, output, &view_db, &files)?;
+            Ok(Verdict::Done)
+        }
+    }
 }
 
-// How a run ends that opens the view and does no more.
-fn verdict_of(opened: &Opened) -> Verdict
-    ensures { result ≡ verdict_of opened.now }
+// Brings the folder of a view to exactly its files, and prints how many were written or removed.
+#[tactic(auto, using(effects::proofs::Following::following, effects::proofs::EffectLemmas::partly_more, effects::proofs::EffectLemmas::partly_later, effects::proofs::EffectLemmas::performed_append, crate::proofs::IdleLemmas::idle_first, crate::proofs::IdleLemmas::idle_print))]
+fn fill_folder<F: Folders, K: Sink>(
+    alloc: Global,
+    store: &mut F,
+    output: &mut K,
+    view_db: &Text,
+    files: &[File],
+) -> Result<(), Stop>
+    requires { AreViewFiles files.now }
+    ensures does { (t : Tree) → (F.state store.old).tree ≡ Some t → Does (opening_effects (view_folder view_db.now) files.now (files_of t (view_folder view_db.now))) (world_of (F.state store.old) (K.state output.old)) (world_of (F.state store.new) (K.state output.new)) result }
+    ensures idle { IdleUnread result (world_of (F.state store.old) (K.state output.old)) (world_of (F.state store.new) (K.state output.new)) }
+    ensures blames { Blames (world_of (F.state store.old) (K.state output.old)) (world_of (F.state store.new) (K.state output.new)) result }
 {
-    match opened {
-        Opened::Open(_) => Verdict::Done,
-        Opened::Ended(verdict) => *verdict,
-    }
+    let folder = folder_of_view(alloc, view_db)?;
+    let count = sync_files(alloc, store, &folder, files)?;
+    print_synced(alloc, output, count)?;
+    Ok(())
 }

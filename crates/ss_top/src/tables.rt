@@ -2,7 +2,7 @@
 ghost use Rattle.std.specs.Prelude.{IfOk};
 ghost use Rattle.view_def.specs.Query.{query_of};
 ghost use Rattle.ss_top.specs.Stages.{refusal_of, files_of_view};
-ghost use Rattle.ss_top.specs.Steps.{Shows};
+ghost use Rattle.ss_top.specs.Steps.{Shows, AreNamed};
 ghost use Rattle.ss_top.specs.Records.{HasRecords};
 
 use schema_model::Catalogue;
@@ -28,7 +28,8 @@ pub(crate) fn show_tables(
     view: &View,
 ) -> Result<Showing, NoMemory>
     requires { HasRecords (query_of view.now) }
-    ensures { IfOk result (λ r. Shows r (refusal_of catalogue.now.databases (query_of view.now)) (files_of_view catalogue.now.databases (query_of view.now))) }
+    ensures shows { IfOk result (λ r. Shows r (refusal_of catalogue.now.databases (query_of view.now)) (files_of_view catalogue.now.databases (query_of view.now))) }
+    ensures named { IfOk result AreNamed }
 {
     match evaluate(alloc, catalogue, view) {
         Ok(tables) => {

@@ -1,16 +1,16 @@
 //! The top call.
-ghost use Rattle.std.specs.Prelude.{◌≡◌, true, false};
+ghost use Rattle.std.specs.Prelude.{◌≡◌, ◌≤◌, true, false};
 ghost use Rattle.outside.specs.Reading.{OnlyRead};
 ghost use Rattle.outside.specs.Tree.{Tree};
 ghost use Rattle.effects.specs.Effects.{world_of};
 ghost use Rattle.schema_model.specs.Catalogue.{CatalogueValue};
 ghost use Rattle.valuation_meaning.specs.Meaning.{meaning};
 ghost use Rattle.view_session.specs.Session.{SessionState, tables_of, lines_to};
-ghost use Rattle.ss_top.specs.Commands.{asked_of, uses_store, only_reads, reads_input, can_end};
+ghost use Rattle.ss_top.specs.Commands.{asked_of, uses_store, only_reads, reads_input, counts, can_end};
 ghost use Rattle.ss_top.specs.Course.{Cause};
 ghost use Rattle.ss_top.specs.Runs.{IsDefined};
 ghost use Rattle.ss_top.specs.Promises.{Takes};
-ghost use Rattle.ss_top.specs.Clauses.{DoesCourse, IsComplete, Checks, Shows, Maintains, StopsAtSync, Verifies, TellsDifference, Applies, AppliesNothing, Loads, ReadsWhole, KeepsAll, KeepsOthers, LeavesBetween, TakesLittle};
+ghost use Rattle.ss_top.specs.Clauses.{DoesCourse, IsComplete, Checks, Shows, Maintains, StopsAtSync, Verifies, TellsDifference, Applies, AppliesNothing, Loads, ReadsWhole, KeepsAll, KeepsOthers, LeavesBetween, TakesLittle, TakesSteps};
 
 use crate::Status;
 use crate::command::run_words;
@@ -25,7 +25,12 @@ use std::sync::ledger::Ledger;
 ///
 /// The status says which kind of end it was. After a fault the output holds a front of the answers, and each file and
 /// each folder is as the sync under way found it or as it leaves it, but for the one that was being written, made or
-/// removed. No step is counted.
+/// removed.
+///
+/// Steps are counted by `maintain` and `load` alone. Where memory does not lack, over input whose changes are inserts
+/// and deletes outside groups, `maintain` takes no more of them than the sum, over the changes that the catalogue does
+/// not refuse, of four for each combination of flat rows that the changed row is part of and four for each such flat
+/// row.
 #[tactic(auto, using(crate::proofs::RunLemmas::by_status, crate::proofs::RunLemmas::by_cause))]
 pub fn run<F: Folders, S: Source, K: Sink, L: Ledger>(
     alloc: Global,
@@ -58,7 +63,7 @@ pub fn run<F: Folders, S: Source, K: Sink, L: Ledger>(
     ensures loaded { Loads words.now (world_of (F.state store.old) (K.state output.old)) (world_of (F.state store.new) (K.state output.new)) result }
     ensures whole { ReadsWhole words.now (S.rest input.old) (S.rest input.new) result }
 
-    // What stays, and what is taken of the input.
+    // What stays, what is taken of the input, and how many steps are taken.
     ensures unchanged { KeepsAll words.now (world_of (F.state store.old) (K.state output.old)) (world_of (F.state store.new) (K.state output.new)) result }
     ensures others { KeepsOthers words.now (S.rest input.old) (world_of (F.state store.old) (K.state output.old)) (world_of (F.state store.new) (K.state output.new)) }
     ensures between { LeavesBetween words.now (S.rest input.old) (world_of (F.state store.old) (K.state output.old)) (world_of (F.state store.new) (K.state output.new)) }
@@ -67,7 +72,9 @@ pub fn run<F: Folders, S: Source, K: Sink, L: Ledger>(
     ensures store { uses_store (asked_of words.now) ≡ false → F.state store.new ≡ F.state store.old }
     ensures rest { reads_input (asked_of words.now) ≡ false → S.rest input.new ≡ S.rest input.old }
     ensures faults { reads_input (asked_of words.now) ≡ false → S.faults input.new ≡ S.faults input.old }
-    ensures steps { steps.new ≡ steps.old }
+    ensures rises { steps.old ≤ steps.new }
+    ensures steps { counts (asked_of words.now) ≡ false → steps.new ≡ steps.old }
+    ensures within { TakesSteps words.now (S.rest input.old) (world_of (F.state store.old) (K.state output.old)) steps.old steps.new result }
 {
     let ending = run_words(alloc, words, store, input, output, steps);
     status_of_ending(ending)

@@ -4,33 +4,27 @@ ghost use Rattle.effects.specs.Effects.{world_of};
 ghost use Rattle.outside.specs.Reading.{OnlyRead};
 ghost use Rattle.outside.specs.Tree.{Tree};
 ghost use Rattle.effects.specs.Blame.{Blames, SinkBlames};
-ghost use Rattle.view_def.specs.Query.{query_of};
 ghost use Rattle.view_folder.specs.Comparison.{comparison};
 ghost use Rattle.view_folder.specs.Files.{view_folder};
 ghost use Rattle.course.specs.Answering.{Ended};
-ghost use Rattle.ss_top.specs.Stages.{DefinitionOrRefusal, loaded_or_refused, refusal_of};
+ghost use Rattle.ss_top.specs.Stages.{DefinitionOrRefusal};
 ghost use Rattle.ss_top.specs.Opening.{IsDefinition, definition_bytes};
-ghost use Rattle.ss_top.specs.Records.{HasRecords};
 ghost use Rattle.ss_top.specs.Commands.{can_show};
 ghost use Rattle.ss_top.specs.Course.{verdict_status};
 ghost use Rattle.ss_top.specs.Steps.{IdleUnread};
-ghost use Rattle.ss_top.specs.Verifying.{by_comparison, verified, verified_over, verified_view};
+ghost use Rattle.ss_top.specs.Verifying.{by_comparison, verified};
 
-use crate::definition::{Understood, read_definition};
-use crate::sources::{Loading, load_sources};
-use crate::tables::{Showing, show_tables};
+use crate::meant::{Meant, meant_files};
 use course::Verdict;
 use effects::Stop;
 use outside::{Folders, Sink};
 use run_lines::{print_difference, print_same, refuse};
-use schema_model::Catalogue;
 use ss_text::Text;
 use std::alloc::Global;
-use view_def::View;
 use view_folder::{Comparison, File, compare, folder_of_view};
 
 // Compares the folder of the view of this name with the files that are meant.
-#[tactic(auto, using(effects::proofs::Following::following, outside::proofs::ReadingLemmas::only_read_then, outside::proofs::ReadingLemmas::only_read_nothing, crate::proofs::IdleLemmas::idle_read, crate::proofs::IdleLemmas::idle_print, crate::proofs::IdleLemmas::idle_later))]
+#[tactic(auto, using(effects::proofs::Following::following, outside::proofs::ReadingLemmas::only_read_then, outside::proofs::ReadingLemmas::only_read_nothing, crate::proofs::IdleLemmas::idle_read, crate::proofs::IdleLemmas::idle_print, crate::proofs::IdleLemmas::idle_later, crate::proofs::IdleLemmas::refused_can_show, crate::proofs::VerifyLemmas::nothing_ended))]
 pub(crate) fn verify<F: Folders, K: Sink>(
     alloc: Global,
     store: &mut F,
@@ -43,68 +37,13 @@ pub(crate) fn verify<F: Folders, K: Sink>(
     ensures only_read { OnlyRead (F.state store.old) (F.state store.new) }
     ensures blames { Blames (world_of (F.state store.old) (K.state output.old)) (world_of (F.state store.new) (K.state output.new)) result }
 {
-    match read_definition(alloc, store, name)? {
-        Understood::Refused(fields) => {
+    match meant_files(alloc, store, name)? {
+        Meant::Refused(fields, verdict) => {
             refuse(alloc, output, &fields)?;
-            Ok(Verdict::BadDefinition)
-        }
-        Understood::Accepted(definition) => {
-            let verdict = verify_view(alloc, store, output, &definition.view)?;
             Ok(verdict)
         }
-    }
-}
-
-// Compares the folder of a view.
-#[tactic(auto, using(effects::proofs::Following::following, outside::proofs::ReadingLemmas::only_read_then, outside::proofs::ReadingLemmas::only_read_nothing, crate::proofs::IdleLemmas::idle_read, crate::proofs::IdleLemmas::idle_print, crate::proofs::IdleLemmas::idle_later))]
-fn verify_view<F: Folders, K: Sink>(
-    alloc: Global,
-    store: &mut F,
-    output: &mut K,
-    view: &View,
-) -> Result<Verdict, Stop>
-    requires { HasRecords (query_of view.now) }
-    ensures ended { (t : Tree) → (F.state store.old).tree ≡ Some t → Ended (verified_over t (query_of view.now) (loaded_or_refused t)) (world_of (F.state store.old) (K.state output.old)) (world_of (F.state store.new) (K.state output.new)) result }
-    ensures can { IfOk result (λ v. can_show (verdict_status v) ≡ true) }
-    ensures idle { IdleUnread result (world_of (F.state store.old) (K.state output.old)) (world_of (F.state store.new) (K.state output.new)) }
-    ensures only_read { OnlyRead (F.state store.old) (F.state store.new) }
-    ensures blames { Blames (world_of (F.state store.old) (K.state output.old)) (world_of (F.state store.new) (K.state output.new)) result }
-{
-    match load_sources(alloc, store)? {
-        Loading::Refused(fields) => {
-            refuse(alloc, output, &fields)?;
-            Ok(Verdict::BadCatalogue)
-        }
-        Loading::Catalogue(catalogue) => {
-            let verdict = verify_over(alloc, store, output, view, &catalogue)?;
-            Ok(verdict)
-        }
-    }
-}
-
-// Compares the folder of a view with its files over a catalogue.
-#[tactic(auto, using(effects::proofs::Following::following, outside::proofs::ReadingLemmas::only_read_then, outside::proofs::ReadingLemmas::only_read_nothing, crate::proofs::IdleLemmas::idle_read, crate::proofs::IdleLemmas::idle_print, crate::proofs::IdleLemmas::idle_later))]
-fn verify_over<F: Folders, K: Sink>(
-    alloc: Global,
-    store: &mut F,
-    output: &mut K,
-    view: &View,
-    catalogue: &Catalogue,
-) -> Result<Verdict, Stop>
-    requires { HasRecords (query_of view.now) }
-    ensures ended { (t : Tree) → (F.state store.old).tree ≡ Some t → Ended (verified_view t (query_of view.now) catalogue.now.databases (refusal_of catalogue.now.databases (query_of view.now))) (world_of (F.state store.old) (K.state output.old)) (world_of (F.state store.new) (K.state output.new)) result }
-    ensures can { IfOk result (λ v. can_show (verdict_status v) ≡ true) }
-    ensures idle { IdleUnread result (world_of (F.state store.old) (K.state output.old)) (world_of (F.state store.new) (K.state output.new)) }
-    ensures only_read { OnlyRead (F.state store.old) (F.state store.new) }
-    ensures blames { Blames (world_of (F.state store.old) (K.state output.old)) (world_of (F.state store.new) (K.state output.new)) result }
-{
-    match show_tables(alloc, catalogue, view)? {
-        Showing::Refused(fields) => {
-            refuse(alloc, output, &fields)?;
-            Ok(Verdict::NoView)
-        }
-        Showing::Files(files) => {
-            let verdict = compare_folder(alloc, store, output, &view.view_db, &files)?;
+        Meant::Files(view_db, files) => {
+            let verdict = compare_folder(alloc, store, output, &view_db, &files)?;
             Ok(verdict)
         }
     }

@@ -1,5 +1,5 @@
 //! An opened view, and its answers.
-ghost use Rattle.std.specs.Prelude.{◌≡◌, ◌≢◌, ◌||◌, ◌∷◌, ◌++◌, [], map, filter, length, false, None, Some, IfOk, IfErr, OnOk, IsTrue};
+ghost use Rattle.std.specs.Prelude.{◌≡◌, ◌≢◌, ◌≤◌, ◌||◌, ◌∷◌, ◌++◌, [], map, filter, length, false, None, Some, Err, IfOk, IfErr, OnOk, IsTrue};
 ghost use Rattle.std.specs.List.{list_any};
 ghost use Rattle.std.specs.List.Sorted.{IsStrictlySortedBy};
 ghost use Rattle.ss_text.specs.Texts.{is_in, text_cmp};
@@ -14,6 +14,7 @@ ghost use Rattle.valuation_meaning.specs.Meaning.{shape_of};
 ghost use Rattle.view_folder.specs.Files.{view_folder};
 ghost use Rattle.view_folder.specs.Sync.{later_sync};
 ghost use Rattle.view_session.specs.Session.{tables_of, working};
+ghost use Rattle.view_session.specs.Limits as session_limit;
 ghost use Rattle.kept_sources.specs.Synced.{saving};
 ghost use Rattle.course.specs.Answering.{Answered, Ended};
 ghost use Rattle.ss_print.specs.Fields.{first_field, line_fields};
@@ -24,13 +25,14 @@ ghost use Rattle.ss_top.specs.Opening.{opening_effects};
 ghost use Rattle.ss_top.specs.Stages.{files_of_view};
 ghost use Rattle.ss_top.specs.Steps.{IsFieldsOf, IdleUnread};
 ghost use Rattle.ss_top.specs.Records.{HasRecords};
+ghost use Rattle.ss_top.specs.Limits as limits;
+ghost use Rattle.ss_top.specs.Limits.{IsWithin};
 ghost use Rattle.ss_top.specs.Answers.{step, finish, answer, by_row, by_change, by_fault, in_group, more_broken, refusing, syncing, sync_effects, view_effects, sync_count, end_view};
 
 use crate::word::word_of;
 use course::{LineHandler, Verdict};
 use csv_catalog::save_changed;
 use effects::Stop;
-use flow_law::Tables;
 use outside::{Folders, Sink};
 use run_lines::{print_script, print_synced, refuse};
 use schema_model::{Change, ChangeFault};
@@ -77,18 +79,6 @@ impl Model for OpenView {
     } };
 }
 
-// The labels of tables, ascending.
-fn labels_of(alloc: Global, tables: &Tables) -> Result<Vec<Text>, NoMemory>
-    ensures labels { IfOk result (λ labels. labels.items ≡ labels_of tables.now) }
-    ensures ascend { IfOk result (λ labels. IsStrictlySortedBy text_cmp labels.items) }
-{
-    let mut labels = Vec::with_capacity(alloc, tables.count())?;
-    for place in 0..tables.count() {
-        labels.push(tables.label(place).copy()?)?;
-    }
-    Ok(labels)
-}
-
 impl OpenView {
     ghost use Rattle.std.specs.Prelude.{◌≡◌, IfOk};
     ghost use Rattle.view_session.specs.Session.{SessionState, opened};
@@ -101,14 +91,19 @@ impl OpenView {
         requires records { HasRecords session.query }
         ensures { IfOk result (λ view. view ≡ just_opened session.query session.catalogue) }
     {
-        let synced = labels_of(alloc, session.tables())?;
-        Ok(OpenView {
-            session,
-            view_db,
-            synced,
-            some_refused: false,
-            broken: 0,
-        })
+        match session.tables().labels(alloc) {
+            Ok(synced) => Ok(OpenView {
+                session,
+                view_db,
+                synced,
+                some_refused: false,
+                broken: 0,
+            }),
+            Err(lack) => {
+                drop(session);
+                Err(lack)
+            }
+        }
     }
 
     // Writes the folder of a view that was just opened, and prints that it did.
@@ -293,7 +288,7 @@ impl OpenView {
         ensures no_read { IfErr result (λ e. e ≢ Stop.ReadFault) }
         ensures blames { Blames (world_of (F.state store.old) (K.state output.old)) (world_of (F.state store.new) (K.state output.new)) result }
     {
-        let synced = labels_of(alloc, self.session.tables())?;
+        let synced = self.session.tables().labels(alloc)?;
         self.write_changed(alloc, store, output)?;
         self.session.clear_changed();
         self.synced = synced;
@@ -302,14 +297,22 @@ impl OpenView {
 
     // Answers a change where no group is open.
     #[tactic(auto, using(effects::proofs::Following::following, crate::proofs::IdleLemmas::sink_no_read, crate::proofs::AnswerLemmas::accepted_view, crate::proofs::AnswerLemmas::refused_view))]
-    fn apply<K: Sink>(&mut self, alloc: Global, output: &mut K, change: &Change) -> Result<(), Stop>
+    fn apply<K: Sink, L: Ledger>(
+        &mut self,
+        alloc: Global,
+        output: &mut K,
+        change: &Change,
+        steps: &mut Steps<L>,
+    ) -> Result<(), Stop>
         requires well_formed { IsTrue (is_well_formed change.now) }
         requires idle { self.old.session.held ≡ None }
         ensures does { (s : _) → Does (by_fault self.old change.now (fault (working self.old.session) change.now)).effects (world_of s (K.state output.old)) (world_of s (K.state output.new)) result }
         ensures view { OnOk result (self.new ≡ (by_fault self.old change.now (fault (working self.old.session) change.now)).view) }
         ensures blames { SinkBlames (K.state output.old) (K.state output.new) result }
+        ensures rises { steps.old ≤ steps.new }
+        ensures within { result ≢ Err Stop.NoMemory → IsWithin (session_limit.limit_of self.old.session change.now) steps.old steps.new }
     {
-        match self.session.apply(alloc, change) {
+        match self.session.apply(alloc, change, steps) {
             Ok(script) => print_script(alloc, output, &script),
             Err(refused) => {
                 let fields = refused_fields(alloc, change, &refused)?;
@@ -320,33 +323,44 @@ impl OpenView {
 
     // Answers a change.
     #[tactic(auto, using(crate::proofs::ViewLemmas::none_open))]
-    fn change<K: Sink>(
+    fn change<K: Sink, L: Ledger>(
         &mut self,
         alloc: Global,
         output: &mut K,
         change: &Change,
+        steps: &mut Steps<L>,
     ) -> Result<(), Stop>
         requires { IsTrue (is_well_formed change.now) }
         ensures does { (s : _) → Does (by_fault self.old change.now (fault (working self.old.session) change.now)).effects (world_of s (K.state output.old)) (world_of s (K.state output.new)) result }
         ensures view { OnOk result (self.new ≡ (by_fault self.old change.now (fault (working self.old.session) change.now)).view) }
         ensures blames { SinkBlames (K.state output.old) (K.state output.new) result }
+        ensures rises { steps.old ≤ steps.new }
+        ensures within { result ≢ Err Stop.NoMemory → IsWithin (limits.limit_of_change self.old change.now) steps.old steps.new }
     {
         if self.in_group() {
             self.hold(alloc, output, change)
         } else {
-            self.apply(alloc, output, change)
+            self.apply(alloc, output, change, steps)
         }
     }
 
     // Answers a line that begins with no word that stands alone.
     #[tactic(auto, using(effects::proofs::Following::following, crate::proofs::IdleLemmas::sink_no_read, crate::proofs::AnswerLemmas::unread_view))]
-    fn change_line<K: Sink>(&mut self, alloc: Global, output: &mut K, row: &Row) -> Result<(), Stop>
+    fn change_line<K: Sink, L: Ledger>(
+        &mut self,
+        alloc: Global,
+        output: &mut K,
+        row: &Row,
+        steps: &mut Steps<L>,
+    ) -> Result<(), Stop>
         ensures does { (s : _) → Does (by_change self.old row.now (change_of row.now)).effects (world_of s (K.state output.old)) (world_of s (K.state output.new)) result }
         ensures view { OnOk result (self.new ≡ (by_change self.old row.now (change_of row.now)).view) }
         ensures blames { SinkBlames (K.state output.old) (K.state output.new) result }
+        ensures rises { steps.old ≤ steps.new }
+        ensures within { result ≢ Err Stop.NoMemory → IsWithin (limits.by_change self.old (change_of row.now)) steps.old steps.new }
     {
         match Change::read(alloc, row) {
-            Ok(change) => self.change(alloc, output, &change),
+            Ok(change) => self.change(alloc, output, &change, steps),
             Err(fault) => {
                 let fields = line_refusal(alloc, row, fault)?;
                 self.refuse(alloc, output, &fields)
@@ -356,41 +370,47 @@ impl OpenView {
 
     // Answers the row of a line.
     #[tactic(auto, using(effects::proofs::Following::following, crate::proofs::IdleLemmas::sink_no_read, crate::proofs::AnswerLemmas::words_does))]
-    fn row<F: Folders, K: Sink>(
+    fn row<F: Folders, K: Sink, L: Ledger>(
         &mut self,
         alloc: Global,
         store: &mut F,
         output: &mut K,
         row: &Row,
+        steps: &mut Steps<L>,
     ) -> Result<(), Stop>
         ensures does { Does (by_row self.old row.now).effects (world_of (F.state store.old) (K.state output.old)) (world_of (F.state store.new) (K.state output.new)) result }
         ensures view { OnOk result (self.new ≡ (by_row self.old row.now).view) }
         ensures no_read { IfErr result (λ e. e ≢ Stop.ReadFault) }
         ensures blames { Blames (world_of (F.state store.old) (K.state output.old)) (world_of (F.state store.new) (K.state output.new)) result }
+        ensures rises { steps.old ≤ steps.new }
+        ensures within { result ≢ Err Stop.NoMemory → IsWithin (limits.by_row self.old row.now) steps.old steps.new }
     {
         match word_of(row) {
-            Some(word) => self.word_line(alloc, store, output, row, word),
-            None => self.change_line(alloc, output, row),
+            Some(word) => self.word_line(alloc, store, output, row, word, steps),
+            None => self.change_line(alloc, output, row, steps),
         }
     }
 
     // Answers a line.
     #[tactic(auto, using(effects::proofs::Following::following, crate::proofs::IdleLemmas::sink_no_read, crate::proofs::AnswerLemmas::spelled_does, crate::proofs::AnswerLemmas::unspelled_does))]
-    fn answer<F: Folders, K: Sink>(
+    fn answer<F: Folders, K: Sink, L: Ledger>(
         &mut self,
         alloc: Global,
         store: &mut F,
         output: &mut K,
         line: &[u8],
+        steps: &mut Steps<L>,
     ) -> Result<(), Stop>
         requires { has_feed line.now ≡ false }
         ensures does { Does (answer self.old line.now).effects (world_of (F.state store.old) (K.state output.old)) (world_of (F.state store.new) (K.state output.new)) result }
         ensures view { OnOk result (self.new ≡ (answer self.old line.now).view) }
         ensures no_read { IfErr result (λ e. e ≢ Stop.ReadFault) }
         ensures blames { Blames (world_of (F.state store.old) (K.state output.old)) (world_of (F.state store.new) (K.state output.new)) result }
+        ensures rises { steps.old ≤ steps.new }
+        ensures within { result ≢ Err Stop.NoMemory → IsWithin (limits.limit self.old line.now) steps.old steps.new }
     {
         match read_line(alloc, line) {
-            Ok(row) => self.row(alloc, store, output, &row),
+            Ok(row) => self.row(alloc, store, output, &row, steps),
             Err(LineFault::BadEscape { at }) => {
                 let fields = escape_fields(alloc, at)?;
                 self.refuse(alloc, output, &fields)
@@ -424,9 +444,15 @@ fn refused_fields(alloc: Global, change: &Change, refused: &Refused) -> Result<R
 }
 
 impl LineHandler for OpenView {
+    ghost use Rattle.std.specs.Prelude.{true};
     ghost use Rattle.ss_top.specs.Answers.{step, finish};
+    ghost use Rattle.ss_top.specs.Limits.{limit};
 
     ghost step = { step };
+
+    ghost limit = { limit };
+
+    ghost counts = { true };
 
     ghost finish = { finish };
 
@@ -436,9 +462,9 @@ impl LineHandler for OpenView {
         store: &mut F,
         output: &mut K,
         line: &[u8],
-        _steps: &mut Steps<L>,
+        steps: &mut Steps<L>,
     ) -> Result<Option<Verdict>, Stop> {
-        self.answer(alloc, store, output, line)?;
+        self.answer(alloc, store, output, line, steps)?;
         Ok(None)
     }
 

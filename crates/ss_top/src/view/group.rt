@@ -1,5 +1,5 @@
 //! Answers to the lines of a group, and to the words that stand alone.
-ghost use Rattle.std.specs.Prelude.{◌≡◌, ◌≢◌, ◌∷◌, [], length, true, None, IfOk, IfErr, OnOk, IsTrue, is_some};
+ghost use Rattle.std.specs.Prelude.{◌≡◌, ◌≢◌, ◌≤◌, ◌∷◌, [], length, true, None, Err, IfOk, IfErr, OnOk, IsTrue, is_some};
 ghost use Rattle.effects.specs.Effects.{Does, world_of};
 ghost use Rattle.effects.specs.Blame.{Blames, SinkBlames};
 ghost use Rattle.schema_model.specs.Changes.{is_well_formed};
@@ -9,6 +9,8 @@ ghost use Rattle.run_lines.specs.Printing.{refuses};
 ghost use Rattle.ss_print.specs.Fields.{in_group_fields, no_group_fields};
 ghost use Rattle.ss_top.specs.Stages.{refusal_of};
 ghost use Rattle.ss_top.specs.Steps.{IsHoldFieldsOf, IsStopFieldsOf};
+ghost use Rattle.ss_top.specs.Limits as limits;
+ghost use Rattle.ss_top.specs.Limits.{IsWithin};
 ghost use Rattle.ss_top.specs.Answers.{by_fields, by_word, by_broken, by_group, by_fault, beginning, aborting, giving_up, refusing, end_effects, end_view};
 ghost use Rattle.ss_top.specs.declared.word.Word.TheVariants as word;
 
@@ -22,8 +24,9 @@ use ss_print::{
     clash_fields, group_broken_fields, illegal_fields, in_group_fields, line_fields,
     no_group_fields, open_group_fields, refusal_fields,
 };
-use ss_text::{NoMemory, Row};
+use ss_text::{NoMemory, Row, Steps};
 use std::alloc::Global;
+use std::sync::ledger::Ledger;
 use view_session::{GroupStop, HoldRefused};
 
 impl OpenView {
@@ -142,13 +145,19 @@ impl OpenView {
 
     // Makes the changes of a group, or refuses it.
     #[tactic(auto, using(effects::proofs::Following::following, crate::proofs::IdleLemmas::sink_no_read, crate::proofs::AnswerLemmas::made_view, crate::proofs::AnswerLemmas::stopped_view))]
-    fn make_group<K: Sink>(&mut self, alloc: Global, output: &mut K) -> Result<(), Stop>
+    fn make_group<K: Sink, L: Ledger>(
+        &mut self,
+        alloc: Global,
+        output: &mut K,
+        steps: &mut Steps<L>,
+    ) -> Result<(), Stop>
         requires { is_some self.old.session.held ≡ true }
         ensures does { (s : _) → Does (by_group self.old (refusal_of (working self.old.session) self.old.session.query)).effects (world_of s (K.state output.old)) (world_of s (K.state output.new)) result }
         ensures view { OnOk result (self.new ≡ (by_group self.old (refusal_of (working self.old.session) self.old.session.query)).view) }
         ensures blames { SinkBlames (K.state output.old) (K.state output.new) result }
+        ensures rises { steps.old ≤ steps.new }
     {
-        match self.session.commit_group(alloc) {
+        match self.session.commit_group(alloc, steps) {
             Ok(script) => {
                 self.broken = 0;
                 print_script(alloc, output, &script)
@@ -162,14 +171,20 @@ impl OpenView {
 
     // Ends a group, which is refused where a line was.
     #[tactic(auto, using(effects::proofs::Following::following, crate::proofs::IdleLemmas::sink_no_read, crate::proofs::AnswerLemmas::unbroken_view, crate::proofs::AnswerLemmas::broken_view, crate::proofs::AnswerLemmas::unbroken_does))]
-    fn commit_group<K: Sink>(&mut self, alloc: Global, output: &mut K) -> Result<(), Stop>
+    fn commit_group<K: Sink, L: Ledger>(
+        &mut self,
+        alloc: Global,
+        output: &mut K,
+        steps: &mut Steps<L>,
+    ) -> Result<(), Stop>
         requires { is_some self.old.session.held ≡ true }
         ensures does { (s : _) → Does (by_broken self.old self.old.broken).effects (world_of s (K.state output.old)) (world_of s (K.state output.new)) result }
         ensures view { OnOk result (self.new ≡ (by_broken self.old self.old.broken).view) }
         ensures blames { SinkBlames (K.state output.old) (K.state output.new) result }
+        ensures rises { steps.old ≤ steps.new }
     {
         if self.broken == 0 {
-            return self.make_group(alloc, output);
+            return self.make_group(alloc, output, steps);
         }
         let fields = group_broken_fields(alloc, self.broken)?;
         self.give_up(alloc, output, &fields)
@@ -191,13 +206,21 @@ impl OpenView {
 
     // Answers `commit` alone.
     #[tactic(auto, using(effects::proofs::Following::following, crate::proofs::IdleLemmas::sink_no_read))]
-    fn commit_line<K: Sink>(&mut self, alloc: Global, output: &mut K, row: &Row) -> Result<(), Stop>
+    fn commit_line<K: Sink, L: Ledger>(
+        &mut self,
+        alloc: Global,
+        output: &mut K,
+        row: &Row,
+        steps: &mut Steps<L>,
+    ) -> Result<(), Stop>
         ensures does { (s : _) → Does (by_word self.old row.now word.Commit).effects (world_of s (K.state output.old)) (world_of s (K.state output.new)) result }
         ensures view { OnOk result (self.new ≡ (by_word self.old row.now word.Commit).view) }
         ensures blames { SinkBlames (K.state output.old) (K.state output.new) result }
+        ensures rises { steps.old ≤ steps.new }
+        ensures within { result ≢ Err Stop.NoMemory → IsWithin (limits.by_word self.old word.Commit) steps.old steps.new }
     {
         if self.in_group() {
-            self.commit_group(alloc, output)
+            self.commit_group(alloc, output, steps)
         } else {
             self.refuse_outside(alloc, output, row)
         }
@@ -240,22 +263,25 @@ impl OpenView {
 
     // Answers a word alone.
     #[tactic(auto, using(effects::proofs::Following::following, crate::proofs::IdleLemmas::sink_no_read))]
-    fn word_alone<F: Folders, K: Sink>(
+    fn word_alone<F: Folders, K: Sink, L: Ledger>(
         &mut self,
         alloc: Global,
         store: &mut F,
         output: &mut K,
         row: &Row,
         word: Word,
+        steps: &mut Steps<L>,
     ) -> Result<(), Stop>
         ensures does { Does (by_word self.old row.now word).effects (world_of (F.state store.old) (K.state output.old)) (world_of (F.state store.new) (K.state output.new)) result }
         ensures view { OnOk result (self.new ≡ (by_word self.old row.now word).view) }
         ensures no_read { IfErr result (λ e. e ≢ Stop.ReadFault) }
         ensures blames { Blames (world_of (F.state store.old) (K.state output.old)) (world_of (F.state store.new) (K.state output.new)) result }
+        ensures rises { steps.old ≤ steps.new }
+        ensures within { result ≢ Err Stop.NoMemory → IsWithin (limits.by_word self.old word) steps.old steps.new }
     {
         match word {
             Word::Begin => self.begin_line(alloc, output, row),
-            Word::Commit => self.commit_line(alloc, output, row),
+            Word::Commit => self.commit_line(alloc, output, row, steps),
             Word::Abort => self.abort_line(alloc, output, row),
             Word::Sync => self.sync_line(alloc, store, output, row),
         }
@@ -263,22 +289,25 @@ impl OpenView {
 
     // Answers a line that begins with a word.
     #[tactic(auto, using(effects::proofs::Following::following, crate::proofs::IdleLemmas::sink_no_read, crate::proofs::AnswerLemmas::one_word_does, crate::proofs::AnswerLemmas::one_word_view, crate::proofs::AnswerLemmas::more_words_view))]
-    pub(super) fn word_line<F: Folders, K: Sink>(
+    pub(super) fn word_line<F: Folders, K: Sink, L: Ledger>(
         &mut self,
         alloc: Global,
         store: &mut F,
         output: &mut K,
         row: &Row,
         word: Word,
+        steps: &mut Steps<L>,
     ) -> Result<(), Stop>
         ensures does { Does (by_fields self.old row.now word).effects (world_of (F.state store.old) (K.state output.old)) (world_of (F.state store.new) (K.state output.new)) result }
         ensures view { OnOk result (self.new ≡ (by_fields self.old row.now word).view) }
         ensures no_read { IfErr result (λ e. e ≢ Stop.ReadFault) }
         ensures blames { Blames (world_of (F.state store.old) (K.state output.old)) (world_of (F.state store.new) (K.state output.new)) result }
+        ensures rises { steps.old ≤ steps.new }
+        ensures within { result ≢ Err Stop.NoMemory → IsWithin (limits.by_fields self.old row.now word) steps.old steps.new }
     {
         let got = row.cells().len();
         if got == 1 {
-            return self.word_alone(alloc, store, output, row, word);
+            return self.word_alone(alloc, store, output, row, word, steps);
         }
         let fields = line_fields(alloc, row, ChangeFault::FieldCount { got })?;
         self.refuse(alloc, output, &fields)

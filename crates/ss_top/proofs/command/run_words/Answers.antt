@@ -61,3 +61,23 @@ pub returns-in-len3-clause-faults : goal.returns-in-len3-clause-faults
 returns-in-len3-clause-faults g c =
     let asked = three_words c.args.words.now c.word-item-then-words-lt4.result c.changes-item.result c.seed-item.result (omega arith) c.word-item-then-words-lt4.is c.changes-item.is c.seed-item.is in
     rw asked c.run_counted.ensures.faults
+
+pub returns-in-len2-clause-steps : goal.returns-in-len2-clause-steps
+returns-in-len2-clause-steps g c =
+    let asked = two_words c.args.words.now c.word-item.result c.name-item.result (omega arith) c.word-item.is c.name-item.is (sym c.table_label_legal.ensures ∙ c.if-table_label_legal.true) in
+    rw asked c.run_named.ensures.steps
+
+pub returns-in-len2-clause-within : goal.returns-in-len2-clause-within
+returns-in-len2-clause-within g c =
+    let asked = two_words c.args.words.now c.word-item.result c.name-item.result (omega arith) c.word-item.is c.name-item.is (sym c.table_label_legal.ensures ∙ c.if-table_label_legal.true) in
+    rw asked c.run_named.ensures.within
+
+pub returns-in-len3-clause-steps : goal.returns-in-len3-clause-steps
+returns-in-len3-clause-steps g c =
+    let asked = three_words c.args.words.now c.word-item-then-words-lt4.result c.changes-item.result c.seed-item.result (omega arith) c.word-item-then-words-lt4.is c.changes-item.is c.seed-item.is in
+    rw asked c.run_counted.ensures.steps
+
+pub returns-in-len3-clause-within : goal.returns-in-len3-clause-within
+returns-in-len3-clause-within g c =
+    let asked = three_words c.args.words.now c.word-item-then-words-lt4.result c.changes-item.result c.seed-item.result (omega arith) c.word-item-then-words-lt4.is c.changes-item.is c.seed-item.is in
+    rw asked c.run_counted.ensures.within

@@ -1,7 +1,7 @@
 use Rattle.ss_top.specs.Commands.{asked_of}
 use Rattle.ss_top.proofs.DefinitionLemmas.{is_defined}
 use Rattle.ss_top.proofs.KeptLemmas.{script_takes}
-use Rattle.ss_top.proofs.TopLemmas.{does_course, is_complete, checks, shows, maintains, stops_at_sync, verifies, prints_difference, applies, applies_nothing, loads, keeps_all, keeps_others, leaves_between, takes_little}
+use Rattle.ss_top.proofs.TopLemmas.{does_course, is_complete, checks, shows, maintains, stops_at_sync, verifies, prints_difference, applies, applies_nothing, loads, keeps_all, keeps_others, leaves_between, takes_little, takes_steps}
 use Rattle.ss_top.proofs.top.run.Goals as goal
 
 pub returns-clause-defined : goal.returns-clause-defined
@@ -57,3 +57,6 @@ returns-clause-between g c = leaves_between c.args.words.now _ _ c.run_words-end
 
 pub returns-clause-took : goal.returns-clause-took
 returns-clause-took g c = rw c.status_of_ending.ensures (takes_little c.args.words.now _ _ c.run_words-ending.result _ _ c.run_words-ending.ensures.took)
+
+pub returns-clause-within : goal.returns-clause-within
+returns-clause-within g c = rw c.status_of_ending.ensures (takes_steps c.args.words.now _ _ _ _ _ c.run_words-ending.ensures.within)
