@@ -1,7 +1,12 @@
 //! Runs that were counted by hand.
+ghost use Rattle.std.specs.Prelude.{◌≡◌, ◌<◌};
+
 use load_run::{Size, Summary, load, view};
 use ss_parser::parse;
+use ss_text::{NoMemory, Steps};
 use std::alloc::Global;
+use std::marker::Brand;
+use std::sync::ledger::{Blank, Ledger};
 use std::test::Fail;
 use var_typing::type_view;
 use view_def::View;
@@ -40,9 +45,24 @@ fn the_view_is_the_written_one(rt: HostRuntime) -> Result<(), Fail> {
     Ok(())
 }
 
+// What comes of so many changes with a seed.
+fn loaded<L: Ledger>(
+    alloc: Global,
+    changes: u32,
+    seed: u32,
+    blank: Blank,
+) -> Result<Summary, NoMemory>
+    requires name { blank.name ≡ L.name }
+    requires parts { blank.parts ≡ L.parts }
+    requires some { 0 < L.parts }
+{
+    let mut steps = Steps::<L>::of(blank);
+    load(alloc, changes, seed, &mut steps)
+}
+
 #[test]
 fn twenty_changes(rt: HostRuntime) -> Result<(), Fail> {
-    let summary = load(rt.alloc(), 20, 0)?;
+    let summary = loaded::<Brand>(rt.alloc(), 20, 0, Blank::new(1))?;
     let table = Size {
         rows: 2,
         columns: 8,

@@ -15,6 +15,8 @@ mod failing;
 #[cfg(test)]
 mod grouped;
 #[cfg(test)]
+mod long;
+#[cfg(test)]
 mod maintained;
 #[cfg(test)]
 mod maintained_failing;

@@ -76,7 +76,7 @@ fn run_counting<L: Ledger, F: Folders, S: Source, K: Sink>(
     run(alloc, words, store, input, output, &mut steps)
 }
 
-/// Runs, and counts no steps.
+/// Runs, and lets the count of steps go.
 pub fn run_over<F: Folders, S: Source, K: Sink>(
     alloc: Global,
     words: &[Text],
