@@ -1,51 +1,173 @@
 #!/usr/bin/env python3
-"""`maintain` with inserts and deletes in turn, over few and over many rows: the time of one change.
+"""`maintain` with inserts and deletes in turn, over few and over many rows: the time of one change, for values to columns,
+values to tables, columns to values and a join, beside SQLite with triggers that keep the wide table; what it takes to
+open, beside `show`; and `load` of few and of many changes.
 
 usage: bench/maintain.py [PROGRAM [CHANGES]]
 
-There are 10,000 changes where no other number is given. Over many rows that takes a quarter of an hour.
+There are 100,000 changes where no other number is given.
 """
 
+import shutil
 import sys
 
 from measure import folder, program, report, run, wanted, write
 
+# Fewer than the most rows that sources may have, since rows come.
+FEW, MANY = 1_000, 999_960
 COLUMNS = 8
+JOINED_FEW, JOINED_MANY = 1_000, 100_000
 
 
-def source(rows):
-    """A header, and so many rows of a key, one of eight values and a number."""
+def tall(rows):
+    """A header, and so many rows of a key, one of eight values and a number, in no order."""
     yield "k,d,v\n"
-    for place in range(rows):
-        yield f"k{place // COLUMNS},d{place % COLUMNS},{place}\n"
+    for step in range(rows):
+        place = step * 611_953 % rows
+        yield f"{place // COLUMNS:06},d{place % COLUMNS},{place}\n"
 
 
-def changes(count):
-    """Inserts of a row with a new key, and its deletes."""
-    row = "g\tr\tnew\td0\t1\n"
+def wide(rows):
+    """A header, and a fifth of so many rows, of a key and five numbers, in no order."""
+    yield "k,c0,c1,c2,c3,c4\n"
+    for step in range(rows // 5):
+        place = step * 61_193 % (rows // 5)
+        yield f"{place:06}," + ",".join(str(place * 5 + column) for column in range(5)) + "\n"
+
+
+def pairs(rows, value, factor):
+    """A header, and rows of a key that comes twice and a number of their own, in no order."""
+    yield f"k,{value}\n"
+    for step in range(rows):
+        place = step * factor % rows
+        yield f"k{place // 2},{value}{place}\n"
+
+
+def in_turn(rows, count, row):
+    """Inserts of a row and its deletes, one after the other, at keys all over the table."""
     for place in range(count):
-        yield ("insert\t" if place % 2 == 0 else "delete\t") + row
+        number = place // 2 * 7_919 % rows
+        yield ("insert" if place % 2 == 0 else "delete") + "\tg\t" + row(number) + "\n"
 
 
-def time_of_change(rows, count):
-    """The seconds of one change, which are those of a run with changes less those of a run without, by their number."""
+# Each view with its sources, by the number of rows, a row that comes and goes, and how many files the last sync counts.
+VIEWS = {
+    "values to columns": (
+        "create view V::t(k, D) as select T.k, T.v from g::r T, T.d D",
+        lambda rows: {"r": tall(rows)},
+        lambda number: f"r\t{number // COLUMNS:06}x\td{number % COLUMNS}\t1",
+        (FEW, MANY),
+    ),
+    "values to tables": (
+        "create view V::D(k, v) as select T.k, T.v from g::r T, T.d D",
+        lambda rows: {"r": tall(rows)},
+        lambda number: f"r\t{number // COLUMNS:06}x\td{number % COLUMNS}\t1",
+        (FEW, MANY),
+    ),
+    "columns to values": (
+        "create view V::t(k, d, v) as select T.k, A, T.A from g::w -> A, g::w T where A <> 'k'",
+        lambda rows: {"w": wide(rows)},
+        lambda number: f"w\t{number:06}x\t1\t2\t3\t4\t5",
+        (FEW, MANY),
+    ),
+    "a join": (
+        "create view V::t(x, y) as select T.v, U.w from g::r T, g::s U where T.k = U.k",
+        lambda rows: {"r": pairs(rows, "v", 61_193), "s": pairs(rows, "w", 61_211)},
+        lambda number: f"r\tk{number // 2}\tnew",
+        (JOINED_FEW, JOINED_MANY),
+    ),
+}
+
+
+def ended(words, root, given=None):
+    """A run of the program that ended with a sync."""
+    done = run(words, root, given)
+    if done.status != 0 or not done.lines[-1:] or not done.lines[-1].startswith("synced\t"):
+        sys.exit(f"ended with status {done.status} and {done.lines[-1:]}")
+    return done
+
+
+def time_of_change(name, rows, count):
+    """The seconds of one change, which are those of a run with changes less those of a run without, by their number; with
+    the run without, and a run of `show`."""
+    view, sources, row, _ = VIEWS[name]
     with folder() as root:
-        write(root, "sources/g/r.csv", source(rows))
-        write(root, "defs/C.ssql", "create view C::t(k, D) as select T.k, T.v from g::r T, T.d D")
-        given = write(root, "changes", changes(count))
-        words = [program(), "maintain", "C"]
-        opened = wanted(run(words, root), 0, "synced\t0")
-        changed = wanted(run(words, root, given), 0, "synced\t1")
+        for relation, lines in sources(rows).items():
+            write(root, f"sources/g/{relation}.csv", lines)
+        write(root, "defs/V.ssql", view)
+        given = write(root, "changes", in_turn(rows, count, row))
+        shown = ended([program(), "show", "V"], root)
+        words = [program(), "maintain", "V"]
+        opened = ended(words, root)
+        changed = ended(words, root, given)
     each = (changed.seconds - opened.seconds) / count
-    report(f"maintain, {rows} rows, {count} changes", changed, f"; one change {each * 1e6:.0f} us")
+    report(f"maintain, {name}, {rows} rows, {count} changes", changed, f"; one change {each * 1e6:.2f} us")
+    return each, opened, shown
+
+
+def time_in_sqlite(rows, count):
+    """The seconds of one change in SQLite, whose triggers keep the wide table, in one transaction and in memory."""
+    if not shutil.which("sqlite3"):
+        print("sqlite3 is not installed")
+        return None
+    names = [f"d{column}" for column in range(COLUMNS)]
+    sets = ", ".join(f"{name} = case when new.d = '{name}' then new.v else {name} end" for name in names)
+    clears = ", ".join(f"{name} = case when old.d = '{name}' then null else {name} end" for name in names)
+    empty = " and ".join(f"{name} is null" for name in names)
+    with folder() as root:
+        source = write(root, "r.csv", tall(rows))
+        head = [
+            ".mode csv\n",
+            f".import {source} r\n",
+            "create index i on r(k, d, v);\n",
+            f"create table t(k text primary key, {', '.join(names)}) without rowid;\n",
+            "insert into t select k, " + ", ".join(f"max(case when d = '{name}' then v end)" for name in names) + " from r group by k;\n",
+            f"create trigger comes after insert on r begin insert or ignore into t(k) values (new.k); update t set {sets} where k = new.k; end;\n",
+            f"create trigger goes after delete on r begin update t set {clears} where k = old.k; delete from t where k = old.k and {empty}; end;\n",
+            "begin;\n",
+        ]
+
+        def statements():
+            for place in range(count):
+                number = place // 2 * 7_919 % rows
+                key, column = f"{number // COLUMNS:06}x", f"d{number % COLUMNS}"
+                if place % 2 == 0:
+                    yield f"insert into r values ('{key}', '{column}', '1');\n"
+                else:
+                    yield f"delete from r where k = '{key}' and d = '{column}' and v = '1';\n"
+
+        words = ["sqlite3", ":memory:"]
+        opened = run(words, root, write(root, "opened.sql", [*head, "commit;\n"]))
+        changed = run(words, root, write(root, "changed.sql", [*head, *statements(), "commit;\n"]))
+        if opened.status != 0 or changed.status != 0:
+            sys.exit(f"sqlite3 ended with status {opened.status} and {changed.status}")
+    each = (changed.seconds - opened.seconds) / count
+    report(f"sqlite3, triggers, {rows} rows, {count} changes", changed, f"; one change {each * 1e6:.2f} us")
     return each
 
 
+def load(count):
+    """A run of `load`."""
+    done = run([program(), "load", str(count), "1"], ".")
+    if done.status != 0:
+        sys.exit(f"load ended with status {done.status}")
+    report(f"load {count} 1", done)
+    return done
+
+
 def main():
-    count = int(sys.argv[2]) if len(sys.argv) > 2 else 10_000
-    few = time_of_change(1_000, count)
-    many = time_of_change(100_000, count)
-    print(f"a change over 100 times as many rows takes {many / few:.1f} times as long")
+    count = int(sys.argv[2]) if len(sys.argv) > 2 else 100_000
+    for name, (_, _, _, (fewer, more)) in VIEWS.items():
+        few, _, _ = time_of_change(name, fewer, count)
+        many, opened, shown = time_of_change(name, more, count)
+        print(f"{name}: a change over {more // fewer} times as many rows takes {many / few:.2f} times as long")
+        print(f"{name}: opening takes {opened.seconds / shown.seconds:.2f} of the time of show, {opened.megabytes / shown.megabytes:.2f} of its memory")
+        if name == "values to columns":
+            other = time_in_sqlite(more, count)
+            if other:
+                print(f"{name}: a change takes {many / other:.2f} of the time of SQLite's")
+    few, many = load(40_000), load(200_000)
+    print(f"load 200000 takes {many.seconds / few.seconds:.2f} times as long as load 40000")
 
 
 main()
