@@ -86,6 +86,12 @@ module _ (f : Row → ℕ) (m : ℕ) where
       seeks m before (filter of_mark es) (subst (λ (ps : List ℕ). IsPath links m before ps None) (places_are es) path) (at ∙ ap (λ (ps : List ℕ). first_or ps None) (places_are es)) (stored_filter rows es stored) (let l = few_pass es in omega arith)
       ∙ ap first_place (filter_twice (λ (e : ℕ × Row). test e.1) of_mark es (λ e h. eq-eqb (f e.1) m (marks e.1 h)))
 
+  -- and so for how many there are
+  pub tallied_in : (rows : Slab Row) (links : List Link) (test : Row → Bool) (before from : Option ℕ) (result : ℕ) (es : Placed) → ((mark : ℕ) (b : Option ℕ) (fs : Placed) → IsPath links mark b (places fs) None → from ≡ first_or (places fs) None → AreStored rows fs → length fs ≤ slab_len rows → result ≡ length (filter (λ e. test e.1) fs)) → ((row : Row) → test row ≡ true → f row ≡ m) → IsPath links m before (places_of m (marked f es)) None → from ≡ first_or (places_of m (marked f es)) None → AreStored rows es → length es ≤ slab_len rows → result ≡ length (filter (λ e. test e.1) es)
+  tallied_in rows links test before from result es tallies marks path at stored few =
+      tallies m before (filter of_mark es) (subst (λ (ps : List ℕ). IsPath links m before ps None) (places_are es) path) (at ∙ ap (λ (ps : List ℕ). first_or ps None) (places_are es)) (stored_filter rows es stored) (let l = few_pass es in omega arith)
+      ∙ ap length (filter_twice (λ (e : ℕ × Row). test e.1) of_mark es (λ e h. eq-eqb (f e.1) m (marks e.1 h)))
+
 -- the key with a number
 pub key_is : (keys : List (Vec ℕ Global)) (lists : List (List ℕ)) (i : ℕ) (key : Vec ℕ Global) → key_lists keys ≡ lists → i < length lists → key ≡ slice_index_or keys i key → slice_get lists i ≡ Some key.items
 key_is keys lists i key e lt k = subst (λ (ks : List (List ℕ)). slice_get ks i ≡ Some key.items) e (key_at keys i key (read_at keys i key (omega (arith, length-key_lists keys, ap length e)) k))

@@ -9,7 +9,7 @@ ghost use Rattle.row_links.specs.AllChains.{key_lists};
 
 use crate::chains::Chains;
 use crate::part::{Part, mark};
-use crate::seek::{after, seek};
+use crate::seek::{after, seek, tally};
 use slab::Slab;
 use ss_text::{NoMemory, Row, Steps};
 use std::alloc::Global;
@@ -117,6 +117,14 @@ impl Linked {
         )
     }
 
+    /// How many live rows equal a row.
+    pub fn count_like(&self, row: &Row) -> usize
+        ensures { result ≡ length (rows_like row.now self.now.live) }
+    {
+        let from = self.chains.same.first(mark(Part::Whole, row));
+        tally(&self.rows, &self.chains.same.links, from, row)
+    }
+
     /// The place of the first live row with these cells at a key's positions.
     pub fn chain(&self, key: usize, value: &Row) -> Option<usize>
         requires { key < length self.now.keys }
@@ -216,6 +224,22 @@ impl Linked {
         self.chains.reserve(alloc, self.keys.len(), below, more)?;
         let mut waiting = mem::replace(rows, Vec::new(alloc));
         waiting.reverse();
+        self.waiting = waiting;
+        Ok(())
+    }
+
+    /// Takes all memory that adding one more row needs, which waits before those that wait already. Where there is no
+    /// memory no row waits, and the live rows stay.
+    pub fn wait(&mut self, alloc: Global, row: Row) -> Result<(), NoMemory>
+        ensures ok { OnOk result (self.new ≡ record self.old { waiting = row ∷ self.old.waiting }) }
+        ensures err { OnErr result (self.new ≡ record self.old { waiting = [] }) }
+    {
+        let mut waiting = mem::replace(&mut self.waiting, Vec::new(alloc));
+        waiting.push(row)?;
+        let more = waiting.len();
+        self.rows.reserve(more)?;
+        let below = self.rows.capacity();
+        self.chains.reserve(alloc, self.keys.len(), below, more)?;
         self.waiting = waiting;
         Ok(())
     }

@@ -4,7 +4,7 @@ ghost use Rattle.ss_text.specs.Texts.{Row};
 ghost use Rattle.slab.specs.Slab.{get, slab_len};
 ghost use Rattle.row_links.specs.Links.{IsPath, first_or, after_at};
 ghost use Rattle.row_links.specs.Chained.{Placed, places};
-ghost use Rattle.row_links.specs.Parts.{picked, same_cells};
+ghost use Rattle.row_links.specs.Parts.{picked, same_cells, whole};
 ghost use Rattle.row_links.specs.Live.{first_place, AreStored};
 
 use crate::link::Link;
@@ -36,6 +36,26 @@ pub(crate) fn seek(
         }
     }
     None
+}
+
+/// How many places, from the given one along the links, have a row with the same cells.
+pub(crate) fn tally(rows: &Slab<Row>, links: &Vec<Link>, from: Option<usize>, sought: &Row) -> usize
+    ensures { (mark : ℕ) (before : Option ℕ) (es : Placed) → IsPath links.now.items mark before (places es) None → from ≡ first_or (places es) None → AreStored rows.now es → length es ≤ slab_len rows.now → result ≡ length (filter (λ e. same_cells (whole e.1) (whole sought.now)) es) }
+{
+    let mut count = 0;
+    let mut at = from;
+    for _turn in 0..rows.len() {
+        match at {
+            None => return count,
+            Some(place) => {
+                at = after(links, place);
+                if fits(rows, place, Part::Whole, Part::Whole, sought) {
+                    count += 1;
+                }
+            }
+        }
+    }
+    count
 }
 
 // Whether the row at this place has the sought row's cells.
