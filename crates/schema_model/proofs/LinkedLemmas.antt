@@ -1,16 +1,18 @@
 -- Linked rows are rows behind places.
-use Rattle.std.proofs.Common.{◌≡◌, ◌∙◌, ◌∷◌, ◌++◌, ◌||◌, ◌==◌, [], ℕ, suc, zero, List, Bool, true, false, Some, refl, sym, ap, map, length, cond, nat_eq, inl, inr, IsSome, is_some, filter, arith}
+use Rattle.std.proofs.Common.{◌≡◌, ◌∙◌, ◌∷◌, ◌++◌, ◌||◌, ◌==◌, [], ℕ, suc, zero, List, Bool, true, false, Some, refl, sym, ap, map, length, cond, nat_eq, inl, inr, IsSome, is_some, filter, count_by, drop, arith}
 use Rattle.std.specs.Prelude.{remove}
 use Rattle.std.specs.List.{list_any, AllByRecursion, IsDistinct, position_or_len}
 use Rattle.std.proofs.lemmas.Bool.{eq-eqb, ne_eqb}
 use Rattle.std.proofs.lemmas.Bool.Decides.{eqb_tells}
 use Rattle.std.proofs.lemmas.List.{map_push}
+use Rattle.std.proofs.lemmas.List.Sums.{length-filter}
 use Rattle.ss_text.specs.Texts.{Row, row_eq}
 use Rattle.ss_text.proofs.KeyLemmas.{row_order, equal_itself, equal_is}
 use Rattle.row_links.specs.Live as links
 use Rattle.row_links.specs.Live.{LinkedRows, AddsFirst, following, at_place, rows_like, without_first}
 use Rattle.row_links.specs.Chained as chained
 use Rattle.row_links.specs.Links.{IsAbsent, IsOnce}
+use Rattle.schema_model.specs.ListedRows.{IsNext}
 use Rattle.schema_model.specs.Placed.{Placed, placed_rows, places, first_place, after_place, row_at, is_place, ArePlaces}
 
 -- the tests of places and of rows read the same both ways
@@ -73,6 +75,20 @@ has_linked row (e ∷ es) =
     by true later = refl
     by false later = later
 
+like_linked : (row : Row) (live : Placed) → length (rows_like row live) ≡ length (filter (row_eq row) (placed_rows live))
+like_linked row [] = refl
+like_linked row (e ∷ es) =
+    ap (λ (b : Bool). length (cond b (e ∷ rows_like row es) (rows_like row es))) (row_turned e.1 row)
+    ∙ by (row_eq row e.1) (like_linked row es)
+  where
+    by : (b : Bool) → length (rows_like row es) ≡ length (filter (row_eq row) (placed_rows es))
+        → length (cond b (e ∷ rows_like row es) (rows_like row es)) ≡ length (cond b (e.1 ∷ filter (row_eq row) (placed_rows es)) (filter (row_eq row) (placed_rows es)))
+    by true later = ap suc later
+    by false later = later
+
+pub copies_linked : (row : Row) (live : Placed) → length (rows_like row live) ≡ count_by (row_eq row) (placed_rows live)
+copies_linked row live = like_linked row live ∙ length-filter (row_eq row) (placed_rows live)
+
 later_place : (row x : Row) (xs : List Row) → row_eq row x ≡ false → position_or_len (row_eq row) (x ∷ xs) ≡ suc (position_or_len (row_eq row) xs)
 later_place row x xs t = rw t (omega arith)
 
@@ -87,9 +103,14 @@ taken_linked row (e ∷ es) =
     by true t later = rw t refl
     by false t later = ap (λ (rows : List Row). e.1 ∷ rows) later ∙ sym (ap (remove (placed_rows (e ∷ es))) (later_place row e.1 (placed_rows es) t))
 
-pub added_linked : (old new : LinkedRows) (row : Row) → AddsFirst old new → old.waiting ≡ row ∷ [] → placed_rows new.live ≡ placed_rows old.live ++ row ∷ []
-added_linked old new row added waits =
-    let heads : added.row ∷ added.others ≡ row ∷ [] = sym added.waited ∙ waits in
+-- a row that waits alone is the first
+pub alone_next : (row : Row) (waiting : List Row) → waiting ≡ row ∷ [] → IsNext row waiting
+alone_next row waiting alone = alone ∙ ap (λ (ws : List Row). row ∷ ws) (sym (ap (drop 1) alone))
+
+-- the first that waits is added, and those behind it wait on
+pub next_linked : (old new : LinkedRows) (row : Row) → AddsFirst old new → IsNext row old.waiting → placed_rows new.live ≡ placed_rows old.live ++ row ∷ []
+next_linked old new row added next =
+    let heads : added.row ∷ added.others ≡ row ∷ drop 1 old.waiting = sym added.waited ∙ next in
     let same : added.row ≡ row = cc in
     ap placed_rows (ap (λ (v : LinkedRows). v.live) added.added)
     ∙ more old.live
@@ -98,3 +119,9 @@ added_linked old new row added waits =
     more : (es : Placed) → placed_rows (es ++ (added.place, added.row) ∷ []) ≡ placed_rows es ++ added.row ∷ []
     more [] = refl
     more (e ∷ es) = ap (λ (rows : List Row). e.1 ∷ rows) (more es)
+
+pub left_linked : (old new : LinkedRows) → AddsFirst old new → new.waiting ≡ drop 1 old.waiting
+left_linked old new added = ap (λ (v : LinkedRows). v.waiting) added.added ∙ sym (ap (drop 1) added.waited)
+
+pub added_linked : (old new : LinkedRows) (row : Row) → AddsFirst old new → old.waiting ≡ row ∷ [] → placed_rows new.live ≡ placed_rows old.live ++ row ∷ []
+added_linked old new row added waits = next_linked old new row added (alone_next row old.waiting waits)

@@ -1,10 +1,11 @@
 -- An edit is a change whose places are found and whose memory is taken: what it makes, and what it asks.
-use Rattle.std.specs.Prelude.{ℕ, ◌≡◌, ◌<◌, ◌≤◌, ◌+◌, ◌-◌, ⊤, List, [], ◌∷◌, length, insert, remove, slice_index_or}
+use Rattle.std.specs.Prelude.{ℕ, ◌≡◌, ◌<◌, ◌≤◌, ◌+◌, ◌-◌, ⊤, List, [], ◌∷◌, length, map, drop, insert, remove, slice_index_or}
 use Rattle.std.specs.Option.{option_map_or}
-use Rattle.ss_text.specs.Texts.{Text}
+use Rattle.ss_text.specs.Texts.{Text, Row}
 use Rattle.ss_text.specs.Places.{at_place}
 use Rattle.schema_model.specs.Catalogue.{RelationValue, DatabaseValue, CatalogueValue, relation_value, with_row, with_relation_at, database_at, database_of, rows_of, rows_in, row_count}
 use Rattle.schema_model.specs.Changes.{after, less_row}
+use Rattle.schema_model.specs.ListedRows.{IsNext}
 use Rattle.schema_model.specs.Sound.{IsCounted}
 use Rattle.schema_model.specs.declared.change.Change.{Change}
 use Rattle.schema_model.specs.declared.change.Change.TheVariants.{Insert, Delete, DropRelation, DropDatabase}
@@ -23,11 +24,21 @@ relation_edited (Take row) r = less_row row r
 relation_edited (Sheet attributes rows) r = relation_value r.name attributes rows.items
 relation_edited (Header attributes) r = record r { attributes = attributes }
 
+abbrev pub FitsWaiting : RelationEdit → List Row → Type 0
+FitsWaiting (Add row) waiting = IsNext row.value waiting
+FitsWaiting (Take row) waiting = ⊤
+FitsWaiting (Sheet attributes rows) waiting = ⊤
+FitsWaiting (Header attributes) waiting = ⊤
+
 abbrev pub FitsRelation : RelationEdit → RelationState → Type 0
-FitsRelation (Add row) r = r.waiting ≡ row.value ∷ []
-FitsRelation (Take row) r = ⊤
-FitsRelation (Sheet attributes rows) r = ⊤
-FitsRelation (Header attributes) r = ⊤
+FitsRelation edit r = FitsWaiting edit r.waiting
+
+-- the rows that wait behind it
+abbrev pub waiting_left : RelationEdit → List Row → List Row
+waiting_left (Add row) waiting = drop 1 waiting
+waiting_left (Take row) waiting = waiting
+waiting_left (Sheet attributes rows) waiting = []
+waiting_left (Header attributes) waiting = waiting
 
 -- a database: one relation edited, one more, one less, one at the place of another name
 abbrev pub renamed_at : ℕ → ℕ → Text → List RelationValue → List RelationValue
@@ -44,6 +55,14 @@ FitsDatabase (inner.At rel edit) d = (rel < length d.relations) × FitsRelation 
 FitsDatabase (inner.Put place relation) d = (place ≤ length d.relations) × (0 < d.room)
 FitsDatabase (inner.Out place) d = place < length d.relations
 FitsDatabase (inner.Rename place to name) d = (place < length d.relations) × (to < length d.relations)
+
+-- the rows that wait in its relations, and those that do after an edit of a relation
+abbrev pub waits_in : DatabaseState → List (List Row)
+waits_in d = map (λ (r : RelationState). r.waiting) d.relations
+
+abbrev pub LeavesWaiting : DatabaseEdit → DatabaseState → DatabaseState → Type 0
+LeavesWaiting (inner.At rel edit) old new = waits_in new ≡ at_place rel (waiting_left edit) (waits_in old)
+LeavesWaiting edit old new = ⊤
 
 -- and a catalogue
 abbrev pub database_renamed_at : ℕ → ℕ → Text → CatalogueValue → CatalogueValue

@@ -7,5 +7,6 @@ pub mod Changes
 pub mod Refusals
 pub mod Sound
 pub mod Edits
+pub mod Groups
 pub mod Reading
 pub mod Pairs

@@ -18,10 +18,11 @@ pub record DatabaseState : Type 0 where
   pub relations : List RelationState
   pub room : ℕ
 
--- its databases as plain lists, and the change that it was made ready for
+-- its databases as plain lists, and the change, or the group of changes, that it was made ready for
 pub record CatalogueState : Type 0 where
   pub databases : CatalogueValue
   pub waiting : Option Change
+  pub group : Option (List Change)
 
 -- the plain lists
 abbrev pub plain_relation : RelationState → RelationValue
@@ -33,12 +34,15 @@ plain_database d = database_value d.name (map plain_relation d.relations)
 abbrev pub plain_databases : List DatabaseState → CatalogueValue
 plain_databases ds = map plain_database ds
 
--- a catalogue for which no change waits, and one that was made ready for a change
+-- a catalogue for which no change waits, one that was made ready for a change, and one for a group
 abbrev pub settled : CatalogueValue → CatalogueState
-settled c = record { databases = c; waiting = None }
+settled c = record { databases = c; waiting = None; group = None }
 
 abbrev pub ready_for : Change → CatalogueValue → CatalogueState
-ready_for change c = record { databases = c; waiting = Some change }
+ready_for change c = record { databases = c; waiting = Some change; group = None }
+
+abbrev pub all_ready_for : List Change → CatalogueValue → CatalogueState
+all_ready_for changes c = record { databases = c; waiting = None; group = Some changes }
 
 -- the relation and the database at a place; nothing is said of a place that is not there
 abbrev pub no_relation_state : RelationState

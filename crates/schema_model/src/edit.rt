@@ -34,3 +34,23 @@ pub(crate) enum CatalogueEdit {
     Out { place: usize },
     Rename { place: usize, to: usize, name: Text },
 }
+
+/// What happens to one row of a relation: it is put last or taken out.
+#[derive(Drop)]
+pub(crate) struct RowEdit {
+    pub db: usize,
+    pub rel: usize,
+    pub edit: RelationEdit,
+}
+
+/// What happens to a catalogue by changes that are made together.
+#[derive(Drop)]
+pub(crate) enum GroupEdit {
+    /// Rows come and go in place. The first edit to be made is the last.
+    Rows(Vec<RowEdit>),
+    /// These databases, with so many rows, take the place of those that are there.
+    Whole {
+        databases: Vec<Database>,
+        rows: usize,
+    },
+}

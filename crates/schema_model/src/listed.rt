@@ -1,9 +1,9 @@
 //! Rows in a list, each at its number.
-ghost use Rattle.std.specs.Prelude.{◌≡◌, ◌∷◌, ◌++◌, [], IfOk, OnOk, OnErr, IsTrue, length, remove, vec_len, vec_capacity, ◌<◌, ◌-◌};
+ghost use Rattle.std.specs.Prelude.{◌≡◌, ◌∷◌, ◌++◌, [], IfOk, OnOk, OnErr, IsTrue, length, count_by, remove, vec_len, vec_capacity, ◌≤◌, ◌-◌, drop};
 ghost use Rattle.std.specs.List.{list_any, position, position_or_len};
 ghost use Rattle.ss_text.specs.Texts.{row_eq};
 ghost use Rattle.schema_model.specs.Placed.{placed_rows, first_place, after_place, row_at, is_place, numbered};
-ghost use Rattle.schema_model.specs.ListedRows.{listed_rows};
+ghost use Rattle.schema_model.specs.ListedRows.{listed_rows, IsNext};
 
 use row_links::Linked;
 use ss_text::{NoMemory, Row};
@@ -11,24 +11,25 @@ use std::alloc::Global;
 use std::marker::Model;
 use std::snapshot::Snapshot;
 
-/// Rows in a list, which contracts see as the list and the row that waits to be added, if one does.
+/// Rows in a list, which contracts see as the list and the rows that wait to be added, the first to be added first.
 #[derive(Drop)]
 pub(crate) struct Listed {
     rows: Vec<Row>,
-    waiting: Option<Row>,
+    // The first to be added is the last.
+    waiting: Vec<Row>,
     // Whether a row was to be taken out before.
     taken: bool,
 }
 
 impl Model for Listed {
-    ghost use Rattle.std.specs.Prelude.{◌<◌, ◌-◌, IfSome, option_to_list, vec_len, vec_capacity};
+    ghost use Rattle.std.specs.Prelude.{◌≤◌, ◌-◌, reverse, length, vec_len, vec_capacity};
     ghost use Rattle.schema_model.specs.ListedRows.{ListedRows, listed_rows};
 
     ghost Value = { ListedRows };
 
-    ghost view = { λ l. listed_rows l.rows.items (option_to_list l.waiting) };
+    ghost view = { λ l. listed_rows l.rows.items (reverse l.waiting.items) };
 
-    ghost invariant = { λ l. IfSome l.waiting (λ _. 0 < vec_capacity l.rows - vec_len l.rows) };
+    ghost invariant = { λ l. length l.waiting.items ≤ vec_capacity l.rows - vec_len l.rows };
 }
 
 impl Listed {
@@ -36,9 +37,10 @@ impl Listed {
     pub(crate) fn of(rows: Vec<Row>) -> Listed
         ensures { result ≡ listed_rows rows.items [] }
     {
+        let alloc = *rows.allocator();
         Listed {
             rows,
-            waiting: None,
+            waiting: Vec::new(alloc),
             taken: false,
         }
     }
@@ -85,12 +87,19 @@ impl Listed {
         self.rows.iter().any(|kept| row == kept)
     }
 
+    /// How many rows equal this one.
+    pub(crate) fn copies_of(&self, row: &Row) -> usize
+        ensures { result ≡ count_by (row_eq row.now) self.now.rows }
+    {
+        self.rows.iter().filter(|kept| row == *kept).count()
+    }
+
     /// Puts a row last.
     pub(crate) fn put(&mut self, row: Row) -> Result<(), NoMemory>
         ensures ok { OnOk result (self.new.rows ≡ self.old.rows ++ row ∷ []) }
         ensures err { OnErr result (self.new.rows ≡ self.old.rows) }
     {
-        self.waiting = None;
+        self.waiting.clear();
         self.rows.push(row)?;
         Ok(())
     }
@@ -101,18 +110,34 @@ impl Listed {
         ensures rows { self.new.rows ≡ self.old.rows }
         ensures ok { OnOk result (self.new.waiting ≡ row ∷ []) }
     {
-        self.waiting = None;
-        self.rows.reserve(1)?;
-        self.waiting = Some(row);
+        self.waiting.clear();
+        self.wait(row)
+    }
+
+    /// Makes one more row ready to be put last, before those that wait already: takes all memory that this needs.
+    pub(crate) fn wait(&mut self, row: Row) -> Result<(), NoMemory>
+        ensures rows { self.new.rows ≡ self.old.rows }
+        ensures ok { OnOk result (self.new.waiting ≡ row ∷ self.old.waiting) }
+    {
+        let more = self.waiting.len() + 1;
+        self.rows.reserve(more)?;
+        self.waiting.push(row)?;
         Ok(())
     }
 
-    /// Puts the row that waits last. This takes no memory.
-    pub(crate) fn add(&mut self, row: Snapshot<Row>)
-        requires { self.old.waiting ≡ row.value ∷ [] }
-        ensures { self.new.rows ≡ self.old.rows ++ row.value ∷ [] }
+    /// No row waits from now on.
+    pub(crate) fn forget(&mut self)
+        ensures { self.new.rows ≡ self.old.rows }
     {
-        let Some(waiting) = self.waiting.take() else {
+        self.waiting.clear();
+    }
+
+    /// Puts the first row that waits last. This takes no memory.
+    pub(crate) fn add(&mut self, row: Snapshot<Row>)
+        requires { IsNext row.value self.old.waiting }
+        ensures { self.new ≡ listed_rows (self.old.rows ++ row.value ∷ []) (drop 1 self.old.waiting) }
+    {
+        let Some(waiting) = self.waiting.pop() else {
             unreachable!()
         };
         let Ok(()) = self.rows.push(waiting) else {
@@ -122,9 +147,8 @@ impl Listed {
 
     /// Takes the first row out that equals this one, if one does. This takes no memory.
     pub(crate) fn take(&mut self, row: &Row)
-        ensures { self.new.rows ≡ remove self.old.rows (position_or_len (row_eq row.now) self.old.rows) }
+        ensures { self.new ≡ listed_rows (remove self.old.rows (position_or_len (row_eq row.now) self.old.rows)) self.old.waiting }
     {
-        self.waiting = None;
         take_first(&mut self.rows, row);
     }
 
@@ -142,14 +166,15 @@ impl Listed {
         ensures linked { IfOk result (λ linked. placed_rows linked.live ≡ self.old.rows) }
         ensures kept { OnErr result (self.new.rows ≡ self.old.rows) }
     {
-        self.waiting = None;
+        self.waiting.clear();
         Linked::of_rows(alloc, &mut self.rows)
     }
 }
 
 // Takes the first row out that equals this one, if one does.
 fn take_first(rows: &mut Vec<Row>, row: &Row)
-    ensures { rows.new.items ≡ remove rows.old.items (position_or_len (row_eq row.now) rows.old.items) }
+    ensures rows { rows.new.items ≡ remove rows.old.items (position_or_len (row_eq row.now) rows.old.items) }
+    ensures room { vec_capacity rows.old - vec_len rows.old ≤ vec_capacity rows.new - vec_len rows.new }
 {
     if let Some(place) = position(rows, row) {
         rows.remove(place);

@@ -1,8 +1,9 @@
 //! The rows of a relation: in a list, and linked once a second row is to be taken out.
-ghost use Rattle.std.specs.Prelude.{◌≡◌, ◌∷◌, ◌++◌, [], IfOk, OnOk, OnErr, IsTrue, length, remove};
+ghost use Rattle.std.specs.Prelude.{◌≡◌, ◌∷◌, ◌++◌, [], IfOk, OnOk, OnErr, IsTrue, length, count_by, drop, remove};
 ghost use Rattle.std.specs.List.{list_any, position_or_len};
 ghost use Rattle.ss_text.specs.Texts.{row_eq};
 ghost use Rattle.schema_model.specs.Placed.{ArePlaces, placed_rows, first_place, after_place, row_at, is_place};
+ghost use Rattle.schema_model.specs.ListedRows.{IsNext};
 ghost use Rattle.schema_model.specs.RowsKept.{placed_in, waiting_in};
 
 use crate::listed::Listed;
@@ -79,6 +80,17 @@ impl Rows {
         }
     }
 
+    /// How many rows equal this one.
+    #[tactic(auto, using(crate::proofs::NumberedLemmas::rows_numbered, crate::proofs::LinkedLemmas::copies_linked))]
+    pub(crate) fn copies_of(&self, row: &Row) -> usize
+        ensures { result ≡ count_by (row_eq row.now) (placed_rows (placed_in self.now)) }
+    {
+        match self {
+            Rows::Listed(listed) => listed.copies_of(row),
+            Rows::Linked(linked) => linked.count_like(row),
+        }
+    }
+
     /// Puts a row last.
     #[tactic(auto, using(crate::proofs::NumberedLemmas::rows_numbered))]
     pub(crate) fn put(&mut self, alloc: Global, row: Row) -> Result<(), NoMemory>
@@ -100,6 +112,32 @@ impl Rows {
         match self {
             Rows::Listed(listed) => listed.reserve(row),
             Rows::Linked(linked) => reserve_linked(alloc, linked, row),
+        }
+    }
+
+    /// Makes one more row ready to be put last, before those that wait already: takes all memory that this needs.
+    #[tactic(auto, using(crate::proofs::NumberedLemmas::rows_numbered))]
+    pub(crate) fn wait(&mut self, alloc: Global, row: Row) -> Result<(), NoMemory>
+        ensures rows { placed_rows (placed_in self.new) ≡ placed_rows (placed_in self.old) }
+        ensures ok { OnOk result (waiting_in self.new ≡ row ∷ waiting_in self.old) }
+    {
+        match self {
+            Rows::Listed(listed) => listed.wait(row),
+            Rows::Linked(linked) => linked.wait(alloc, row),
+        }
+    }
+
+    /// Lets no row wait.
+    #[tactic(auto, using(crate::proofs::NumberedLemmas::rows_numbered))]
+    pub(crate) fn forget(&mut self, alloc: Global) -> Result<(), NoMemory>
+        ensures { placed_rows (placed_in self.new) ≡ placed_rows (placed_in self.old) }
+    {
+        match self {
+            Rows::Listed(listed) => {
+                listed.forget();
+                Ok(())
+            }
+            Rows::Linked(linked) => linked.reserve(alloc, Vec::new(alloc)),
         }
     }
 
@@ -125,16 +163,18 @@ impl Rows {
     /// Puts others in their place. This takes no memory.
     #[tactic(auto, using(crate::proofs::NumberedLemmas::rows_numbered))]
     pub(crate) fn replace(&mut self, rows: Vec<Row>)
-        ensures { placed_rows (placed_in self.new) ≡ rows.items }
+        ensures rows { placed_rows (placed_in self.new) ≡ rows.items }
+        ensures waiting { waiting_in self.new ≡ [] }
     {
         *self = Rows::Listed(Listed::of(rows));
     }
 
-    /// Puts the row that waits last. This takes no memory.
-    #[tactic(auto, using(crate::proofs::NumberedLemmas::rows_numbered, crate::proofs::LinkedLemmas::added_linked))]
+    /// Puts the first row that waits last. This takes no memory.
+    #[tactic(auto, using(crate::proofs::NumberedLemmas::rows_numbered, crate::proofs::LinkedLemmas::next_linked, crate::proofs::LinkedLemmas::left_linked))]
     pub(crate) fn add(&mut self, row: Snapshot<Row>)
-        requires { waiting_in self.old ≡ row.value ∷ [] }
-        ensures { placed_rows (placed_in self.new) ≡ placed_rows (placed_in self.old) ++ row.value ∷ [] }
+        requires { IsNext row.value (waiting_in self.old) }
+        ensures rows { placed_rows (placed_in self.new) ≡ placed_rows (placed_in self.old) ++ row.value ∷ [] }
+        ensures waiting { waiting_in self.new ≡ drop 1 (waiting_in self.old) }
     {
         match self {
             Rows::Listed(listed) => listed.add(row),
@@ -145,7 +185,8 @@ impl Rows {
     /// Takes the first row out that equals this one, if one does. This takes no memory.
     #[tactic(auto, using(crate::proofs::NumberedLemmas::rows_numbered))]
     pub(crate) fn take(&mut self, row: &Row)
-        ensures { placed_rows (placed_in self.new) ≡ remove (placed_rows (placed_in self.old)) (position_or_len (row_eq row.now) (placed_rows (placed_in self.old))) }
+        ensures rows { placed_rows (placed_in self.new) ≡ remove (placed_rows (placed_in self.old)) (position_or_len (row_eq row.now) (placed_rows (placed_in self.old))) }
+        ensures waiting { waiting_in self.new ≡ waiting_in self.old }
     {
         match self {
             Rows::Listed(listed) => listed.take(row),
@@ -182,7 +223,8 @@ fn put_linked(alloc: Global, linked: &mut Linked, row: Row) -> Result<(), NoMemo
 
 #[tactic(auto, using(crate::proofs::LinkedLemmas::taken_linked))]
 fn take_linked(linked: &mut Linked, row: &Row)
-    ensures { placed_rows linked.new.live ≡ remove (placed_rows linked.old.live) (position_or_len (row_eq row.now) (placed_rows linked.old.live)) }
+    ensures waiting { linked.new.waiting ≡ linked.old.waiting }
+    ensures rows { placed_rows linked.new.live ≡ remove (placed_rows linked.old.live) (position_or_len (row_eq row.now) (placed_rows linked.old.live)) }
 {
     linked.take_first(row);
 }

@@ -15,13 +15,13 @@ edit-requires-clause-sound c =
 pub invariant_of-self : goal.invariant_of-self
 invariant_of-self c =
     let held = rw (← c.in-Some.ensures.value, c.in-At.is) at c.self.invariant.1 in
-    let is = database_set c.self.inside.databases.items c.in-At.db c.index_mut-database.result.now held.makes.fits.0 c.index_mut-database.ensures.value c.in-At.edit c.edit.new.self c.edit.ensures in
-    (subst (λ (ds : CatalogueValue). IsCounted ds c.in-Some.waiting.rows) (sym (is ∙ held.makes.makes)) held.counted, rw c.take.ensures.after tt)
+    let is = database_set c.self.inside.databases.items c.in-At.db c.index_mut-database.result.now held.makes.fits.0 c.index_mut-database.ensures.value c.in-At.edit c.edit.new.self c.edit.ensures.value in
+    (subst (λ (ds : CatalogueValue). IsCounted ds c.in-Some.waiting.rows) (sym (is ∙ held.makes.makes)) held.counted, rw c.take.ensures.after tt, tt)
 
 pub returns-in-At : goal.returns-in-At
 returns-in-At c =
     let held = rw (← c.in-Some.ensures.value, c.in-At.is) at c.self.invariant.1 in
-    let is = database_set c.self.inside.databases.items c.in-At.db c.index_mut-database.result.now held.makes.fits.0 c.index_mut-database.ensures.value c.in-At.edit c.edit.new.self c.edit.ensures in
+    let is = database_set c.self.inside.databases.items c.in-At.db c.index_mut-database.result.now held.makes.fits.0 c.index_mut-database.ensures.value c.in-At.edit c.edit.new.self c.edit.ensures.value in
     let asked = rw (← c.self.view_is, ← c.in-Some.ensures.value) at c.requires in
     let same : c.in-Some.waiting.of.value ≡ c.args.ready = cc in
     rw (← c.self.view_is, c.take.ensures.after) (ap settled (is ∙ held.makes.makes ∙ ap (after (plain_databases c.self.inside.databases.items)) same))
@@ -30,7 +30,7 @@ pub invariant_of-self-in-Put : goal.invariant_of-self-in-Put
 invariant_of-self-in-Put c =
     let held = rw (← c.in-Some.ensures.value, c.in-Put.is) at c.self.invariant.1 in
     let is = ap (map plain_database) c.in-Ok.ensures.items ∙ inserted_seen plain_database c.self.inside.databases.items c.in-Put.place c.in-Put.database in
-    (subst (λ (ds : CatalogueValue). IsCounted ds c.in-Some.waiting.rows) (sym (is ∙ held.makes.makes)) held.counted, rw c.take.ensures.after tt)
+    (subst (λ (ds : CatalogueValue). IsCounted ds c.in-Some.waiting.rows) (sym (is ∙ held.makes.makes)) held.counted, rw c.take.ensures.after tt, tt)
 
 pub returns-in-Put : goal.returns-in-Put
 returns-in-Put c =
@@ -44,7 +44,7 @@ pub invariant_of-self-in-Out : goal.invariant_of-self-in-Out
 invariant_of-self-in-Out c =
     let held = rw (← c.in-Some.ensures.value, c.in-Out.is) at c.self.invariant.1 in
     let is = ap (map plain_database) c.remove.ensures.items ∙ removed_seen plain_database c.self.inside.databases.items c.in-Out.place in
-    (subst (λ (ds : CatalogueValue). IsCounted ds c.in-Some.waiting.rows) (sym (is ∙ held.makes.makes)) held.counted, rw c.take.ensures.after tt)
+    (subst (λ (ds : CatalogueValue). IsCounted ds c.in-Some.waiting.rows) (sym (is ∙ held.makes.makes)) held.counted, rw c.take.ensures.after tt, tt)
 
 pub returns-in-Out : goal.returns-in-Out
 returns-in-Out c =
@@ -59,7 +59,7 @@ invariant_of-self-in-Ok-insert c =
     let held = rw (← c.in-Some.ensures.value, c.in-Rename.is) at c.self.invariant.1 in
     let items = rw c.remove-database.ensures.items at c.in-Ok-insert.ensures.items in
     let is = ap (map plain_database) items ∙ database_renamed c.self.inside.databases.items c.in-Rename.place c.remove-database.result held.makes.fits.0 c.remove-database.ensures.value c.in-Rename.to c.in-Rename.name c.rename.new.self c.rename.ensures in
-    (subst (λ (ds : CatalogueValue). IsCounted ds c.in-Some.waiting.rows) (sym (is ∙ held.makes.makes)) held.counted, rw c.take.ensures.after tt)
+    (subst (λ (ds : CatalogueValue). IsCounted ds c.in-Some.waiting.rows) (sym (is ∙ held.makes.makes)) held.counted, rw c.take.ensures.after tt, tt)
 
 pub returns : goal.returns
 returns c =

@@ -19,4 +19,5 @@ invariant_of-self-2 c =
         makes = rw c.of.ensures c.in_ok-edit.ensures.makes;
         counted = rw c.of.ensures (subst (λ (ds : CatalogueValue). IsCounted (after ds c.args.change.now) c.rows_after-rows.result) (sym same) (record { sound = sound; count = counted }));
       },
+      tt,
     )
