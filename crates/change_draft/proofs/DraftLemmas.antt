@@ -1,6 +1,8 @@
 -- Changes with one more behind them.
-use Rattle.std.proofs.Common.{◌≡◌, ◌∷◌, ◌++◌, ◌∙◌, [], List, Option, Some, None, refl, sym, ap}
-use Rattle.std.specs.Prelude.{IsTrue, OnOk, Result, Ok, Err}
+use Rattle.std.proofs.Common.{◌≡◌, ◌∷◌, ◌++◌, ◌∙◌, ◌+◌, ◌<◌, ◌≤◌, ℕ, suc, [], List, Option, Some, None, refl, sym, ap, subst, drop, length, get_or, add-one}
+use Rattle.std.proofs.Math.Seq.{drop-cons}
+use Rattle.std.proofs.lemmas.List.{drop_all}
+use Rattle.std.specs.Prelude.{IsTrue, IfSome, OnOk, Result, Ok, Err}
 use Rattle.std.specs.List.{AllByRecursion}
 use Rattle.std.specs.Option.{option_or}
 use Rattle.schema_model.specs.Catalogue.{CatalogueValue}
@@ -8,14 +10,14 @@ use Rattle.schema_model.specs.Changes.{after, after_all, is_well_formed}
 use Rattle.schema_model.specs.Refusals.{fault, group_fault}
 use Rattle.schema_model.specs.declared.change.Change.{Change}
 use Rattle.schema_model.specs.declared.refusal.Refusal.{Refusal}
-use Rattle.change_draft.specs.Drafts.{DraftState, StandsOver, after_some}
+use Rattle.change_draft.specs.Drafts.{DraftState, StandsOver}
 
 -- the catalogue after them
 pub after_one_more : (c : CatalogueValue) (gs : List Change) (g : Change) → after_all c (gs ++ g ∷ []) ≡ after (after_all c gs) g
 after_one_more c [] g = refl
 after_one_more c (h ∷ hs) g = after_one_more (after c h) hs g
 
-neither : (a b : Option Refusal) → option_or a b ≡ None → (a ≡ None) × (b ≡ None)
+pub neither : (a b : Option Refusal) → option_or a b ≡ None → (a ≡ None) × (b ≡ None)
 neither None b e = (refl, e)
 neither (Some r) b e = absurd (cc e)
 
@@ -30,37 +32,60 @@ accepted_one_more c (h ∷ hs) g none one =
     let parts = neither (fault c h) (group_fault (after c h) hs) none in
     both (fault c h) (group_fault (after c h) (hs ++ g ∷ [])) parts.0 (accepted_one_more (after c h) hs g parts.1 one)
 
-formed_one_more : (gs : List Change) (g : Change) → AllByRecursion (λ g. IsTrue (is_well_formed g)) gs → IsTrue (is_well_formed g) → AllByRecursion (λ g. IsTrue (is_well_formed g)) (gs ++ g ∷ [])
-formed_one_more [] g all one = (one, tt)
-formed_one_more (h ∷ hs) g all one = (all.0, formed_one_more hs g all.1 one)
+-- what holds of all
+pub all_more : (P : Change → Type 0) (gs : List Change) (g : Change) → AllByRecursion P gs → P g → AllByRecursion P (gs ++ g ∷ [])
+all_more P [] g all one = (one, tt)
+all_more P (h ∷ hs) g all one = (all.0, all_more P hs g all.1 one)
 
-some_one_more : (c : CatalogueValue) (gs : List Change) (g : Change) → after_some c (gs ++ g ∷ []) ≡ Some (after (after_all c gs) g)
-some_one_more c [] g = refl
-some_one_more c (h ∷ hs) g = ap Some (after_one_more (after c h) hs g)
-
--- the catalogue after them, where there are some
-after_held : (c k : CatalogueValue) (gs : List Change) → Some k ≡ after_some c gs → k ≡ after_all c gs
-after_held c k [] e = absurd (cc e)
-after_held c k (g ∷ gs) e = cc e
-
-after_none : (c : CatalogueValue) (gs : List Change) → None ≡ after_some c gs → c ≡ after_all c gs
-after_none c [] e = refl
-after_none c (g ∷ gs) e = absurd (cc e)
-
-stands_with : (d : DraftState) (c e : CatalogueValue) (hs : List Change) (g : Change) → StandsOver d c → IsTrue (is_well_formed g) → fault (after_all c d.changes) g ≡ None → hs ≡ d.changes ++ g ∷ [] → e ≡ after (after_all c d.changes) g
-    → StandsOver (record { changes = hs; after = Some e }) c
-stands_with d c e hs g over formed accepted more made = rw (more, made) record {
-  after = sym (some_one_more c d.changes g);
+-- a draft that holds one change more stands over the same catalogue
+pub stands_more : (d : DraftState) (c : CatalogueValue) (hs : List Change) (g : Change) (o : Option CatalogueValue) → StandsOver d c → IsTrue (is_well_formed g) → fault (after_all c d.changes) g ≡ None → hs ≡ d.changes ++ g ∷ []
+    → IfSome o (λ e. e ≡ after (after_all c d.changes) g) → StandsOver (record { changes = hs; after = o }) c
+stands_more d c hs g o over formed accepted more made = rw more record {
+  after = kept o made;
   accepted = accepted_one_more c d.changes g over.accepted accepted;
-  well_formed = formed_one_more d.changes g over.well_formed formed;
+  well_formed = all_more (λ g. IsTrue (is_well_formed g)) d.changes g over.well_formed formed;
 }
+  where
+    kept : (o : Option CatalogueValue) → IfSome o (λ e. e ≡ after (after_all c d.changes) g) → IfSome o (λ e. e ≡ after_all c (d.changes ++ g ∷ []))
+    kept None made = made
+    kept (Some e) made = made ∙ sym (after_one_more c d.changes g)
 
--- a draft that holds one change more stands over the same catalogue: one that held some, and one that held none
-pub stands_more : {T E : Type 0} (r : Result T E) (d : DraftState) (c k e : CatalogueValue) (hs : List Change) (g : Change) → StandsOver d c → IsTrue (is_well_formed g) → fault (after_all c d.changes) g ≡ None → d.after ≡ Some k
-    → OnOk r (hs ≡ d.changes ++ g ∷ []) → OnOk r (e ≡ after k g) → OnOk r (StandsOver (record { changes = hs; after = Some e }) c)
-stands_more (Ok v) d c k e hs g over formed accepted held more made = stands_with d c e hs g over formed accepted more (made ∙ ap (λ (x : CatalogueValue). after x g) (after_held c k d.changes (sym held ∙ over.after)))
-stands_more (Err v) d c k e hs g over formed accepted held more made = tt
+-- where it goes on counting rows, and where it keeps the catalogue
+pub stands_counted : {T E : Type 0} (r : Result T E) (d : DraftState) (c : CatalogueValue) (hs : List Change) (g : Change) → StandsOver d c → IsTrue (is_well_formed g) → fault (after_all c d.changes) g ≡ None → OnOk r (hs ≡ d.changes ++ g ∷ [])
+    → OnOk r (StandsOver (record { changes = hs; after = None }) c)
+stands_counted (Ok v) d c hs g over formed accepted more = stands_more d c hs g None over formed accepted more tt
+stands_counted (Err v) d c hs g over formed accepted more = tt
 
-pub stands_first : (d : DraftState) (c e : CatalogueValue) (hs : List Change) (g : Change) → StandsOver d c → IsTrue (is_well_formed g) → fault (after_all c d.changes) g ≡ None → d.after ≡ None → hs ≡ d.changes ++ g ∷ [] → e ≡ after c g
-    → StandsOver (record { changes = hs; after = Some e }) c
-stands_first d c e hs g over formed accepted held more made = stands_with d c e hs g over formed accepted more (made ∙ ap (λ (x : CatalogueValue). after x g) (after_none c d.changes (sym held ∙ over.after)))
+pub kept_is : (d : DraftState) (c k : CatalogueValue) → StandsOver d c → d.after ≡ Some k → k ≡ after_all c d.changes
+kept_is d c k over is = subst (λ (o : Option CatalogueValue). IfSome o (λ e. e ≡ after_all c d.changes)) is over.after
+
+pub stands_kept : {T E : Type 0} (r : Result T E) (d : DraftState) (c k e : CatalogueValue) (hs : List Change) (g : Change) → StandsOver d c → IsTrue (is_well_formed g) → fault (after_all c d.changes) g ≡ None → d.after ≡ Some k → OnOk r (hs ≡ d.changes ++ g ∷ []) → OnOk r (e ≡ after k g)
+    → OnOk r (StandsOver (record { changes = hs; after = Some e }) c)
+stands_kept (Ok v) d c k e hs g over formed accepted is more made = stands_more d c hs g (Some e) over formed accepted more (made ∙ ap (λ (x : CatalogueValue). after x g) (kept_is d c k over is))
+stands_kept (Err v) d c k e hs g over formed accepted is more made = tt
+
+-- the changes that are left from a place on can be made, and come to the same as all of them
+pub record IsLeft (c : CatalogueValue) (all : List Change) (now : CatalogueValue) (i : ℕ) : Type 0 where
+  pub after_them : after_all now (drop i all) ≡ after_all c all
+  pub accepted : group_fault now (drop i all) ≡ None
+  pub well_formed : AllByRecursion (λ g. IsTrue (is_well_formed g)) (drop i all)
+
+module _ (c : CatalogueValue) (all : List Change) (now : CatalogueValue) (i : ℕ) (left : IsLeft c all now i) where
+  module _ (g : Change) (more : i < length all) (at : g ≡ get_or all i g) where
+    next : drop i all ≡ g ∷ drop (i + 1) all
+    next = drop-cons all i g more ∙ rw add-one (ap (λ (h : Change). h ∷ drop (suc i) all) (sym at))
+
+    none : (fault now g ≡ None) × (group_fault (after now g) (drop (i + 1) all) ≡ None)
+    none = neither (fault now g) (group_fault (after now g) (drop (i + 1) all)) (sym (ap (group_fault now) next) ∙ left.accepted)
+
+    formed : IsTrue (is_well_formed g) × AllByRecursion (λ g. IsTrue (is_well_formed g)) (drop (i + 1) all)
+    formed = subst (AllByRecursion (λ g. IsTrue (is_well_formed g))) next left.well_formed
+
+    pub can_make : (fault now g ≡ None) × IsTrue (is_well_formed g)
+    can_make = (none.0, formed.0)
+
+    pub one_made : IsLeft c all (after now g) (i + 1)
+    one_made = record { after_them = sym (ap (after_all now) next) ∙ left.after_them; accepted = none.1; well_formed = formed.1 }
+
+  pub all_made : length all ≤ i → now ≡ after_all c all
+  all_made done = sym (ap (after_all now) (drop_all i all done)) ∙ left.after_them

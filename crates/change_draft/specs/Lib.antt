@@ -1,1 +1,4 @@
+pub mod Named
+pub mod Counted
 pub mod Drafts
+pub mod Kept

@@ -1,32 +1,45 @@
-//! A draft: changes that are held, and the catalogue after them.
-ghost use Rattle.std.specs.Prelude.{◌≡◌, ◌++◌, ◌∷◌, [], None, OnOk, OnErr, IsTrue, option_map};
+//! A draft: changes that are held, and what is kept to judge the next one.
+ghost use Rattle.std.specs.Prelude.{◌≡◌, ◌++◌, ◌∷◌, [], None, IfOk, OnOk, OnErr, IsTrue};
 ghost use Rattle.schema_model.specs.Changes.{after, after_all, is_well_formed};
-ghost use Rattle.schema_model.specs.Refusals.{fault};
-ghost use Rattle.schema_model.specs.States.{CatalogueState};
-ghost use Rattle.change_draft.specs.Drafts.{StandsOver, empty};
+ghost use Rattle.std.specs.List.{AllByRecursion};
+ghost use Rattle.schema_model.specs.Refusals.{fault, group_fault};
+ghost use Rattle.change_draft.specs.Drafts.{StandsOver, empty, without_rows};
+ghost use Rattle.change_draft.specs.Counted.{AreCounted, is_of_rows};
 
 use crate::copied::copied;
+use crate::counted::{RowCounts, is_of_rows};
 use schema_model::{Catalogue, Change, Refusal};
 use ss_text::NoMemory;
 use std::alloc::Global;
 use std::marker::Model;
+use std::mem::replace;
 
 /// Changes that wait to be made together, which contracts see as their list and the catalogue after them, where it
-/// holds some. It stands over the catalogue that they are for.
+/// keeps one. It stands over the catalogue that they are for.
 #[derive(Drop)]
 pub struct Draft {
     changes: Vec<Change>,
-    after: Option<Catalogue>,
+    kept: Kept,
+}
+
+// What is kept to judge a change.
+#[derive(Drop)]
+enum Kept {
+    // How often the changes bring and take each row, where they insert and delete rows alone.
+    Counts(RowCounts),
+    // The catalogue after them.
+    After(Catalogue),
 }
 
 impl Model for Draft {
-    ghost use Rattle.std.specs.Prelude.{option_map};
-    ghost use Rattle.schema_model.specs.States.{CatalogueState};
     ghost use Rattle.change_draft.specs.Drafts.{DraftState};
+    ghost use Rattle.change_draft.specs.Kept.{after_kept, CountedIn};
 
     ghost Value = { DraftState };
 
-    ghost view = { λ d. record { changes = d.changes.items; after = option_map (λ (c : CatalogueState). c.databases) d.after } };
+    ghost view = { λ d. record { changes = d.changes.items; after = after_kept d.kept } };
+
+    ghost invariant = { λ d. CountedIn d.kept d.changes.items };
 }
 
 impl Draft {
@@ -36,7 +49,7 @@ impl Draft {
     {
         Draft {
             changes: Vec::new(alloc),
-            after: None,
+            kept: Kept::Counts(RowCounts::none(alloc)),
         }
     }
 
@@ -45,7 +58,10 @@ impl Draft {
         requires { StandsOver self.now base.now.databases }
         ensures { result ≡ fault (after_all base.now.databases self.now.changes) change.now }
     {
-        self.catalogue(base).judge(change)
+        match &self.kept {
+            Kept::Counts(counts) => counts.judge(base, change),
+            Kept::After(catalogue) => catalogue.judge(change),
+        }
     }
 
     /// Holds one more change, which is not refused. After `NoMemory` the draft is as before.
@@ -57,14 +73,16 @@ impl Draft {
         ensures stands { OnOk result (StandsOver self.new base.now.databases) }
         ensures same { OnErr result (self.new ≡ self.old) }
     {
-        match &mut self.after {
-            Some(catalogue) => hold_in(&mut self.changes, catalogue, change),
-            None => {
-                let mut catalogue = base.copy()?;
-                hold_in(&mut self.changes, &mut catalogue, change)?;
-                self.after = Some(catalogue);
+        match &mut self.kept {
+            Kept::Counts(counts) if is_of_rows(change) => {
+                hold_row(&mut self.changes, counts, change)
+            }
+            Kept::Counts(_) => {
+                let catalogue = hold_after(&mut self.changes, base, change)?;
+                drop(replace(&mut self.kept, Kept::After(catalogue)));
                 Ok(())
             }
+            Kept::After(catalogue) => hold_in(&mut self.changes, catalogue, change),
         }
     }
 
@@ -75,23 +93,88 @@ impl Draft {
         &self.changes
     }
 
-    /// The catalogue after the changes that it holds.
-    pub fn catalogue<'a>(&'a self, base: &'a Catalogue) -> &'a Catalogue
+    /// A catalogue with the databases, the relations and the attributes of the one after its changes. Of the rows
+    /// nothing is said.
+    pub fn schema<'a>(&'a self, base: &'a Catalogue) -> &'a Catalogue
         requires { StandsOver self.now base.now.databases }
-        ensures { result.now.databases ≡ after_all base.now.databases self.now.changes }
+        ensures { without_rows result.now.databases ≡ without_rows (after_all base.now.databases self.now.changes) }
     {
-        match &self.after {
-            Some(catalogue) => catalogue,
-            None => base,
+        match &self.kept {
+            Kept::Counts(_) => base,
+            Kept::After(catalogue) => catalogue,
         }
     }
 
-    /// That catalogue, where it holds some.
-    pub fn into_catalogue(self) -> Option<Catalogue>
-        ensures { option_map (λ (c : CatalogueState). c.databases) result ≡ self.after }
+    /// A copy of the catalogue in which its changes are made.
+    pub fn after(&self, base: &Catalogue) -> Result<Catalogue, NoMemory>
+        requires { StandsOver self.now base.now.databases }
+        ensures { IfOk result (λ c. c.databases ≡ after_all base.now.databases self.now.changes) }
     {
-        self.after
+        match &self.kept {
+            Kept::Counts(_) => made(base, &self.changes),
+            Kept::After(catalogue) => catalogue.copy(),
+        }
     }
+}
+
+// A copy of a catalogue in which changes are made.
+fn made(base: &Catalogue, changes: &[Change]) -> Result<Catalogue, NoMemory>
+    requires accepted { group_fault base.now.databases changes.now ≡ None }
+    requires well_formed { AllByRecursion (λ g. IsTrue (is_well_formed g)) changes.now }
+    ensures { IfOk result (λ c. c.databases ≡ after_all base.now.databases changes.now) }
+{
+    let mut catalogue = base.copy()?;
+    match make_all(&mut catalogue, changes) {
+        Ok(()) => Ok(catalogue),
+        Err(error) => {
+            drop(catalogue);
+            Err(error)
+        }
+    }
+}
+
+// Makes changes, of which none is refused behind those before it.
+fn make_all(catalogue: &mut Catalogue, changes: &[Change]) -> Result<(), NoMemory>
+    requires accepted { group_fault catalogue.old.databases changes.now ≡ None }
+    requires well_formed { AllByRecursion (λ g. IsTrue (is_well_formed g)) changes.now }
+    ensures { OnOk result (catalogue.new.databases ≡ after_all catalogue.old.databases changes.now) }
+{
+    for change in changes {
+        make(catalogue, change)?;
+    }
+    Ok(())
+}
+
+// Makes a change that is not refused.
+fn make(catalogue: &mut Catalogue, change: &Change) -> Result<(), NoMemory>
+    requires well_formed { IsTrue (is_well_formed change.now) }
+    requires accepted { fault catalogue.old.databases change.now ≡ None }
+    ensures { OnOk result (catalogue.new.databases ≡ after catalogue.old.databases change.now) }
+{
+    let waits = catalogue.reserve(change)?;
+    catalogue.commit(waits);
+    Ok(())
+}
+
+// Counts a change of rows, and puts it last.
+fn hold_row(
+    changes: &mut Vec<Change>,
+    counts: &mut RowCounts,
+    change: &Change,
+) -> Result<(), NoMemory>
+    requires counted { AreCounted counts.old changes.old.items }
+    requires of_rows { IsTrue (is_of_rows change.now) }
+    ensures held { OnOk result (changes.new.items ≡ changes.old.items ++ change.now ∷ []) }
+    ensures counted { AreCounted counts.new changes.new.items }
+    ensures same { OnErr result (changes.new.items ≡ changes.old.items) }
+{
+    let held = copied(change)?;
+    changes.reserve(1)?;
+    counts.count(change)?;
+    let Ok(()) = changes.push(held) else {
+        unreachable!()
+    };
+    Ok(())
 }
 
 // Makes a change of a catalogue, and puts it last.
@@ -112,4 +195,28 @@ fn hold_in(
     changes.push(held)?;
     catalogue.commit(ready);
     Ok(())
+}
+
+// The catalogue after changes and one more, which is put last.
+fn hold_after(
+    changes: &mut Vec<Change>,
+    base: &Catalogue,
+    change: &Change,
+) -> Result<Catalogue, NoMemory>
+    requires all_accepted { group_fault base.now.databases changes.old.items ≡ None }
+    requires all_well_formed { AllByRecursion (λ g. IsTrue (is_well_formed g)) changes.old.items }
+    requires well_formed { IsTrue (is_well_formed change.now) }
+    requires accepted { fault (after_all base.now.databases changes.old.items) change.now ≡ None }
+    ensures held { OnOk result (changes.new.items ≡ changes.old.items ++ change.now ∷ []) }
+    ensures made { IfOk result (λ c. c.databases ≡ after (after_all base.now.databases changes.old.items) change.now) }
+    ensures same { OnErr result (changes.new.items ≡ changes.old.items) }
+{
+    let mut catalogue = made(base, changes)?;
+    match hold_in(changes, &mut catalogue, change) {
+        Ok(()) => Ok(catalogue),
+        Err(error) => {
+            drop(catalogue);
+            Err(error)
+        }
+    }
 }

@@ -74,10 +74,7 @@ fn is_behind(alloc: Global, draft: &mut Draft, base: &Catalogue) -> Result<bool,
 {
     let refusal = first_refusal(alloc, draft, base, THREE)?;
     let behind = answer(alloc, draft, base, "insert d r 1")?;
-    let (changes, databases) = (
-        draft.changes().len(),
-        draft.catalogue(base).databases().len(),
-    );
+    let (changes, databases) = (draft.changes().len(), draft.schema(base).databases().len());
     Ok((refusal, behind) == (None, Some(Refusal::NoRelation)) && (changes, databases) == (3, 1))
 }
 
@@ -88,5 +85,33 @@ fn changes_behind_those_that_are_held(rt: HostRuntime) -> Result<(), Fail> {
     let mut draft = Draft::new(alloc);
     let behind = is_behind(alloc, &mut draft, &base);
     assert_eq!(rt; behind, Ok(true));
+    Ok(())
+}
+
+const ROWS: &str = "insert d s 1\ndelete d s 1\ndelete d s 1";
+
+// The first refusal of rows that come and go over the catalogue after the three.
+fn rows_refused(
+    alloc: Global,
+    draft: &mut Draft,
+    base: &Catalogue,
+) -> Result<Option<Refusal>, ChangeFault>
+    requires { StandsOver draft.old base.now.databases }
+{
+    let none = first_refusal(alloc, draft, base, THREE)?;
+    let after = draft.after(base)?;
+    let mut rows = Draft::new(alloc);
+    let refusal = first_refusal(alloc, &mut rows, &after, ROWS);
+    drop(after);
+    Ok(none.or(refusal?))
+}
+
+#[test]
+fn a_row_goes_as_often_as_it_came(rt: HostRuntime) -> Result<(), Fail> {
+    let alloc = rt.alloc();
+    let base = Catalogue::empty(alloc);
+    let mut draft = Draft::new(alloc);
+    let refusal = rows_refused(alloc, &mut draft, &base);
+    assert_eq!(rt; refusal, Ok(Some(Refusal::NoRow)));
     Ok(())
 }

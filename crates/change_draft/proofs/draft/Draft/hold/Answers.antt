@@ -1,25 +1,33 @@
-use Rattle.std.proofs.Common.{◌≡◌, ◌∙◌, None, ap, subst, sym}
-use Rattle.std.specs.Prelude.{option_map}
-use Rattle.schema_model.specs.Changes.{after, after_all}
+use Rattle.std.proofs.Common.{◌≡◌, Some, None, ap, subst, sym}
+use Rattle.schema_model.specs.Changes.{after_all}
 use Rattle.schema_model.specs.Refusals.{fault}
-use Rattle.schema_model.specs.States.{CatalogueState}
 use Rattle.change_draft.specs.Drafts.{DraftState, StandsOver}
-use Rattle.change_draft.proofs.DraftLemmas.{stands_more, stands_first}
+use Rattle.change_draft.specs.Kept.{after_kept}
+use Rattle.change_draft.specs.declared.draft.Kept.{Kept}
+use Rattle.change_draft.proofs.DraftLemmas.{stands_counted, stands_kept, stands_more}
 use Rattle.change_draft.proofs.draft.Draft.hold.Goals as goal
 
-pub returns-in-Some-clause-stands : goal.returns-in-Some-clause-stands
-returns-in-Some-clause-stands c =
-    let d : DraftState = record { changes = c.self.inside.changes.items; after = option_map (λ (k : CatalogueState). k.databases) c.self.inside.after } in
+pub returns-in-Counts-clause-stands : goal.returns-in-Counts-clause-stands
+returns-in-Counts-clause-stands c =
+    let d : DraftState = record { changes = c.self.inside.changes.items; after = after_kept c.self.inside.kept } in
     let base = c.args.base.now.databases in
     let accepted = subst (λ (x : DraftState). fault (after_all base x.changes) c.args.change.now ≡ None) (sym c.self.view_is) c.requires.accepted in
-    stands_more c.hold_in.result d base c.in-Some.catalogue.databases c.hold_in.new.catalogue.databases c.hold_in.new.changes.items c.args.change.now
-    (subst (λ (x : DraftState). StandsOver x base) (sym c.self.view_is) c.requires.stands) c.requires.well_formed accepted (ap (option_map (λ (k : CatalogueState). k.databases)) c.in-Some.is) c.hold_in.ensures.held c.hold_in.ensures.made
+    stands_counted c.hold_row.result d base c.hold_row.new.changes.items c.args.change.now
+    (subst (λ (x : DraftState). StandsOver x base) (sym c.self.view_is) c.requires.stands) c.requires.well_formed accepted c.hold_row.ensures.held
 
-pub returns-in_ok-hold_in-in-None-clause-stands : goal.returns-in_ok-hold_in-in-None-clause-stands
-returns-in_ok-hold_in-in-None-clause-stands c =
-    let d : DraftState = record { changes = c.self.inside.changes.items; after = option_map (λ (k : CatalogueState). k.databases) c.self.inside.after } in
+pub returns-in_ok-catalogue-in-Counts-2-clause-stands : goal.returns-in_ok-catalogue-in-Counts-2-clause-stands
+returns-in_ok-catalogue-in-Counts-2-clause-stands c =
+    let d : DraftState = record { changes = c.self.inside.changes.items; after = after_kept c.self.inside.kept } in
     let base = c.args.base.now.databases in
     let accepted = subst (λ (x : DraftState). fault (after_all base x.changes) c.args.change.now ≡ None) (sym c.self.view_is) c.requires.accepted in
-    stands_first d base c.hold_in-in-None.new.catalogue.databases c.hold_in-in-None.new.changes.items c.args.change.now
-    (subst (λ (x : DraftState). StandsOver x base) (sym c.self.view_is) c.requires.stands) c.requires.well_formed accepted (ap (option_map (λ (k : CatalogueState). k.databases)) c.in-None.is) c.in_ok-hold_in-in-None.ensures.held
-    (c.in_ok-hold_in-in-None.ensures.made ∙ ap (λ (k : CatalogueState). after k.databases c.args.change.now) c.in_ok-catalogue-in-None.ensures)
+    subst (λ (k : Kept). StandsOver (record { changes = c.hold_after.new.changes.items; after = after_kept k }) base) (sym c.replace.ensures.after)
+    (stands_more d base c.hold_after.new.changes.items c.args.change.now (Some c.in_ok-catalogue-in-Counts-2.catalogue.databases)
+    (subst (λ (x : DraftState). StandsOver x base) (sym c.self.view_is) c.requires.stands) c.requires.well_formed accepted c.in_ok-catalogue-in-Counts-2.ensures.held c.in_ok-catalogue-in-Counts-2.ensures.made)
+
+pub returns-in-After-clause-stands : goal.returns-in-After-clause-stands
+returns-in-After-clause-stands c =
+    let d : DraftState = record { changes = c.self.inside.changes.items; after = after_kept c.self.inside.kept } in
+    let base = c.args.base.now.databases in
+    let accepted = subst (λ (x : DraftState). fault (after_all base x.changes) c.args.change.now ≡ None) (sym c.self.view_is) c.requires.accepted in
+    stands_kept c.hold_in.result d base c.in-After.catalogue.databases c.hold_in.new.catalogue.databases c.hold_in.new.changes.items c.args.change.now
+    (subst (λ (x : DraftState). StandsOver x base) (sym c.self.view_is) c.requires.stands) c.requires.well_formed accepted (ap after_kept c.in-After.is) c.hold_in.ensures.held c.hold_in.ensures.made

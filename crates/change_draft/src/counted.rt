@@ -1,0 +1,174 @@
+//! How often changes bring and take each row.
+ghost use Rattle.std.specs.Prelude.{◌≡◌, ◌+◌, ◌-◌, ◌<◌, ◌≤◌, ◌^◌, ◌++◌, ◌∷◌, [], List, None, Some, IfOk, IfErr, OnOk, OnErr, IsTrue, length, count_by, if◌then◌else◌, ◌&&◌, nat_le};
+ghost use Rattle.counts.specs.Counted.{counted};
+ghost use Rattle.schema_model.specs.Catalogue.{relation_of, row_count};
+ghost use Rattle.schema_model.specs.Changes.{after_all};
+ghost use Rattle.schema_model.specs.Refusals.{fault, group_fault, row_fault};
+ghost use Rattle.schema_model.specs.States.{plain_relation};
+ghost use Rattle.schema_model.specs.declared.change.Change.{Change as Changes};
+ghost use Rattle.schema_model.specs.declared.change.Change.TheVariants as change_is;
+ghost use Rattle.change_draft.specs.Named.{NamedRow, named, named_eq};
+ghost use Rattle.change_draft.specs.Counted.{is_of_rows, AreCounted};
+
+use crate::named::Named;
+use counts::count_of;
+use indexmap::IndexMap;
+use schema_model::{Catalogue, Change, Refusal, Relation, Which};
+use ss_text::{NoMemory, Row, Text};
+use std::alloc::Global;
+use std::hash::Hash;
+
+const MOST_ROWS: usize = 1_000_000;
+
+/// How often changes of rows bring and take each row that they name, and how many they bring and take in all.
+#[derive(Drop)]
+pub(crate) struct RowCounts {
+    came: IndexMap<Named<'static>, u128>,
+    went: IndexMap<Named<'static>, u128>,
+    come: usize,
+    gone: usize,
+}
+
+/// Whether a change inserts or deletes a row.
+pub(crate) fn is_of_rows(change: &Change) -> bool
+    ensures { result ≡ is_of_rows change.now }
+{
+    matches!(change, Change::Insert { .. } | Change::Delete { .. })
+}
+
+impl RowCounts {
+    // Where there are no changes.
+    pub(crate) fn none(alloc: Global) -> RowCounts
+        ensures { AreCounted result [] }
+    {
+        RowCounts {
+            came: IndexMap::new(alloc),
+            went: IndexMap::new(alloc),
+            come: 0,
+            gone: 0,
+        }
+    }
+
+    // Counts one more change of rows. After `NoMemory` the counts are as before.
+    pub(crate) fn count(&mut self, change: &Change) -> Result<(), NoMemory>
+        requires few { (gs : List Changes) × AreCounted self.old gs × (length gs + 1 < 2 ^ 64) }
+        requires of_rows { IsTrue (is_of_rows change.now) }
+        ensures counted { OnOk result ((gs : List Changes) → AreCounted self.old gs → AreCounted self.new (gs ++ change.now ∷ [])) }
+        ensures same { OnErr result ((gs : List Changes) → AreCounted self.old gs → AreCounted self.new gs) }
+    {
+        match change {
+            Change::Insert { db, rel, row } => {
+                once_more(&mut self.came, db, rel, row)?;
+                self.come += 1;
+            }
+            Change::Delete { db, rel, row } => {
+                once_more(&mut self.went, db, rel, row)?;
+                self.gone += 1;
+            }
+            _ => unreachable!(),
+        }
+        Ok(())
+    }
+
+    // The first refusal of a change behind those that are counted.
+    pub(crate) fn judge(&self, base: &Catalogue, change: &Change) -> Option<Refusal>
+        ensures { (gs : List Changes) → AreCounted self.now gs → group_fault base.now.databases gs ≡ None → result ≡ fault (after_all base.now.databases gs) change.now }
+    {
+        match change {
+            Change::Insert { db, rel, row } => self.judge_insert(base, db, rel, row),
+            Change::Delete { db, rel, row } => self.judge_delete(base, db, rel, row),
+            _ => base.judge(change),
+        }
+    }
+
+    fn judge_insert(&self, base: &Catalogue, db: &Text, rel: &Text, row: &Row) -> Option<Refusal>
+        ensures { (gs : List Changes) → AreCounted self.now gs → group_fault base.now.databases gs ≡ None → result ≡ fault (after_all base.now.databases gs) (change_is.Insert db.now rel.now row.now) }
+    {
+        match relation_for(base, db, rel, row) {
+            Err(refusal) => Some(refusal),
+            Ok(_) if self.fills(MOST_ROWS - base.row_count()) => Some(Refusal::Limit {
+                which: Which::Rows,
+            }),
+            Ok(_) => None,
+        }
+    }
+
+    fn judge_delete(&self, base: &Catalogue, db: &Text, rel: &Text, row: &Row) -> Option<Refusal>
+        ensures { (gs : List Changes) → AreCounted self.now gs → group_fault base.now.databases gs ≡ None → result ≡ fault (after_all base.now.databases gs) (change_is.Delete db.now rel.now row.now) }
+    {
+        match relation_for(base, db, rel, row) {
+            Err(refusal) => Some(refusal),
+            Ok(relation) if self.takes_all(db, rel, row, relation.copies_of(row)) => Some(
+                Refusal::NoRow,
+            ),
+            Ok(_) => None,
+        }
+    }
+
+    // Whether the changes bring so many rows more than they take.
+    fn fills(&self, room: usize) -> bool
+        ensures { result ≡ nat_le (self.now.gone + room) self.now.come }
+    {
+        self.come >= self.gone && self.come - self.gone >= room
+    }
+
+    // Whether the changes take as many of such rows as there were, and as many as they bring.
+    fn takes_all(&self, db: &Text, rel: &Text, row: &Row, copies: usize) -> bool
+        ensures { result ≡ nat_le (copies + counted named_eq self.now.came (named db.now rel.now row.now)) (counted named_eq self.now.went (named db.now rel.now row.now)) }
+    {
+        let key = Named::lent(db, rel, row);
+        let (came, went) = (count_of(&self.came, &key), count_of(&self.went, &key));
+        drop(key);
+        went >= came && went - came >= copies as u128
+    }
+}
+
+// Counts a row once more. After `NoMemory` the counts are as before.
+fn once_more(
+    counts: &mut IndexMap<Named<'static>, u128>,
+    db: &Text,
+    rel: &Text,
+    row: &Row,
+) -> Result<(), NoMemory>
+    requires { counted named_eq counts.old (named db.now rel.now row.now) + 1 < 2 ^ 128 }
+    ensures more { OnOk result ((n : NamedRow) → counted named_eq counts.new n ≡ counted named_eq counts.old n + (if named_eq (named db.now rel.now row.now) n then 1 else 0)) }
+    ensures same { OnErr result ((n : NamedRow) → counted named_eq counts.new n ≡ counted named_eq counts.old n) }
+{
+    let key = Named::owned(db, rel, row)?;
+    add_one(counts, key)?;
+    Ok(())
+}
+
+fn add_one<K: Eq + Hash + Drop>(counts: &mut IndexMap<K, u128>, key: K) -> Result<(), NoMemory>
+    requires { counted K.eq counts.old key + 1 < 2 ^ 128 }
+    ensures more { OnOk result ((q : K) → counted K.eq counts.new q ≡ counted K.eq counts.old q + (if K.eq key q then 1 else 0)) }
+    ensures same { OnErr result ((q : K) → counted K.eq counts.new q ≡ counted K.eq counts.old q) }
+{
+    let count = count_of(counts, &key);
+    counts.insert(key, count + 1)?;
+    Ok(())
+}
+
+// The relation that a row is for, where the row has as many texts as it has attributes.
+fn relation_for<'a>(
+    base: &'a Catalogue,
+    db: &Text,
+    rel: &Text,
+    row: &Row,
+) -> Result<&'a Relation, Refusal>
+    ensures found { IfOk result (λ r. relation_of base.now.databases db.now rel.now ≡ Some (plain_relation r.now)) }
+    ensures fits { IfOk result (λ r. row_fault base.now.databases db.now rel.now row.now ≡ None) }
+    ensures refused { IfErr result (λ e. row_fault base.now.databases db.now rel.now row.now ≡ Some e) }
+{
+    let Some(database) = base.database(db) else {
+        return Err(Refusal::NoDatabase);
+    };
+    let Some(relation) = database.relation(rel) else {
+        return Err(Refusal::NoRelation);
+    };
+    let (want, got) = (relation.attributes().cells().len(), row.cells().len());
+    if got != want {
+        return Err(Refusal::ArityDiffers { want, got });
+    }
+    Ok(relation)
+}
