@@ -21,7 +21,7 @@ use Rattle.schema_delta.specs.declared.spec.FlatSpec.{FlatSpec}
 use Rattle.schema_delta.proofs.ListLemmas.{one_changes, one_comes, one_goes, still_none, beside}
 
 -- what holds of all holds of the one that is found
-found_holds : {X : Type 0} (P : X → Type 0) (p : X → Bool) (xs : List X) (x : X) → AllByRecursion P xs → find p xs ≡ Some x → P x
+pub found_holds : {X : Type 0} (P : X → Type 0) (p : X → Bool) (xs : List X) (x : X) → AllByRecursion P xs → find p xs ≡ Some x → P x
 found_holds P p [] x all found = absurd (cc)
 found_holds P p (y ∷ xs) x all found =
     elim (p y) as (λ b. p y ≡ b → cond b (Some y) (find p xs) ≡ Some x → P x) [
@@ -30,7 +30,7 @@ found_holds P p (y ∷ xs) x all found =
     ] refl found
 
 -- what is found through another is found in it
-found_both : {X Y : Type 0} (o : Option X) (f : X → Option Y) (y : Y) → option_and_then f o ≡ Some y → (x : X) × (o ≡ Some x) × (f x ≡ Some y)
+pub found_both : {X Y : Type 0} (o : Option X) (f : X → Option Y) (y : Y) → option_and_then f o ≡ Some y → (x : X) × (o ≡ Some x) × (f x ≡ Some y)
 found_both None f y h = absurd (cc)
 found_both (Some x) f y h = (x, refl, h)
 

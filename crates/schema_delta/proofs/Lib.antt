@@ -3,3 +3,4 @@ pub mod FlatLaw
 pub mod InsideLemmas
 pub mod Asked
 pub mod GroupLemmas
+pub mod OneRowLaw

@@ -1,4 +1,4 @@
-//! Rows and attributes of one relation that come, go and get another name.
+//! Attributes of one relation that come, go and get another name.
 ghost use Rattle.std.specs.Prelude.{◌≡◌, None, IfOk};
 ghost use Rattle.schema_model.specs.declared.change.Change.TheVariants as change_is;
 ghost use Rattle.schema_model.specs.Refusals.{fault};
@@ -11,47 +11,9 @@ use fold_op::place_of;
 use operator_law::Delta;
 use schema_model::Catalogue;
 use sheets::SheetChange;
-use ss_text::{NoMemory, Row, Steps, Text};
+use ss_text::{NoMemory, Steps, Text};
 use std::alloc::Global;
 use std::sync::ledger::Ledger;
-
-pub(crate) fn inserted<L: Ledger>(
-    alloc: Global,
-    catalogue: &Catalogue,
-    db: &Text,
-    rel: &Text,
-    row: &Row,
-    spec: &FlatSpec,
-    steps: &mut Steps<L>,
-) -> Result<Delta, NoMemory>
-    requires { fault catalogue.now.databases (change_is.Insert db.now rel.now row.now) ≡ None }
-    ensures moved { IfOk result (MovesFlat catalogue.now.databases (change_is.Insert db.now rel.now row.now) spec.now) }
-    ensures steps { steps.new ≡ steps.old }
-{
-    let relation = relation_of(catalogue, db, rel);
-    let change = SheetChange::Up { row: row.copy()? };
-    let delta = part_change(alloc, spec, db, relation, &change, steps)?;
-    Ok(delta)
-}
-
-pub(crate) fn deleted<L: Ledger>(
-    alloc: Global,
-    catalogue: &Catalogue,
-    db: &Text,
-    rel: &Text,
-    row: &Row,
-    spec: &FlatSpec,
-    steps: &mut Steps<L>,
-) -> Result<Delta, NoMemory>
-    requires { fault catalogue.now.databases (change_is.Delete db.now rel.now row.now) ≡ None }
-    ensures moved { IfOk result (MovesFlat catalogue.now.databases (change_is.Delete db.now rel.now row.now) spec.now) }
-    ensures steps { steps.new ≡ steps.old }
-{
-    let relation = relation_of(catalogue, db, rel);
-    let change = SheetChange::Down { row: row.copy()? };
-    let delta = part_change(alloc, spec, db, relation, &change, steps)?;
-    Ok(delta)
-}
 
 pub(crate) fn attribute_added<L: Ledger>(
     alloc: Global,

@@ -5,11 +5,12 @@ ghost use Rattle.schema_model.specs.Refusals.{fault};
 ghost use Rattle.schema_delta.specs.Flat.{MovesFlat};
 
 use crate::FlatSpec;
-use crate::attributes::{attribute_added, attribute_dropped, attribute_renamed, deleted, inserted};
+use crate::attributes::{attribute_added, attribute_dropped, attribute_renamed};
 use crate::databases::{
     database_created, database_dropped, database_renamed, relation_created, relation_dropped,
     relation_renamed,
 };
+use crate::one_row::rows_change;
 use operator_law::Delta;
 use schema_model::{Catalogue, Change};
 use ss_text::{NoMemory, Steps};
@@ -49,12 +50,8 @@ pub(crate) fn flat_change<L: Ledger>(
     ensures steps { steps.new ≡ steps.old }
 {
     match change {
-        Change::Insert { db, rel, row } => {
-            Ok(inserted(alloc, catalogue, db, rel, row, spec, steps)?)
-        }
-        Change::Delete { db, rel, row } => Ok(deleted(
-            alloc, catalogue, db, rel, row, spec, steps,
-        )?),
+        Change::Insert { .. } => Ok(rows_change(alloc, catalogue, change, spec)?),
+        Change::Delete { .. } => Ok(rows_change(alloc, catalogue, change, spec)?),
         Change::AddAttribute {
             db,
             rel,

@@ -1,13 +1,15 @@
 //! How changes that are made one after another move the flat rows of declarations.
 ghost use Rattle.std.specs.Prelude.{◌≡◌, [], map, length, None, IfOk, OnOk, IsTrue};
-ghost use Rattle.std.specs.List.{AllByRecursion, AllZip};
+ghost use Rattle.std.specs.List.{AllByRecursion, AllZip, list_all};
 ghost use Rattle.schema_model.specs.Catalogue.{CatalogueValue};
 ghost use Rattle.schema_model.specs.Changes.{after, is_well_formed};
 ghost use Rattle.schema_model.specs.Refusals.{fault, group_fault};
 ghost use Rattle.schema_delta.specs.Flat.{MovesBetween, MovesGroup};
+ghost use Rattle.schema_delta.specs.OneRow.{is_of_rows};
 
 use crate::FlatSpec;
 use crate::changes::flat_change;
+use crate::one_row::{is_of_rows, rows_change};
 use operator_law::Delta;
 use schema_model::{Catalogue, Change};
 use ss_text::{NoMemory, Steps};
@@ -15,8 +17,74 @@ use std::alloc::Global;
 use std::sync::ledger::Ledger;
 
 /// How changes move the flat rows of each declaration, of which none is refused behind those before it. The catalogue
-/// stays: its states between are those of a copy, in which the changes are made.
+/// stays. Where all insert or delete rows none is copied; else its states between are those of a copy, in which the
+/// changes are made.
 pub fn flat_group<L: Ledger>(
+    alloc: Global,
+    catalogue: &Catalogue,
+    changes: &[Change],
+    specs: &[FlatSpec],
+    steps: &mut Steps<L>,
+) -> Result<Vec<Delta>, NoMemory>
+    requires accepted { group_fault catalogue.now.databases changes.now ≡ None }
+    requires well_formed { AllByRecursion (λ g. IsTrue (is_well_formed g)) changes.now }
+    ensures moved { IfOk result (λ deltas. AllZip (MovesGroup catalogue.now.databases changes.now) specs.now deltas.items) }
+    ensures steps { steps.new ≡ steps.old }
+{
+    if all_of_rows(changes) {
+        by_rows(alloc, catalogue, changes, specs)
+    } else {
+        by_states(alloc, catalogue, changes, specs, steps)
+    }
+}
+
+fn all_of_rows(changes: &[Change]) -> bool
+    ensures { result ≡ list_all is_of_rows changes.now }
+{
+    changes.iter().all(|change| is_of_rows(change))
+}
+
+// The moves of each declaration by changes of rows.
+fn by_rows(
+    alloc: Global,
+    catalogue: &Catalogue,
+    changes: &[Change],
+    specs: &[FlatSpec],
+) -> Result<Vec<Delta>, NoMemory>
+    requires accepted { group_fault catalogue.now.databases changes.now ≡ None }
+    requires well_formed { AllByRecursion (λ g. IsTrue (is_well_formed g)) changes.now }
+    requires of_rows { IsTrue (list_all is_of_rows changes.now) }
+    ensures { IfOk result (λ deltas. AllZip (MovesGroup catalogue.now.databases changes.now) specs.now deltas.items) }
+{
+    let mut deltas = Vec::with_capacity(alloc, specs.len())?;
+    for spec in specs {
+        deltas.push(rows_moves(alloc, catalogue, changes, spec)?)?;
+    }
+    Ok(deltas)
+}
+
+// The moves of one declaration by changes of rows: those of each change, one behind the other.
+fn rows_moves(
+    alloc: Global,
+    catalogue: &Catalogue,
+    changes: &[Change],
+    spec: &FlatSpec,
+) -> Result<Delta, NoMemory>
+    requires accepted { group_fault catalogue.now.databases changes.now ≡ None }
+    requires well_formed { AllByRecursion (λ g. IsTrue (is_well_formed g)) changes.now }
+    requires of_rows { IsTrue (list_all is_of_rows changes.now) }
+    ensures { IfOk result (MovesGroup catalogue.now.databases changes.now spec.now) }
+{
+    let _sound = catalogue.databases();
+    let mut delta = Delta::none(alloc);
+    for change in changes {
+        delta = delta.followed_by(rows_change(alloc, catalogue, change, spec)?)?;
+    }
+    Ok(delta)
+}
+
+// The moves of each declaration, over the catalogue after each change.
+fn by_states<L: Ledger>(
     alloc: Global,
     catalogue: &Catalogue,
     changes: &[Change],

@@ -2,7 +2,7 @@
 //!
 //! Its contract: `flat_rows` lists what a declaration contributes, and `flat_changes` answers, for any change that is
 //! not refused, signed rows that take the flat rows before it to those after it; `flat_group` does so for a list of
-//! changes. It knows nothing of joins or facts.
+//! changes, by what each row contributes where they insert and delete rows alone. It knows nothing of joins or facts.
 #![tactic(auto)]
 
 mod attributes;
@@ -12,6 +12,7 @@ mod databases;
 mod find;
 mod group;
 mod inside;
+mod one_row;
 mod part;
 mod rows;
 mod spec;
