@@ -33,8 +33,8 @@ impl Model for Join {
     ghost invariant = { IsJoin };
 }
 
-// No rows, to be found by the cells of this key.
-fn no_rows(alloc: Global, key: &KeyPlaces) -> Result<Linked, NoMemory>
+/// No rows, to be found by the cells of this key.
+pub(crate) fn no_rows(alloc: Global, key: &KeyPlaces) -> Result<Linked, NoMemory>
     ensures { IfOk result (λ rows. rows ≡ record { keys = key.now ∷ []; live = []; waiting = [] }) }
 {
     let mut positions = Vec::new(alloc);

@@ -1,5 +1,5 @@
 //! The pairs of moves with the kept rows of the other side that have the same key cells.
-ghost use Rattle.std.specs.Prelude.{◌≡◌, ◌≤◌, ◌<◌, ◌+◌, [], ◌∷◌, ◌++◌, OnOk, map, length, slice_index_or};
+ghost use Rattle.std.specs.Prelude.{◌≡◌, ◌≤◌, ◌<◌, ◌+◌, [], ◌∷◌, ◌++◌, IfOk, OnOk, map, length, slice_index_or};
 ghost use Rattle.std.specs.List.{flat_map, sum_by};
 ghost use Rattle.join_delta.specs.Walks.{rows_of};
 ghost use Rattle.join_delta.specs.Partners.{paired, beside, pairs_of};
@@ -20,6 +20,17 @@ fn copy_cells(from: &[Text], into: &mut Vec<Text>) -> Result<(), NoMemory>
     Ok(())
 }
 
+/// The row that has the cells of two rows.
+pub(crate) fn joined_row(alloc: Global, first: &Row, second: &Row) -> Result<Row, NoMemory>
+    ensures { IfOk result (λ row. row ≡ first.now ++ second.now) }
+{
+    let width = first.cells().len() + second.cells().len();
+    let mut cells = Vec::with_capacity(alloc, width)?;
+    copy_cells(first.cells(), &mut cells)?;
+    copy_cells(second.cells(), &mut cells)?;
+    Ok(Row::of(cells))
+}
+
 /// Adds a move of the row that has the cells of two rows.
 pub(crate) fn add_joined(
     alloc: Global,
@@ -30,13 +41,8 @@ pub(crate) fn add_joined(
 ) -> Result<(), NoMemory>
     ensures { OnOk result (out.new.items ≡ out.old.items ++ record { row = first.now ++ second.now; up = up } ∷ []) }
 {
-    let mut cells = Vec::with_capacity(alloc, first.cells().len())?;
-    copy_cells(first.cells(), &mut cells)?;
-    copy_cells(second.cells(), &mut cells)?;
-    out.push(Signed {
-        row: Row::of(cells),
-        up,
-    })?;
+    let row = joined_row(alloc, first, second)?;
+    out.push(Signed { row, up })?;
     Ok(())
 }
 

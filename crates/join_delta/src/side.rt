@@ -12,8 +12,8 @@ use row_links::Linked;
 use ss_text::{NoMemory, Row};
 use std::alloc::Global;
 
-// Adds all rows that wait.
-fn add_all(kept: &mut Linked, count: usize)
+/// Adds all rows that wait.
+pub(crate) fn add_all(kept: &mut Linked, count: usize)
     requires { count ≡ length kept.old.waiting }
     ensures rows { rows_of kept.new.live ≡ rows_of kept.old.live ++ kept.old.waiting }
     ensures keys { kept.new.keys ≡ kept.old.keys }

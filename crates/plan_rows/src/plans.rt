@@ -292,11 +292,12 @@ fn is_worked<L: Ledger>(
     requires some { 0 < L.parts }
     requires fresh { IsFresh plan.old }
 {
-    let mut steps = Steps::<L>::of(blank);
-    let filled = plan.fill(alloc, catalogue, &mut steps)?;
-    if !are(alloc, &filled, worked.filled)? {
+    let filled = plan.fill(alloc, catalogue)?;
+    let come = Delta::of(alloc, filled, true)?;
+    if !are(alloc, &come, worked.filled)? {
         return Ok(false);
     }
+    let mut steps = Steps::<L>::of(blank);
     all_steps(alloc, plan, catalogue, &worked.moved, &mut steps)
 }
 

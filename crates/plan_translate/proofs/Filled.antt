@@ -1,88 +1,88 @@
--- What fills a plan that keeps nothing.
-use Rattle.std.proofs.Common.{◌≡◌, ℕ, ◌+◌, suc, List, [], ◌∷◌, ◌++◌, map, Bool, true, false, cond, refl, ap, sym, ◌∙◌, subst, arith}
+-- What fills a plan.
+use Rattle.std.proofs.Common.{◌≡◌, ◌+◌, List, [], ◌∷◌, length, map, Bool, true, false, cond, refl, ap, sym, ◌∙◌, subst, arith, Some, None, filter}
+use Rattle.std.specs.List.{cons_option}
+use Rattle.std.specs.Prelude.{filter_map, zip, if◌then◌else◌}
+use Rattle.std.proofs.lemmas.List.{length-map}
 use Rattle.ss_text.specs.Texts.{Row}
 use Rattle.schema_model.specs.Catalogue.{CatalogueValue}
-use Rattle.plan_law.specs.Kinds.{Term, Range}
-use Rattle.plan_law.specs.Kinds.range
+use Rattle.schema_model.specs.Sound.{IsSound}
 use Rattle.view_def.specs.Query.{Query}
 use Rattle.view_def.specs.Profile.{IsViewOfProfile}
 use Rattle.flow_law.specs.FactRows.{fact_row}
-use Rattle.valuation_meaning.specs.Meaning.{facts}
-use Rattle.operator_law.specs.declared.delta.Signed.{Signed}
-use Rattle.operator_law.specs.Bags.{weigh, come, go, signed, all_signed, SameBag}
+use Rattle.valuation_meaning.specs.Valuations.{counts}
+use Rattle.valuation_meaning.specs.Meaning.{fact_of, facts}
+use Rattle.operator_law.specs.Bags.{weigh, SameBag}
 use Rattle.operator_law.proofs.Weights.{weigh-map}
-use Rattle.operator_law.proofs.SignedRows.{come-up, go-up}
-use Rattle.join_delta.specs.Joined.{PairTest, pairs_left, pairs_right}
-use Rattle.plan_law.specs.Net.{SameNet}
-use Rattle.plan_law.specs.Columns.{header}
-use Rattle.plan_law.specs.Chain.{Sides, SideMoves, Keeps, walk_pairs}
+use Rattle.join_delta.specs.Joins.{JoinValue}
+use Rattle.plan_law.specs.Columns.{read}
+use Rattle.plan_law.specs.Chain.{Joint}
+use Rattle.plan_law.specs.PlanRows.{plan_joints, first_rows, further_rows, plan_rows, plan_header, row_facts, specs_from}
+use Rattle.plan_law.specs.PlanMoves.{fact_rows}
+use Rattle.plan_law.proofs.PlanLists.{rows_list_facts}
 use Rattle.schema_delta.specs.declared.spec.FlatSpec.{FlatSpec}
-use Rattle.schema_delta.specs.Flat.{flat}
-use Rattle.plan_law.specs.PlanRows.{specs_from, rows_from, joints_from, joint_of, plan_joints, first_rows, further_rows}
-use Rattle.plan_law.specs.PlanMoves.{FlatMoved, PlanKeeps, fact_rows}
-use Rattle.plan_law.proofs.First.{First}
-use Rattle.plan_law.proofs.Net.{net_ups}
-use Rattle.plan_law.proofs.Empty.{filled}
-use Rattle.plan_translate.specs.Moves.{MovesFacts, AllCome}
+use Rattle.plan_form.specs.declared.base.Equal.{Equal}
+use Rattle.plan_form.specs.Forms.{counted_fact}
+use Rattle.plan_walk.specs.Stages.{joint_in}
+use Rattle.plan_walk.specs.Fills.{Fills}
+use Rattle.plan_translate.specs.declared.plan.Plan.TheInside.{Inside}
+use Rattle.plan_translate.specs.Parts.{own_tests}
+use Rattle.plan_translate.specs.Listed.{own_listed}
+use Rattle.plan_translate.specs.Plans.{PlanValue, query_in}
+use Rattle.plan_translate.specs.PlanFields.{query_inside, seen, IsPlan}
+use Rattle.plan_translate.proofs.OwnRows.{listed_first, listed_long}
+use Rattle.plan_translate.proofs.Moving.{tests_long, joins_long}
 
--- no row weighs nothing
-none_left : (xs : List Row) → SameBag [] xs → xs ≡ []
-none_left [] same = refl
-none_left (x ∷ xs) same = let e = same (λ r. 1) in absurd (omega (arith, e))
-
-nothing_right : (t : PairTest) (ms : List Signed) → pairs_right t [] ms ≡ 0
-nothing_right t [] = refl
-nothing_right t (m ∷ ms) = nothing_right t ms
-
-nothing_left : (t : PairTest) (ms : List Signed) → pairs_left t [] ms ≡ 0
-nothing_left t [] = refl
-nothing_left t (m ∷ ms) = nothing_left t ms
-
--- a join that keeps nothing counts no pairs
-no_pairs : (t : PairTest) (k : Sides) (p : SideMoves) → SameBag [] k.left → SameBag [] k.right → pairs_right t k.right p.left + pairs_left t k.left p.right ≡ 0
-no_pairs t k p left right =
-    let a = ap (λ ys. pairs_right t ys p.left) (none_left k.right right) ∙ nothing_right t p.left in
-    let b = ap (λ xs. pairs_left t xs p.right) (none_left k.left left) ∙ nothing_left t p.right in
-    omega (arith, a, b)
-
-no_steps : (q : Query) (ds : List Range) (h : List Term) (n : ℕ) (ks : List Sides) (ps : List SideMoves) → Keeps (joints_from q h n ds) [] (rows_from [] q h n ds) ks → walk_pairs (joints_from q h n ds) ks ps ≡ 0
-no_steps q [] h n ks ps keeps = refl
-no_steps q (range.Alias j a ∷ ds) h n ks ps keeps = no_steps q ds h (suc n) ks ps keeps
-no_steps q (d ∷ ds) h n [] ps keeps = absurd keeps
-no_steps q (d ∷ ds) h n (k ∷ ks) [] keeps = refl
-no_steps q (d ∷ ds) h n (k ∷ ks) (p ∷ ps) keeps =
-    omega (arith, no_pairs (joint_of q h (header q n d)).keys k p keeps.0 keeps.1, no_steps q ds (h ++ header q n d) (suc n) ks ps keeps.2)
-
-pub fresh_steps : (q : Query) → First q → (ks : List Sides) (ps : List SideMoves) → PlanKeeps [] q ks → walk_pairs (plan_joints q q.decls) ks ps ≡ 0
-fresh_steps q b ks ps keeps =
-    let first = subst (λ (ds : List Range). Keeps (plan_joints q ds) (first_rows [] q ds) (further_rows [] q ds) ks) b.all keeps in
-    subst (λ (ds : List Range). walk_pairs (plan_joints q ds) ks ps ≡ 0) (sym b.all) (no_steps q b.rest (header q 0 b.first) 1 ks ps first)
-
--- moves of which none goes are those of rows that all come
-abbrev rows_in : List Signed → List Row
-rows_in ms = map (λ (m : Signed). m.row) ms
-
-ups : (ms : List Signed) → go (λ r. 1) ms ≡ 0 → ms ≡ all_signed true (rows_in ms)
-ups [] e = refl
-ups (m ∷ ms) e = one m.up refl e (ups ms)
+-- full rows that count give their facts
+counted_rows : (q : Query) (rows : List Row) → filter_map (counted_fact q) rows ≡ map fact_row (row_facts q (plan_header q) rows)
+counted_rows q [] = refl
+counted_rows q (x ∷ xs) = one (counts q (read q (zip (plan_header q) x))) (counted_rows q xs)
   where
-    one : (b : Bool) → m.up ≡ b → cond b 0 1 + go (λ r. 1) ms ≡ 0 → (go (λ r. 1) ms ≡ 0 → ms ≡ all_signed true (rows_in ms)) → (m ∷ ms) ≡ signed true m.row ∷ all_signed true (rows_in ms)
-    one true is z rest =
-        ap (λ (b : Bool). record { row = m.row; up = b } ∷ ms) is
-        ∙ ap (λ (l : List Signed). signed true m.row ∷ l) (rest (omega (arith, z)))
-    one false is z rest = absurd (omega (arith, z))
+    one : (b : Bool) → filter_map (counted_fact q) xs ≡ map fact_row (row_facts q (plan_header q) xs)
+        → cons_option (if b then Some (fact_row (fact_of q (read q (zip (plan_header q) x)))) else None) (filter_map (counted_fact q) xs)
+        ≡ map fact_row (map (λ row. fact_of q (read q (zip (plan_header q) row))) (cond b (x ∷ filter (λ row. counts q (read q (zip (plan_header q) row))) xs) (filter (λ row. counts q (read q (zip (plan_header q) row))) xs)))
+    one true e = ap (λ (l : List Row). fact_row (fact_of q (read q (zip (plan_header q) x))) ∷ l) e
+    one false e = e
 
-pub all_come : (c : CatalogueValue) (q : Query) (ms : List Signed) → IsViewOfProfile q → MovesFacts [] c q ms → AllCome (fact_rows c q) ms
-all_come c q ms profile moves =
-    let rows = fact_rows c q in
-    let nothing = (filled c q profile).facts in
-    let none : (f : Row → ℕ) → weigh f (fact_rows [] q) ≡ 0 = λ f. weigh-map f fact_row (facts [] q) ∙ nothing (λ x. f (fact_row x)) in
-    let same : SameNet ms (all_signed true rows) = λ f. omega (arith, moves.moved f, none f, come-up f rows, go-up f rows) in
-    let net : (f : Row → ℕ) → (go f ms ≡ 0) × (come f ms ≡ weigh f rows) = net_ups ms rows moves.net same in
-    let up : ms ≡ all_signed true (rows_in ms) = ups ms (net (λ r. 1)).0 in
-    (rows_in ms, up, λ f. sym (net f).1 ∙ ap (come f) up ∙ come-up f (rows_in ms))
+pub facts_filled : (c : CatalogueValue) (q : Query) → IsSound c → IsViewOfProfile q → (rows made : List Row) → rows ≡ plan_rows c q q.decls → made ≡ filter_map (counted_fact q) rows → SameBag (fact_rows c q) made
+facts_filled c q sound profile rows made are is f =
+    weigh-map f fact_row (facts c q)
+    ∙ rows_list_facts c q sound profile (λ x. f (fact_row x))
+    ∙ sym (weigh-map f fact_row (row_facts q (plan_header q) (plan_rows c q q.decls)))
+    ∙ sym (ap (weigh f) (is ∙ counted_rows q rows ∙ ap (λ (l : List Row). map fact_row (row_facts q (plan_header q) l)) are))
 
--- all flat rows come, for what is asked of the catalogue
-pub rows_come : (c : CatalogueValue) (q : Query) → IsViewOfProfile q → (specs : List FlatSpec) → specs ≡ specs_from q 0 q.decls → (deltas : List (List Signed)) → deltas ≡ map (λ s. all_signed true (flat c s)) specs → FlatMoved [] c q deltas
-rows_come c q profile specs are deltas come =
-    subst (FlatMoved [] c q) (sym (come ∙ ap (map (λ (s : FlatSpec). all_signed true (flat c s))) are)) (filled c q profile).comes
+module _ (i : Inside) (is : IsPlan i) where
+  abbrev q : Query
+  q = query_inside i
+
+  pub specs_long : length i.specs.items ≡ length i.tests.items
+  specs_long = ap length is.specs ∙ sym (tests_long i is)
+
+  pub some_specs : length i.specs.items ≡ length i.joins.items + 1
+  some_specs = specs_long ∙ joins_long i is
+
+  module _ (c : CatalogueValue) (first : List Row) (further : List (List Row)) (listed : first ∷ further ≡ own_listed c i.specs.items (own_tests i.tests.items)) where
+    pub further_long : length further ≡ length i.joins.items
+    further_long =
+        let tests : length (own_tests i.tests.items) ≡ length i.tests.items = length-map i.tests.items _ in
+        omega (arith, ap length listed, listed_long c i.specs.items (own_tests i.tests.items) (specs_long ∙ sym tests), tests, joins_long i is)
+
+    rows_are : first ∷ further ≡ first_rows c q q.decls ∷ further_rows c q q.decls
+    rows_are =
+        listed
+        ∙ ap (λ (ss : List FlatSpec). own_listed c ss (own_tests i.tests.items)) is.specs
+        ∙ ap (λ (ts : List (List Equal)). own_listed c (specs_from q 0 q.decls) ts) is.tests
+        ∙ listed_first c q is.profile
+
+    filled_here : (js : List JoinValue) (out : List Row) → Fills (map joint_in i.joins.items) first further js out → Fills (plan_joints q q.decls) (first_rows c q q.decls) (further_rows c q q.decls) js out
+    filled_here js out fills =
+        let a : first ≡ first_rows c q q.decls = (let e = rows_are in cc) in
+        let b : further ≡ further_rows c q q.decls = (let e = rows_are in cc) in
+        subst (λ (xs : List Row). Fills (plan_joints q q.decls) xs (further_rows c q q.decls) js out) a
+        (subst (λ (yss : List (List Row)). Fills (plan_joints q q.decls) first yss js out) b
+        (subst (λ (ks : List Joint). Fills ks first further js out) is.joints fills))
+
+    -- as the value says it
+    pub filled_in : (p : PlanValue) → seen i ≡ p → (js : List JoinValue) (out : List Row) → Fills (map joint_in i.joins.items) first further js out
+        → Fills (plan_joints (query_in p) (query_in p).decls) (first_rows c (query_in p) (query_in p).decls) (further_rows c (query_in p) (query_in p).decls) js out
+    filled_in p view js out fills =
+        subst (λ (p : PlanValue). Fills (plan_joints (query_in p) (query_in p).decls) (first_rows c (query_in p) (query_in p).decls) (further_rows c (query_in p) (query_in p).decls) js out) view (filled_here js out fills)

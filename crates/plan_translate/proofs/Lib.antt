@@ -1,6 +1,7 @@
 pub mod Bases
 pub mod OwnMoves
 pub mod Stages
+pub mod OwnRows
 pub mod Filled
 pub mod Each
 pub mod Moving

@@ -12,6 +12,7 @@ use Rattle.plan_law.specs.Chain.{Joint, AreNet}
 use Rattle.plan_law.specs.PlanRows.{specs_from, plan_joints}
 use Rattle.plan_law.specs.PlanMoves.{FlatMoved, fact_moves}
 use Rattle.plan_form.specs.Bases.{BaseValue, bases_from}
+use Rattle.plan_form.specs.Forms.{IsOutputOf}
 use Rattle.plan_walk.specs.Stages.{joint_in, sides_in, side_moves}
 use Rattle.plan_translate.specs.declared.plan.Plan.TheInside.{Inside}
 use Rattle.plan_translate.specs.Parts.{bases_of, joint_with, joints_with, own_tests, each_passing, WalksAll}
@@ -79,6 +80,9 @@ module _ (i : Inside) (is : IsPlan i) where
 module _ (i : Inside) (is : IsPlan i) (p : PlanValue) (view : seen i ≡ p) where
   pub profile_in : IsViewOfProfile (query_in p)
   profile_in = subst (λ (p : PlanValue). IsViewOfProfile (query_in p)) view is.profile
+
+  pub output_in : IsOutputOf (query_in p) i.output
+  output_in = subst (λ (p : PlanValue). IsOutputOf (query_in p) i.output) view is.output
 
   pub specs_in : i.specs.items ≡ specs_from (query_in p) 0 (query_in p).decls
   specs_in = is.specs ∙ ap (λ (p : PlanValue). specs_from (query_in p) 0 (query_in p).decls) view

@@ -41,7 +41,7 @@ link_at row l =
     ap (λ a. may_equal a (text_in row (right_cell l.1))) (text_at row l.0)
     ∙ ap (λ b. may_equal (source_text [] row l.0) b) (text_at row l.1)
 
-links_at : (row : Row) (ls : List Link) → list_all (equal_holds row) (map own_cells ls) ≡ list_all (link_holds [] row) ls
+pub links_at : (row : Row) (ls : List Link) → list_all (equal_holds row) (map own_cells ls) ≡ list_all (link_holds [] row) ls
 links_at row [] = refl
 links_at row (l ∷ ls) =
     ap (λ b. b && list_all (equal_holds row) (map own_cells ls)) (link_at row l)
@@ -54,7 +54,7 @@ passing_own q h d (m ∷ ms) =
     ap (λ (b : Bool). cond b (m ∷ passing ts ms) (passing ts ms)) (links_at m.row (own_links q h d))
     ∙ ap (λ (l : List Signed). cond (own_holds q h d m.row) (m ∷ l) l) (passing_own q h d ms)
 
-abbrev own_in : BaseValue → List Equal
+abbrev pub own_in : BaseValue → List Equal
 own_in b = b.own
 
 each_own : (q : Query) (ds : List Range) (h : List Term) (k : ℕ) (mss : List (List Signed)) → each_passing (map own_in (bases_from q h k ds)) mss ≡ moves_from q h k ds mss

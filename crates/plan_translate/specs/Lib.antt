@@ -5,3 +5,4 @@ pub mod Costs
 pub mod Sides
 pub mod Parts
 pub mod PlanFields
+pub mod Listed

@@ -1,5 +1,5 @@
 -- Moves of what the joins of a plan keep, and of its fact rows.
-use Rattle.std.specs.Prelude.{◌≡◌, true, List, [], ◌∷◌}
+use Rattle.std.specs.Prelude.{List, [], ◌∷◌}
 use Rattle.ss_text.specs.Texts.{Row}
 use Rattle.schema_model.specs.Catalogue.{CatalogueValue}
 use Rattle.view_def.specs.Query.{Query}
@@ -8,7 +8,7 @@ use Rattle.plan_law.specs.Chain.{Joint, SideMoves, joint_rows}
 use Rattle.plan_law.specs.PlanRows.{plan_joints, first_rows, further_rows}
 use Rattle.plan_law.specs.PlanMoves.{fact_rows}
 use Rattle.operator_law.specs.declared.delta.Signed.{Signed}
-use Rattle.operator_law.specs.Bags.{MovesBag, SameBag, all_signed}
+use Rattle.operator_law.specs.Bags.{MovesBag}
 
 -- both sides of each join are moved: from the first rows and those of each declaration to others
 abbrev pub MovesChain : List Joint → List Row → List (List Row) → List SideMoves → List Row → List (List Row) → Type 0
@@ -26,7 +26,3 @@ MovesSides c c' q ps =
 pub record MovesFacts (c c' : CatalogueValue) (q : Query) (ms : List Signed) : Type 0 where
   pub moved : MovesBag (fact_rows c q) ms (fact_rows c' q)
   pub net : IsNet ms
-
--- all moves come, and their rows are these in some order
-abbrev pub AllCome : List Row → List Signed → Type 0
-AllCome rows ms = (some_order : List Row) × (ms ≡ all_signed true some_order) × SameBag rows some_order

@@ -8,6 +8,7 @@
 mod commit;
 mod facts;
 mod fill;
+mod listed;
 mod moved;
 mod own;
 mod parts;

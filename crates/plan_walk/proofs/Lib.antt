@@ -1,3 +1,4 @@
 pub mod Cancelled
 pub mod Leftover
 pub mod Stages
+pub mod ChainFilled

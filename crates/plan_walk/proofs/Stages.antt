@@ -67,7 +67,7 @@ module _ (joins : List JoinValue) (n : ℕ) (j : JoinValue) (lt : n < length joi
   one_more : take (n + 1) joins ≡ take n joins ++ j ∷ []
   one_more = take_more joins n j lt ∙ sym (ap (λ (k : JoinValue). take n joins ++ k ∷ []) at)
 
-  joints_more : map joint_in (take (n + 1) joins) ≡ map joint_in (take n joins) ++ joint_in j ∷ []
+  pub joints_more : map joint_in (take (n + 1) joins) ≡ map joint_in (take n joins) ++ joint_in j ∷ []
   joints_more = ap (map joint_in) one_more ∙ map-append joint_in (take n joins) (j ∷ [])
 
   sides_more : map sides_in (take (n + 1) joins) ≡ map sides_in (take n joins) ++ sides_in j ∷ []

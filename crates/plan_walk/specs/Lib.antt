@@ -1,2 +1,3 @@
 pub mod Cancelled
 pub mod Stages
+pub mod Fills
