@@ -1,7 +1,6 @@
 -- Entries in order of which no two have one place.
-use Rattle.std.proofs.Common.{◌≡◌, ◌∷◌, ◌++◌, [], Bool, true, false, List, Option, Some, None, refl, sym, ◌∙◌, ap, map}
-use Rattle.std.specs.Prelude.{nat_lt, filter, if◌then◌else◌}
-use Rattle.std.specs.Option.{option_or}
+use Rattle.std.proofs.Common.{◌≡◌, ◌∷◌, ◌++◌, [], Bool, true, false, List, None, refl, sym, ◌∙◌, map}
+use Rattle.std.specs.Prelude.{nat_lt}
 use Rattle.std.specs.List.{AllByRecursion, filter_map}
 use Rattle.std.specs.List.Sorted.{IsStrictlySortedBy}
 use Rattle.std.specs.declared.cmp.Ordering.{Ordering}
@@ -9,13 +8,11 @@ use Rattle.std.specs.declared.cmp.Ordering.TheVariants.{Less, Equal, Greater}
 use Rattle.std.specs.Ordering.{ordering_then, is_eq}
 use Rattle.std.proofs.lemmas.List.Kept.{IsStrictlySortedBy-filter}
 use Rattle.ss_text.specs.Texts.{Text, text_cmp}
-use Rattle.ss_text.specs.Ascending.{ascending}
 use Rattle.ss_text.proofs.PairLemmas.{ascending_ascends}
-use Rattle.flow_law.specs.declared.refused.Clash.{Clash}
 use Rattle.fact_counts.specs.declared.facts.FactCounts.{FactCounts}
 use Rattle.fact_counts.specs.declared.facts.Nets.{Nets}
 use Rattle.fact_counts.specs.Touched.{Place, Entry, place_cmp, place_eq, entry_cmp}
-use Rattle.fact_counts.specs.Kept.{first_clash, clash_of_two, held_at, places_of}
+use Rattle.fact_counts.specs.Kept.{first_clash, held_at, places_of}
 use Rattle.fact_counts.specs.Nets.{now, present_of}
 use Rattle.fact_counts.proofs.TouchedLines.{place_order}
 use Rattle.fact_counts.proofs.Present.{entry_order}

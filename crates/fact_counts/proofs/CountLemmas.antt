@@ -1,5 +1,5 @@
 -- Counts of facts before and after moves.
-use Rattle.std.proofs.Common.{◌≡◌, ◌+◌, ◌-◌, ◌<◌, ◌≤◌, ◌^◌, ◌∷◌, [], ℕ, zero, suc, Bool, true, false, cond, List, Option, Some, None, refl, sym, ◌∙◌, ap, map, length, arith}
+use Rattle.std.proofs.Common.{◌≡◌, ◌+◌, ◌-◌, ◌<◌, ◌≤◌, ◌^◌, ◌∷◌, [], ℕ, Bool, true, false, cond, List, Option, Some, None, refl, sym, ◌∙◌, ap, map, length, arith}
 use Rattle.std.specs.Prelude.{not, ◌&&◌, ◌||◌, nat_lt, count_by, option_map}
 use Rattle.std.specs.Option.{option_map_or}
 use Rattle.std.specs.List.{list_any, filter_map, cons_option}
@@ -10,13 +10,13 @@ use Rattle.ss_text.specs.Texts.{Text, Row, text_eq, row_eq, text_cmp, row_cmp}
 use Rattle.ss_text.specs.Ascending.{ascending}
 use Rattle.flow_law.specs.Facts.{Fact, column_of}
 use Rattle.counts.specs.declared.moves.Move.{Move}
-use Rattle.counts.specs.Counted.{counted, come, go, after, IsNet, CanMove}
+use Rattle.counts.specs.Counted.{counted, after, CanMove}
 use Rattle.fact_counts.specs.declared.facts.FactCounts.{FactCounts}
 use Rattle.fact_counts.specs.declared.facts.Nets.{Nets}
-use Rattle.fact_counts.specs.Touched.{Entry, entry_eq, entry_cmp, entry_of, bears_key, bears_column, bears_entry, has_column, SameBeyond}
-use Rattle.fact_counts.specs.Kept.{Tallies, Counts, Names, held}
+use Rattle.fact_counts.specs.Touched.{Entry, entry_eq, entry_cmp, entry_of, bears_key, bears_column, bears_entry, SameBeyond}
+use Rattle.fact_counts.specs.Kept.{Counts, Names, held}
 use Rattle.fact_counts.specs.Nets.{before, now, CanMoveAll}
-use Rattle.fact_counts.specs.Moves.{come_by, go_by, MovesFacts, key_moves, column_moves, entry_moves, Stands, AreNets, IsChange}
+use Rattle.fact_counts.specs.Moves.{come_by, go_by, MovesFacts, key_moves, column_moves, entry_moves, IsChange}
 
 pub any_counted : {A : Type 0} (p : A → Bool) (xs : List A) → nat_lt 0 (count_by p xs) ≡ list_any p xs
 any_counted p [] = refl

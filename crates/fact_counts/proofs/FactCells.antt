@@ -1,19 +1,19 @@
 -- What the table of facts has: its keys, its columns and its cells.
-use Rattle.std.proofs.Common.{◌≡◌, ◌∷◌, [], Bool, true, false, cond, List, Option, Some, None, refl, sym, ◌∙◌, ap, map, length}
-use Rattle.std.specs.Prelude.{not, ◌==◌, ◌&&◌, ◌||◌, filter, unwrap_or, if◌then◌else◌}
-use Rattle.std.specs.List.{list_any, filter_map, cons_option, zip}
+use Rattle.std.proofs.Common.{◌≡◌, ◌∷◌, [], Bool, true, false, cond, List, Option, Some, None, refl, sym, ◌∙◌, ap, map}
+use Rattle.std.specs.Prelude.{◌||◌, unwrap_or}
+use Rattle.std.specs.List.{list_any, filter_map, zip}
 use Rattle.std.specs.Map.{lookup, keys_of}
 use Rattle.std.proofs.lemmas.Bool.{false≢true}
-use Rattle.ss_text.specs.Texts.{Text, Row, text_eq, row_eq, text_cmp, row_cmp, is_in}
-use Rattle.ss_text.specs.Ascending.{ascending, least}
+use Rattle.ss_text.specs.Texts.{Text, Row, text_eq, row_eq, text_cmp, is_in}
+use Rattle.ss_text.specs.Ascending.{least}
 use Rattle.ss_text.proofs.KeyLemmas.{IsKeyOrder, text_order, row_order, equal_is}
 use Rattle.ss_text.proofs.PairLemmas.{any_ascending}
 use Rattle.std.specs.declared.cmp.Ordering.{Ordering}
-use Rattle.flow_law.specs.Facts.{Fact, column_of, value_in, values_at}
+use Rattle.flow_law.specs.Facts.{Fact, column_of, values_at}
 use Rattle.flow_law.specs.Tables.{cell_in, cell_of, row_keys}
 use Rattle.flow_law.specs.FactTables.{value_for, fact_table}
 use Rattle.flow_law.proofs.CellLemmas.{cell_of_none}
-use Rattle.fact_counts.specs.Touched.{bears_key, bears_column, has_key, has_column, keys_named, columns_named}
+use Rattle.fact_counts.specs.Touched.{bears_column, has_key, has_column, keys_named, columns_named}
 
 -- the keys
 pub keys_mapped : (f : Row → Row) (ks : List Row) → keys_of (map (λ k. let row : Row × Row = (k, f k) in row) ks) ≡ ks

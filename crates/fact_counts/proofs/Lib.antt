@@ -10,3 +10,5 @@ pub mod CountLemmas
 pub mod Prepared
 pub mod StoredLemmas
 pub mod SameKeptLemmas
+pub mod OneValue
+pub mod Counting

@@ -1,8 +1,7 @@
 -- The first clash of what is left at the named places is the conflict of all facts.
-use Rattle.std.proofs.Common.{◌≡◌, ◌∷◌, ◌++◌, [], ℕ, Bool, true, false, cond, List, Option, Some, None, refl, sym, ◌∙◌, ap, subst, map, length}
-use Rattle.std.specs.Prelude.{not, ◌==◌, ◌&&◌, ◌||◌, nat_lt, filter, is_some, option_map, option_to_list, slice_get, if◌then◌else◌}
-use Rattle.std.specs.Option.{option_map_or, option_or}
-use Rattle.std.specs.List.{list_any, filter_map, cons_option, AllByRecursion}
+use Rattle.std.proofs.Common.{◌≡◌, ◌∷◌, [], Bool, true, false, List, Option, Some, None, refl, sym, ◌∙◌, ap, map, length}
+use Rattle.std.specs.Prelude.{◌==◌, ◌&&◌, ◌||◌, is_some, option_map, option_to_list, slice_get, if◌then◌else◌}
+use Rattle.std.specs.List.{list_any, filter_map, AllByRecursion}
 use Rattle.std.specs.List.Sorted.{IsStrictlySortedBy}
 use Rattle.std.specs.declared.cmp.Ordering.{Ordering}
 use Rattle.std.specs.declared.cmp.Ordering.TheVariants.{Less, Equal, Greater}
@@ -10,16 +9,16 @@ use Rattle.std.specs.Ordering.{ordering_then}
 use Rattle.std.proofs.lemmas.Bool.{false≢true}
 use Rattle.std.proofs.lemmas.Cmp.{tied_itself}
 use Rattle.indexmap.specs.IndexMap.{get}
-use Rattle.ss_text.specs.Texts.{Text, Row, text_eq, row_eq, text_cmp, row_cmp}
+use Rattle.ss_text.specs.Texts.{Text, text_eq, row_eq, text_cmp, row_cmp}
 use Rattle.ss_text.specs.Ascending.{ascending}
-use Rattle.ss_text.proofs.KeyLemmas.{text_order, row_order, equal_is, equal_itself}
-use Rattle.ss_text.proofs.PairLemmas.{any_ascending, any_filtered, ascending_ascends, same_keys, each_found}
+use Rattle.ss_text.proofs.KeyLemmas.{text_order, equal_is, equal_itself}
+use Rattle.ss_text.proofs.PairLemmas.{any_ascending, ascending_ascends, same_keys, each_found}
 use Rattle.flow_law.specs.declared.refused.Clash.{Clash}
-use Rattle.flow_law.specs.Facts.{Fact, Spot, spot_cmp, spots_of, values_at, value_in, facts_of, clash_of, conflict, column_of}
+use Rattle.flow_law.specs.Facts.{Fact, Spot, spot_cmp, spots_of, values_at, facts_of, clash_of, conflict, column_of}
 use Rattle.flow_law.specs.FactOrder.{fact_cmp}
 use Rattle.flow_law.specs.Labelled.{AllBear}
 use Rattle.flow_law.specs.Neighbours as near
-use Rattle.fact_counts.specs.Touched.{Place, Entry, place_cmp, place_eq, entry_cmp, entry_eq, entry_of, bears_entry, SameBeyond}
+use Rattle.fact_counts.specs.Touched.{Place, Entry, place_eq, entry_cmp, entry_eq, bears_entry, SameBeyond}
 use Rattle.fact_counts.specs.Kept.{first_clash, clash_of_two, held_at, places_of, Counts, Names}
 use Rattle.fact_counts.proofs.Picked.{given_same}
 use Rattle.fact_counts.proofs.TouchedLines.{any_value}
@@ -84,7 +83,7 @@ module _ (label : Text) where
   any_fact e (d ∷ ds) h = rw h.0 (ap (λ b. entry_eq e d || b) (any_fact e ds h.1))
 
 -- facts that all bear a label
-all_own : (label : Text) (fs : List Fact) → AllBear label fs → facts_of label fs ≡ fs
+pub all_own : (label : Text) (fs : List Fact) → AllBear label fs → facts_of label fs ≡ fs
 all_own label [] h = refl
 all_own label (f ∷ fs) h = rw (h.0, equal_itself text_order label, all_own label fs h.1) refl
 
@@ -173,7 +172,7 @@ one_is_none : (s : Spot) (o : Option Text) → clash_of s (ascending text_cmp (o
 one_is_none s None = refl
 one_is_none s (Some v) = refl
 
-at_most_one : (s : Spot) (vs : List Text) (o : Option Text) → ((v : Text) → list_any (text_eq v) vs ≡ list_any (text_eq v) (option_to_list o)) → clash_of s (ascending text_cmp vs) ≡ None
+pub at_most_one : (s : Spot) (vs : List Text) (o : Option Text) → ((v : Text) → list_any (text_eq v) vs ≡ list_any (text_eq v) (option_to_list o)) → clash_of s (ascending text_cmp vs) ≡ None
 at_most_one s vs o h = ap (clash_of s) (ascend_alike vs (option_to_list o) h) ∙ one_is_none s o
 
 module _ (k : FactCounts) (old : List Fact) (counts : Counts (before k) old) (label : Text) (n : Nets) (named new : List Fact) (beyond : SameBeyond named old new) (after : Counts (now k n) new)

@@ -1,9 +1,9 @@
 -- The first illegal column that begins is the least illegal label of all facts.
-use Rattle.std.proofs.Common.{◌≡◌, ◌∷◌, [], ℕ, Bool, true, false, cond, List, Option, Some, None, refl, sym, ◌∙◌, ap, map}
-use Rattle.std.specs.Prelude.{not, ◌&&◌, ◌||◌, nat_lt, filter, option_map, slice_get}
-use Rattle.std.specs.List.{list_any, filter_map, cons_option, find, AllByRecursion}
+use Rattle.std.proofs.Common.{◌≡◌, ◌∷◌, [], Bool, true, false, List, Option, Some, None, refl, sym, ◌∙◌, ap, map}
+use Rattle.std.specs.Prelude.{not, ◌&&◌, ◌||◌, filter, option_map, slice_get}
+use Rattle.std.specs.List.{list_any, find, AllByRecursion}
 use Rattle.std.specs.List.Sorted.{IsStrictlySortedBy}
-use Rattle.std.specs.Cmp.{IsTotalOrder, on_total, then_total}
+use Rattle.std.specs.Cmp.{on_total, then_total}
 use Rattle.std.specs.Cmp.Lexicographic.{nat_list_cmp_total}
 use Rattle.std.specs.declared.cmp.Ordering.{Ordering}
 use Rattle.std.specs.declared.cmp.Ordering.TheVariants.{Less, Equal, Greater}
@@ -12,17 +12,16 @@ use Rattle.std.proofs.lemmas.Bool.{false≢true}
 use Rattle.std.proofs.lemmas.Cmp.{tied_itself}
 use Rattle.std.proofs.lemmas.List.Kept.{IsStrictlySortedBy-filter}
 use Rattle.ss_text.specs.Texts.{Text, Row, text_eq, text_cmp, is_in}
-use Rattle.ss_text.specs.Label.{is_table_label, is_column_label}
-use Rattle.ss_text.specs.Ascending.{ascending, least}
-use Rattle.ss_text.proofs.KeyLemmas.{IsKeyOrder, text_order, equal_itself}
+use Rattle.ss_text.specs.Label.{is_column_label}
+use Rattle.ss_text.specs.Ascending.{ascending}
+use Rattle.ss_text.proofs.KeyLemmas.{IsKeyOrder, text_order}
 use Rattle.ss_text.proofs.PairLemmas.{any_ascending, any_filtered, ascending_ascends, same_keys}
 use Rattle.ss_text.proofs.SetLemmas.{least_first}
 use Rattle.flow_law.specs.declared.refused.IllegalLabel.{IllegalLabel}
-use Rattle.flow_law.specs.Facts.{Fact, Pair, pair_cmp, pairs_of, column_of, illegal_table, illegal_column}
+use Rattle.flow_law.specs.Facts.{Fact, Pair, pair_cmp, pairs_of, illegal_column}
 use Rattle.counts.proofs.Pairs.{pair_same}
 use Rattle.fact_counts.specs.Touched.{has_column, columns_named, SameBeyond}
 use Rattle.fact_counts.specs.Kept.{first_illegal}
-use Rattle.fact_counts.proofs.Picked.{among}
 use Rattle.fact_counts.proofs.FactCells.{column_named}
 use Rattle.fact_counts.proofs.TouchedLines.{columns_ascend}
 use Rattle.flow_law.specs.Labelled.{AllBear}

@@ -1,24 +1,22 @@
 -- The lines made of counts are those of the facts that they count.
-use Rattle.std.proofs.Common.{◌≡◌, ◌∷◌, ◌++◌, [], ℕ, zero, suc, Bool, true, false, cond, List, Option, Some, None, refl, sym, ◌∙◌, ap, map, length, arith}
+use Rattle.std.proofs.Common.{◌≡◌, ◌∷◌, [], ℕ, zero, suc, Bool, true, false, cond, List, Option, Some, None, refl, sym, ◌∙◌, ap, map, arith}
 use Rattle.std.specs.Prelude.{not, ◌==◌, ◌&&◌, ◌||◌, nat_lt, filter, unwrap_or, option_map, option_to_list, if◌then◌else◌}
 use Rattle.std.specs.Option.{option_map_or}
 use Rattle.std.specs.List.{list_any, filter_map, cons_option, AllByRecursion}
-use Rattle.std.proofs.lemmas.Bool.{false≢true}
 use Rattle.indexmap.specs.IndexMap.{get}
-use Rattle.ss_text.specs.Texts.{Text, Row, text_eq}
+use Rattle.ss_text.specs.Texts.{Text, text_eq}
 use Rattle.ss_text.specs.Ascending.{ascending}
 use Rattle.ss_text.proofs.KeyLemmas.{text_order, equal_is}
 use Rattle.ss_text.proofs.PairLemmas.{any_ascending, each_found}
 use Rattle.ss_text.proofs.SetLemmas.{same_ascending, same_back, same_map, ascending_of_same}
 use Rattle.flow_law.specs.Facts.{Fact}
 use Rattle.flow_law.specs.FactTables.{value_for}
-use Rattle.flow_law.specs.declared.line.TableLine.{TableLine}
-use Rattle.flow_law.specs.declared.line.TableLine.TheVariants.{RowMinus, ColumnMinus, ColumnPlus, RowPlus, Cell}
+use Rattle.flow_law.specs.declared.line.TableLine.TheVariants.{Cell}
 use Rattle.counts.specs.Counted.{goes}
 use Rattle.fact_counts.specs.declared.facts.FactCounts.{FactCounts}
 use Rattle.fact_counts.specs.declared.facts.Nets.{Nets}
-use Rattle.fact_counts.specs.Touched.{Place, Entry, place_cmp, place_eq, entry_cmp, entry_eq, entry_of, place_of, bears_entry, has_key, has_column, keys_named, columns_named, places_named, entries_named, value_moves, touched_lines, SameBeyond}
-use Rattle.fact_counts.specs.Kept.{held, held_at, value_held, value_among, places_of, place_line, first_clash, Counts, Names}
+use Rattle.fact_counts.specs.Touched.{Place, Entry, place_cmp, place_eq, entry_eq, entry_of, place_of, has_key, has_column, places_named, entries_named, value_moves, touched_lines, SameBeyond}
+use Rattle.fact_counts.specs.Kept.{held_at, value_held, value_among, places_of, place_line, first_clash, Counts, Names}
 use Rattle.fact_counts.specs.Nets.{before, now, present_of, net_lines}
 use Rattle.fact_counts.proofs.TouchedLines.{place_order}
 use Rattle.fact_counts.proofs.Present.{entry_order, has_entry, value_is, value_left, left}

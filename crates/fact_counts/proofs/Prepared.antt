@@ -1,5 +1,5 @@
 -- What the counts say of a change is what its facts say.
-use Rattle.std.proofs.Common.{◌≡◌, List, Option, Some, None, refl, sym, ◌∙◌, ap, map}
+use Rattle.std.proofs.Common.{◌≡◌, List, None, sym, ◌∙◌, ap, map}
 use Rattle.std.specs.Prelude.{filter}
 use Rattle.ss_text.specs.Texts.{Text, Row}
 use Rattle.counts.specs.declared.moves.Move.{Move}

@@ -1,7 +1,6 @@
 -- The entries that are there after a change, at the places that it names.
-use Rattle.std.proofs.Common.{◌≡◌, ◌∷◌, ◌++◌, [], Bool, true, false, cond, List, Option, Some, None, refl, sym, ◌∙◌, ap, subst, map, length}
-use Rattle.std.specs.Prelude.{not, ◌&&◌, ◌||◌, filter, unwrap_or, option_map, option_to_list, slice_get}
-use Rattle.std.specs.Option.{option_map_or}
+use Rattle.std.proofs.Common.{◌≡◌, ◌∷◌, ◌++◌, [], Bool, true, false, List, Option, Some, None, refl, sym, ◌∙◌, ap, map}
+use Rattle.std.specs.Prelude.{◌&&◌, ◌||◌, filter, unwrap_or, option_to_list, slice_get}
 use Rattle.std.specs.List.{list_any, filter_map, cons_option, AllByRecursion}
 use Rattle.std.specs.List.Sorted.{IsStrictlySortedBy}
 use Rattle.std.specs.Map.{lookup}
@@ -9,18 +8,18 @@ use Rattle.std.specs.declared.cmp.Ordering.{Ordering}
 use Rattle.std.specs.declared.cmp.Ordering.TheVariants.{Less}
 use Rattle.std.proofs.lemmas.Bool.{false≢true}
 use Rattle.std.proofs.lemmas.List.Folds.{list_any-append}
-use Rattle.ss_text.specs.Texts.{Text, Row, text_eq, text_cmp}
+use Rattle.ss_text.specs.Texts.{Text, text_eq, text_cmp}
 use Rattle.ss_text.specs.Ascending.{ascending, least}
 use Rattle.ss_text.proofs.KeyLemmas.{IsKeyOrder, text_order, equal_is, equal_itself, lacks_after}
 use Rattle.ss_text.proofs.PairLemmas.{any_ascending, ascending_ascends, any_filtered, same_keys}
 use Rattle.ss_text.proofs.SetLemmas.{least_first}
 use Rattle.flow_law.specs.Facts.{Fact, values_at}
 use Rattle.flow_law.specs.FactTables.{value_for}
-use Rattle.fact_counts.specs.Touched.{Place, Entry, place_cmp, place_eq, entry_cmp, entry_eq, entry_of, bears_entry, SameBeyond}
+use Rattle.fact_counts.specs.Touched.{Place, Entry, place_cmp, place_eq, entry_cmp, entry_eq, bears_entry, SameBeyond}
 use Rattle.fact_counts.specs.Kept.{places_of, value_among}
-use Rattle.fact_counts.proofs.TouchedLines.{place_order, passes, any_value}
+use Rattle.fact_counts.proofs.TouchedLines.{place_order, any_value}
 use Rattle.counts.proofs.Pairs.{pair_same}
-use Rattle.std.specs.Cmp.{IsTotalOrder, on_total, then_total}
+use Rattle.std.specs.Cmp.{on_total, then_total}
 use Rattle.std.specs.Cmp.Lexicographic.{nat_list_cmp_total}
 use Rattle.std.specs.Ordering.{ordering_then, is_eq}
 use Rattle.std.specs.declared.cmp.Ordering.TheVariants as order

@@ -1,18 +1,17 @@
 -- What keeps the same moves alike.
-use Rattle.std.proofs.Common.{◌≡◌, ◌+◌, ◌-◌, ℕ, List, Option, refl, sym, ◌∙◌, ap, subst, map, ◌++◌}
+use Rattle.std.proofs.Common.{◌≡◌, ◌+◌, ◌-◌, ℕ, List, Option, sym, ◌∙◌, ap, subst, map, ◌++◌}
 use Rattle.std.specs.Prelude.{nat_lt, filter, unwrap_or, option_map, if◌then◌else◌}
 use Rattle.std.specs.Option.{option_map_or}
 use Rattle.std.specs.List.{filter_map}
 use Rattle.std.specs.List.Sorted.{IsStrictlySortedBy}
-use Rattle.indexmap.specs.IndexMap.{get}
 use Rattle.ss_text.specs.Texts.{Text, Row, text_eq, row_eq}
 use Rattle.ss_text.specs.Ascending.{ascending}
 use Rattle.counts.specs.Counted.{counted, CanMove}
 use Rattle.fact_counts.specs.declared.facts.FactCounts.{FactCounts}
 use Rattle.fact_counts.specs.declared.facts.Nets.{Nets}
-use Rattle.fact_counts.specs.Touched.{Place, Entry, place_eq, place_cmp, entry_cmp, entry_eq}
+use Rattle.fact_counts.specs.Touched.{Entry, place_cmp, entry_cmp, entry_eq}
 use Rattle.fact_counts.specs.Kept.{held, held_at, places_of}
-use Rattle.fact_counts.specs.Nets.{now, CanMoveAll, present_of}
+use Rattle.fact_counts.specs.Nets.{CanMoveAll, present_of}
 use Rattle.fact_counts.specs.Stored.{SameKept}
 use Rattle.fact_counts.specs.Moves.{Stands}
 use Rattle.flow_law.specs.Facts.{Fact}

@@ -1,5 +1,5 @@
 -- What is stored stands for the new facts.
-use Rattle.std.proofs.Common.{◌≡◌, ◌∷◌, ◌++◌, [], ℕ, zero, suc, Bool, true, false, cond, List, Option, Some, None, refl, sym, ◌∙◌, ap, map, arith}
+use Rattle.std.proofs.Common.{◌≡◌, ◌∷◌, [], ℕ, zero, suc, Bool, true, false, cond, List, Option, Some, None, refl, sym, ◌∙◌, ap, map, arith}
 use Rattle.std.specs.Prelude.{◌&&◌, ◌||◌, nat_lt, count_by, unwrap_or, option_map, option_to_list, if◌then◌else◌}
 use Rattle.std.specs.Option.{option_map_or}
 use Rattle.std.specs.List.{list_any}
@@ -16,17 +16,17 @@ use Rattle.counts.specs.Counted.{counted, changed_get, positive}
 use Rattle.fact_counts.specs.declared.facts.FactCounts.{FactCounts}
 use Rattle.fact_counts.specs.declared.facts.Nets.{Nets}
 use Rattle.fact_counts.specs.declared.ready.NewCounts.{NewCounts}
-use Rattle.fact_counts.specs.Touched.{Place, Entry, place_eq, entry_eq, bears_key, bears_column, bears_entry, has_key, has_column, keys_named, columns_named}
+use Rattle.fact_counts.specs.Touched.{Place, Entry, place_eq, bears_key, bears_column, bears_entry}
 use Rattle.fact_counts.specs.Kept.{held, places_of, first_clash}
-use Rattle.fact_counts.specs.Nets.{before, now, present_of}
-use Rattle.fact_counts.specs.Moves.{IsChange, Stands, MovesFacts, come_by, go_by}
+use Rattle.fact_counts.specs.Nets.{now, present_of}
+use Rattle.fact_counts.specs.Moves.{IsChange, Stands}
 use Rattle.fact_counts.specs.Stored.{IsReady, new_cell}
 use Rattle.fact_counts.proofs.FactCells.{key_named, column_named}
 use Rattle.fact_counts.proofs.TouchedLines.{place_order}
 use Rattle.fact_counts.proofs.Present.{has_entry, found_among}
 use Rattle.fact_counts.proofs.Clashes.{present_ascends}
 use Rattle.fact_counts.proofs.NetConflict.{any_present, not_named}
-use Rattle.fact_counts.proofs.CountLemmas.{any_counted, none_moves, same_count, keys_after, columns_after, entries_after, counts_before, counts_now, names, beyond}
+use Rattle.fact_counts.proofs.CountLemmas.{any_counted, same_count, keys_after, columns_after, entries_after, counts_before, counts_now, names, beyond}
 
 -- a map of some keys, over what was there
 stored : {K V : Type 0} {R : K → K → Ordering} {E : K → K → Bool} (o : IsKeyOrder R E) (f : K → Option V) (ks : List K) (old : K → Option V) (q : K)

@@ -1,10 +1,10 @@
 -- The lines for one table come of the facts that a change names.
-use Rattle.std.proofs.Common.{◌≡◌, ◌∷◌, ◌++◌, [], Bool, true, false, cond, List, Option, Some, None, refl, sym, ◌∙◌, ap, map, length}
+use Rattle.std.proofs.Common.{◌≡◌, ◌∷◌, ◌++◌, [], Bool, true, false, List, Option, Some, None, refl, sym, ◌∙◌, ap, map, length}
 use Rattle.std.specs.Prelude.{not, ◌==◌, ◌&&◌, ◌||◌, filter, flat_map, unwrap_or, option_map, if◌then◌else◌}
 use Rattle.std.specs.Option.{option_map_or}
 use Rattle.std.specs.List.{list_any, filter_map, cons_option, AllByRecursion}
 use Rattle.std.specs.List.Sorted.{IsStrictlySortedBy}
-use Rattle.std.specs.Cmp.{IsTotalOrder, on_total, then_total}
+use Rattle.std.specs.Cmp.{on_total, then_total}
 use Rattle.std.specs.Cmp.Lexicographic.{nat_list_cmp_total, lists_total}
 use Rattle.std.specs.FinMap.{IsAntisymmetric}
 use Rattle.std.specs.declared.cmp.Ordering.{Ordering}
@@ -12,16 +12,14 @@ use Rattle.std.specs.declared.cmp.Ordering.TheVariants.{Less, Equal, Greater}
 use Rattle.std.specs.Ordering.{ordering_then, is_eq}
 use Rattle.std.proofs.lemmas.Cmp.{tied_itself}
 use Rattle.ss_text.specs.Texts.{Text, Row, text_eq, row_eq, text_cmp, row_cmp, is_in}
-use Rattle.ss_text.specs.Ascending.{ascending, least}
-use Rattle.ss_text.proofs.KeyLemmas.{IsKeyOrder, text_order, row_order, equal_is, equal_itself}
+use Rattle.ss_text.proofs.KeyLemmas.{IsKeyOrder, text_order, row_order, equal_itself}
 use Rattle.ss_text.proofs.PairLemmas.{any_ascending, ascending_ascends}
 use Rattle.ss_text.proofs.SetLemmas.{SameElements, least_of_same}
-use Rattle.flow_law.specs.Facts.{Fact, column_of, value_in, values_at}
-use Rattle.flow_law.specs.Tables.{TableValue, cell_of, row_keys}
+use Rattle.flow_law.specs.Facts.{Fact, column_of, values_at}
 use Rattle.flow_law.specs.FactTables.{value_for, fact_table}
 use Rattle.flow_law.specs.Script.{keys_beyond, columns_beyond, cell_line, lines_between}
 use Rattle.flow_law.specs.declared.line.TableLine.{TableLine}
-use Rattle.flow_law.specs.declared.line.TableLine.TheVariants.{RowMinus, ColumnMinus, ColumnPlus, RowPlus, Cell}
+use Rattle.flow_law.specs.declared.line.TableLine.TheVariants.{Cell}
 use Rattle.fact_counts.specs.Touched.{Place, Entry, place_cmp, place_eq, place_of, entry_of, bears_key, bears_column, bears_place, has_key, has_column, keys_named, columns_named, places_named, value_moves, touched_lines, SameBeyond}
 use Rattle.fact_counts.proofs.Picked.{among, among_if, filters_same}
 use Rattle.fact_counts.proofs.FactCells.{row_keys_are, key_named, column_named, cell_of_facts}

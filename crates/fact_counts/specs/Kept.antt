@@ -1,9 +1,9 @@
 -- What is kept of the facts of one table, and what a change leaves of the values.
-use Rattle.std.specs.Prelude.{◌≡◌, ℕ, Bool, not, ◌&&◌, nat_lt, ◌++◌, [], ◌∷◌, map, filter, Option, None, Some, List, option_map, unwrap_or, if◌then◌else◌}
+use Rattle.std.specs.Prelude.{◌≡◌, ℕ, not, ◌&&◌, nat_lt, ◌++◌, [], ◌∷◌, map, filter, Option, None, Some, List, option_map, unwrap_or, if◌then◌else◌}
 use Rattle.std.specs.Option.{option_map_or, option_or}
-use Rattle.std.specs.List.{filter_map, list_any, find}
+use Rattle.std.specs.List.{list_any, find}
 use Rattle.std.specs.Map.{lookup}
-use Rattle.ss_text.specs.Texts.{Text, Row, text_eq, row_eq}
+use Rattle.ss_text.specs.Texts.{Text, Row, text_eq}
 use Rattle.ss_text.specs.Ascending.{ascending}
 use Rattle.indexmap.specs.IndexMap.{IndexMap, get}
 use Rattle.flow_law.specs.declared.refused.Clash.{Clash}
@@ -13,12 +13,16 @@ use Rattle.flow_law.specs.declared.line.TableLine.{TableLine}
 use Rattle.flow_law.specs.declared.line.TableLine.TheVariants.{RowMinus, ColumnMinus, ColumnPlus, RowPlus, Cell}
 use Rattle.counts.specs.Counted.{goes}
 use Rattle.flow_law.specs.Facts.{Fact}
-use Rattle.fact_counts.specs.Touched.{Place, Entry, place_eq, place_cmp, entry_cmp, bears_entry, has_key, has_column, keys_named, columns_named, entries_named}
+use Rattle.fact_counts.specs.Touched.{Place, Entry, place_eq, place_cmp, bears_entry, has_key, has_column, keys_named, columns_named, entries_named}
 
 module _ {S : Type 0} (cells : IndexMap Place (Text × ℕ) S) where
   -- how often an entry is kept
   abbrev pub held : Entry → ℕ
   held e = option_map_or (λ (h : Text × ℕ). if text_eq e.1 h.0 then h.1 else 0) (get place_eq cells e.0) 0
+
+  -- how often the value of a place is kept
+  abbrev pub times_at : Place → ℕ
+  times_at p = option_map_or (λ (h : Text × ℕ). h.1) (get place_eq cells p) 0
 
   -- the entry that is kept at a place
   abbrev pub held_at : Place → Option Entry

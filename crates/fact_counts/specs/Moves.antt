@@ -1,11 +1,11 @@
 -- Facts that come and go, and what is kept of facts.
-use Rattle.std.specs.Prelude.{◌≡◌, ℕ, ◌+◌, ◌<◌, ◌^◌, Bool, true, not, ◌&&◌, List, length, map, count_by, option_map}
+use Rattle.std.specs.Prelude.{◌≡◌, ℕ, ◌+◌, ◌<◌, ◌^◌, Bool, true, not, ◌&&◌, List, ◌∷◌, None, length, map, count_by, option_map}
 use Rattle.std.specs.List.{filter_map}
 use Rattle.ss_text.specs.Texts.{Text, Row, text_eq, row_eq}
 use Rattle.ss_text.specs.Ascending.{ascending}
 use Rattle.ss_text.specs.Texts.{text_cmp, row_cmp}
 use Rattle.ss_text.specs.Label.{is_column_label}
-use Rattle.flow_law.specs.Facts.{Fact, column_of}
+use Rattle.flow_law.specs.Facts.{Fact, column_of, conflict}
 use Rattle.flow_law.specs.Labelled.{AllBear}
 use Rattle.counts.specs.declared.moves.Move.{Move}
 use Rattle.counts.specs.Counted.{counted, IsNet}
@@ -40,6 +40,13 @@ pub record Stands (k : FactCounts) (fs : List Fact) : Type 0 where
   pub keys : (key : Row) → counted row_eq k.keys key ≡ count_by (bears_key key) fs
   pub columns : (column : Text) → counted text_eq k.columns column ≡ count_by (bears_column column) fs
   pub entries : (e : Entry) → held k.cells e ≡ count_by (bears_entry e) fs
+
+-- a fact comes to others, for which this stands: they bear one label, do not conflict, and can be counted
+pub record CanCount (k : FactCounts) (f : Fact) (fs : List Fact) : Type 0 where
+  pub stands : Stands k fs
+  pub few : length (f ∷ fs) < 2 ^ 128
+  pub bear : AllBear f.label (f ∷ fs)
+  pub clean : conflict (f ∷ fs) ≡ None
 
 -- the nets are those of these moves
 pub record AreNets (n : Nets) (ms : List (Move Fact)) : Type 0 where

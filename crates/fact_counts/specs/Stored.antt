@@ -1,13 +1,13 @@
 -- What is stored when a change is made.
 use Rattle.indexmap.specs.IndexMap.{get, spare}
-use Rattle.std.specs.Prelude.{◌≡◌, ◌≤◌, ℕ, List, map, Option, Some, None, option_map, length}
+use Rattle.std.specs.Prelude.{◌≡◌, ◌≤◌, ℕ, map, Option, option_map, length}
 use Rattle.std.specs.Map.{lookup}
 use Rattle.ss_text.specs.Texts.{Text, Row, row_eq, text_eq}
 use Rattle.counts.specs.Counted.{counted, new_counts}
 use Rattle.fact_counts.specs.declared.facts.FactCounts.{FactCounts}
 use Rattle.fact_counts.specs.declared.facts.Nets.{Nets}
 use Rattle.fact_counts.specs.declared.ready.NewCounts.{NewCounts}
-use Rattle.fact_counts.specs.Touched.{Place, Entry, place_eq}
+use Rattle.fact_counts.specs.Touched.{Place, place_eq}
 use Rattle.fact_counts.specs.Kept.{places_of}
 use Rattle.fact_counts.specs.Nets.{now, present_of}
 

@@ -5,6 +5,7 @@
 #![tactic(auto)]
 
 mod change;
+mod count;
 mod facts;
 mod lines;
 mod ready;

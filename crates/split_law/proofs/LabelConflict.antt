@@ -20,6 +20,7 @@ use Rattle.fact_counts.proofs.Picked.{given_same}
 use Rattle.flow_law.proofs.Entries.{spot_eq, spot_order}
 use Rattle.fact_counts.proofs.NetConflict.{at_spot, ascend_alike, spot_named, spots_named, spots_ascend, clash_named}
 use Rattle.fact_counts.proofs.TouchedLines.{passes, any_value}
+use Rattle.fact_counts.proofs.OneValue.{no_clash}
 use Rattle.split_law.specs.LabelLines.{labels_named, clash_at, first_conflict}
 use Rattle.split_law.proofs.LabelScript.{any_own, any_label, none_own}
 
@@ -170,29 +171,7 @@ conflict_named named old new beyond none = conflict_of_labels new (labels_named 
         ∙ sym (beyond.same (λ (f : Fact). text_eq s.0 f.label && passes (text_eq v) (s.1, s.2) f) (own_none s.0 (passes (text_eq v) (s.1, s.2)) e))
         ∙ sym (any_own s.0 (passes (text_eq v) (s.1, s.2)) old) ∙ sym (any_value (text_eq v) (s.1, s.2) (facts_of s.0 old))))
 
--- where the first clash of spots is none, each has none
-none_given : (h : Spot → Option Clash) (ss : List Spot) → slice_get (filter_map h ss) 0 ≡ None → (s : Spot) → (list_any (spot_eq s) ss && is_some (h s)) ≡ false
-none_given h [] e s = refl
-none_given h (x ∷ ss) e s = by_clash (h x) refl e (λ rest. none_given h ss rest s)
-  where
-    by_same : (b : Bool) → spot_eq s x ≡ b → h x ≡ None → (list_any (spot_eq s) ss && is_some (h s)) ≡ false → ((b || list_any (spot_eq s) ss) && is_some (h s)) ≡ false
-    by_same true t is rest = ap is_some (ap h (equal_is spot_order s x t) ∙ is)
-    by_same false t is rest = rest
-
-    by_clash : (o : Option Clash) → h x ≡ o → slice_get (cons_option o (filter_map h ss)) 0 ≡ None → (slice_get (filter_map h ss) 0 ≡ None → (list_any (spot_eq s) ss && is_some (h s)) ≡ false) → (list_any (spot_eq s) (x ∷ ss) && is_some (h s)) ≡ false
-    by_clash None is e rest = by_same (spot_eq s x) refl is (rest e)
-    by_clash (Some c) is e rest = absurd (cc)
-
--- facts without a conflict have no clash
-pub no_clash : (fs : List Fact) → conflict fs ≡ None → (s : Spot) → clash_at fs s ≡ None
-unfolding conflict
-no_clash fs e s = is_none (clash_at fs s) (sym (clash_named fs s) ∙ none_given (clash_at fs) (spots_of fs) e s)
-  where
-    is_none : (o : Option Clash) → is_some o ≡ false → o ≡ None
-    is_none None h = refl
-    is_none (Some c) h = absurd (cc)
-
--- nor do those of one label
+-- facts without a conflict have none of one label
 none_of_first : (fs : List Fact) (ls : List Text) → first_conflict fs ls ≡ None → (l : Text) → is_in l ls ≡ true → conflict (facts_of l fs) ≡ None
 none_of_first fs [] e l has = absurd (cc)
 none_of_first fs (k ∷ ls) e l has = by_clash (conflict (facts_of k fs)) refl e (λ rest. none_of_first fs ls rest l)

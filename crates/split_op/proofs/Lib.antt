@@ -10,4 +10,5 @@ mod LabelFacts
 mod Judging
 mod FirstFound
 mod SplitMoves
-mod SplitKeeps
+pub mod SplitKeeps
+mod Filling

@@ -28,7 +28,7 @@ use Rattle.split_op.proofs.Grouped.{groups_labels}
 use Rattle.split_op.proofs.SplitMoves.{can_keep_label, fewer}
 
 -- facts that are kept are kept in any order
-same_kept : (t : OneTableValue) (xs ys : List Row) → KeepsFacts t xs → MovesBag xs [] ys → illegal_column t.shape.constants (facts_in t.shape ys) ≡ None → KeepsFacts t ys
+pub same_kept : (t : OneTableValue) (xs ys : List Row) → KeepsFacts t xs → MovesBag xs [] ys → illegal_column t.shape.constants (facts_in t.shape ys) ≡ None → KeepsFacts t ys
 same_kept t xs ys k moves legal =
     let counts = (facts_move t.shape xs ys [] moves).counts in
     let same : (p : Fact → Bool) → count_by p (facts_in t.shape xs) ≡ count_by p (facts_in t.shape ys) = λ p. omega (arith, counts p) in
@@ -50,6 +50,13 @@ module _ {I : Type 0} (table : I → OneTableValue) (shape : Shape) where
     record { columns = k.0.columns; keeps = same_kept (table t) xs ys k.0.keeps moves (can_keep_columns shape (table t).shape k.0.columns ys can).legal },
     omega (arith, k.1, totals_move xs ys [] moves),
   )
+
+  pub same_all : (at : Text → Option I) (xs ys : List Row) → KeepsAll table shape at xs → MovesBag xs [] ys → CanKeepSplit shape ys → KeepsAll table shape at ys
+  same_all at xs ys k moves can = record {
+    parts = λ label. same_part (at label) (rows_of label xs) (rows_of label ys) (k.parts label) (moves_filtered (λ (row : Row). text_eq label (label_in row)) [] xs ys moves) (can_keep_label shape ys can label);
+    legal = can.legal;
+    clean = can.clean;
+  }
 
   module _ {R : Type 0} (waiting : I → Option (List Signed)) (made_for : R → List Signed) (form : Shape) (columns : SameColumns shape form) (at now : Text → Option I) (ms : List Signed) where
     -- stages are made for the moves of their labels

@@ -47,7 +47,7 @@ fewer p (row ∷ rows) = by_test (p row) (fewer p rows)
     by_test false h = omega (arith, h)
 
 module _ (shape : Shape) (label : Text) where
-  bear_own : (rows : List Row) → AllBear label (facts_in shape (rows_of label rows))
+  pub bear_own : (rows : List Row) → AllBear label (facts_in shape (rows_of label rows))
   bear_own [] = tt
   bear_own (row ∷ rows) = by_test (text_eq label (label_in row)) refl (bear_own rows)
     where

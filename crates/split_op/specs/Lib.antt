@@ -7,4 +7,5 @@ pub mod PartLines
 pub mod Stages
 pub mod Judged
 pub mod Splits
+pub mod Filled
 pub mod SplitFields

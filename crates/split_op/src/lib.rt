@@ -6,6 +6,7 @@
 #![tactic(auto)]
 
 mod count;
+mod fill;
 mod groups;
 mod judged;
 mod lines;

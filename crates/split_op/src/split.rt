@@ -1,14 +1,16 @@
 //! The tables of all labels, where the label is a variable.
-ghost use Rattle.std.specs.Prelude.{◌≡◌, [], None};
+ghost use Rattle.std.specs.Prelude.{◌≡◌, [], None, All, length, OnOk};
+ghost use Rattle.flow_law.specs.FactRows.{fact_width};
 ghost use Rattle.split_op.specs.Parts.{SameColumns};
-ghost use Rattle.split_op.specs.Splits.{KeepsSplit};
+ghost use Rattle.split_op.specs.Splits.{KeepsSplit, CanKeepSplit};
 
+use crate::fill::add_rows;
 use crate::moved::{moved_lines, moved_stages};
 use crate::stages::{Stage, commit_stages};
 use flow_law::{Shape, Stop, TableLine};
 use indexmap::IndexMap;
 use operator_law::{Delta, Fresh, Kept, Operator};
-use ss_text::{NoMemory, Steps, Text};
+use ss_text::{NoMemory, Row, Steps, Text};
 use std::alloc::Global;
 use std::marker::Model;
 use std::snapshot::Snapshot;
@@ -76,6 +78,22 @@ impl<I: TableOperator> Split<I> {
             parts: IndexMap::new(alloc),
             waiting: None,
         }
+    }
+
+    /// Keeps the facts in these rows, where it keeps none. They can be kept. No change waits then. After `NoMemory` it keeps no
+    /// facts that are known.
+    pub fn fill(&mut self, alloc: Global, facts: Vec<Row>) -> Result<(), NoMemory>
+        requires none { KeepsSplit I.table self.old [] }
+        requires wide { All (λ row. length row ≡ fact_width self.old.shape) facts.items }
+        requires can { CanKeepSplit self.old.shape facts.items }
+        ensures keeps { OnOk result (KeepsSplit I.table self.new facts.items) }
+        ensures shape { self.new.shape ≡ self.old.shape }
+        ensures pattern { self.new.pattern ≡ self.old.pattern }
+        ensures waits { self.new.waiting ≡ None }
+    {
+        self.waiting = None;
+        add_rows(alloc, &self.pattern, &mut self.parts, facts)?;
+        Ok(())
     }
 }
 

@@ -1,18 +1,19 @@
 //! The one table of a constant label.
-ghost use Rattle.std.specs.Prelude.{◌≡◌, [], List, true, IfOk, IfErr};
+ghost use Rattle.std.specs.Prelude.{◌≡◌, [], List, All, length, true, IfOk, IfErr, OnOk};
 ghost use Rattle.ss_text.specs.Texts.{Row as RowValue};
 ghost use Rattle.ss_text.specs.Label.{is_table_label};
+ghost use Rattle.flow_law.specs.FactRows.{fact_width};
 ghost use Rattle.flow_law.specs.Labelled.{AllBear};
 ghost use Rattle.flow_law.specs.declared.line.TableLine.{TableLine as Line};
 ghost use Rattle.unfold_op.specs.FactMoves.{facts_in};
 ghost use Rattle.unfold_op.specs.OneTables.{KeepsFacts, framed};
 ghost use Rattle.ss_text.specs.Texts.{Text as TextValue};
-ghost use Rattle.split_op.specs.Wholes.{KeepsWhole};
+ghost use Rattle.split_op.specs.Wholes.{KeepsWhole, CanKeepWhole};
 
 use crate::count::count_moved;
 use flow_law::{Stop, TableLine};
 use operator_law::{Delta, Kept, Operator};
-use ss_text::{NoMemory, Steps, Text};
+use ss_text::{NoMemory, Row, Steps, Text};
 use std::alloc::Global;
 use std::sync::ledger::Ledger;
 use unfold_op::TableOperator;
@@ -52,6 +53,23 @@ impl<I: TableOperator> Whole<I> {
         ensures keeps { (x : List RowValue) → KeepsFacts (I.table inner) x → AllBear label (facts_in (I.table inner).shape x) → KeepsWhole result.label (I.table result.inner) x }
     {
         Whole { label, inner }
+    }
+
+    /// Keeps the facts in these rows, where it keeps none. They bear the label and can be kept. After `NoMemory` it keeps no facts
+    /// that are known.
+    pub fn fill(&mut self, alloc: Global, facts: Vec<Row>) -> Result<(), NoMemory>
+        requires none { KeepsWhole self.old.label (I.table self.old.inner) [] }
+        requires wide { All (λ row. length row ≡ fact_width (I.table self.old.inner).shape) facts.items }
+        requires can { CanKeepWhole self.old.label (I.table self.old.inner).shape facts.items }
+        ensures keeps { OnOk result (KeepsWhole self.new.label (I.table self.new.inner) facts.items) }
+        ensures label { self.new.label ≡ self.old.label }
+        ensures shape { (I.table self.new.inner).shape ≡ (I.table self.old.inner).shape }
+    {
+        let mut left = facts;
+        while let Some(row) = left.pop() {
+            self.inner.add(alloc, &row)?;
+        }
+        Ok(())
     }
 }
 

@@ -1,5 +1,5 @@
 -- Where no column is illegal each one that a fact names is legal.
-use Rattle.std.proofs.Common.{◌≡◌, ◌∷◌, [], List, Option, Some, None, Bool, true, false, refl, filter, not}
+use Rattle.std.proofs.Common.{◌≡◌, ◌∷◌, [], List, Option, Some, None, Bool, true, false, cond, refl, ap, filter, not}
 use Rattle.std.specs.Prelude.{◌||◌, option_map}
 use Rattle.std.specs.List.{cons_option}
 use Rattle.std.specs.Option.{option_map_or}
@@ -9,6 +9,7 @@ use Rattle.ss_text.specs.Texts.{Text, Row, text_eq}
 use Rattle.ss_text.specs.Label.{is_column_label}
 use Rattle.ss_text.specs.Ascending.{least, lesser, by_order}
 use Rattle.ss_text.proofs.KeyLemmas.{text_order, equal_is}
+use Rattle.flow_law.specs.declared.refused.IllegalLabel.{IllegalLabel}
 use Rattle.flow_law.specs.Facts.{Fact, Pair, pair_cmp, pairs_of, illegal_column}
 use Rattle.fact_counts.specs.Touched.{has_column}
 
@@ -55,3 +56,20 @@ module _ (constants : Row) where
 
   pub legal_columns : (fs : List Fact) → illegal_column constants fs ≡ None → (column : Text) → has_column fs column ≡ true → is_column_label column constants ≡ true
   legal_columns fs none column has = none_bad fs column (none_least pair_cmp _ (none_mapped _ _ none)) has
+
+  -- facts without one still have no illegal column
+  bad_behind : (f : Fact) (fs : List Fact) → filter bad (pairs_of (f ∷ fs)) ≡ [] → filter bad (pairs_of fs) ≡ []
+  bad_behind f fs none = by_cell f.cell none
+    where
+      by_pair : (p : Pair) (b : Bool) → cond b (p ∷ filter bad (pairs_of fs)) (filter bad (pairs_of fs)) ≡ [] → filter bad (pairs_of fs) ≡ []
+      by_pair p true e = absurd (cc)
+      by_pair p false e = e
+
+      by_cell : (o : Option (Text × Text)) → filter bad (cons_option (option_map (λ c. let p : Pair = (f.label, c) in p) (option_map (λ (c : Text × Text). c.0) o)) (pairs_of fs)) ≡ [] → filter bad (pairs_of fs) ≡ []
+      by_cell None e = e
+      by_cell (Some c) e = by_pair (f.label, c.0) (bad (f.label, c.0)) e
+
+  pub legal_behind : (f : Fact) (fs : List Fact) → illegal_column constants (f ∷ fs) ≡ None → illegal_column constants fs ≡ None
+  legal_behind f fs none =
+      let as_label : Pair → IllegalLabel = λ p. record { table = p.0; column = Some p.1 } in
+      ap (λ (ps : List Pair). option_map as_label (least pair_cmp ps)) (bad_behind f fs (none_least pair_cmp _ (none_mapped _ _ none)))

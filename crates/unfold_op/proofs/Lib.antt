@@ -6,3 +6,4 @@ mod Changes
 pub mod TableLaw
 mod Answered
 mod Refused
+pub mod Added

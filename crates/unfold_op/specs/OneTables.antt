@@ -45,6 +45,13 @@ pub record CanKeep (shape : Shape) (rows : List Row) : Type 0 where
   pub legal : illegal_column shape.constants (facts_in shape rows) ≡ None
   pub clean : conflict (facts_in shape rows) ≡ None
 
+-- the fact in a row can be kept beside those in rows that are: they bear one label
+pub record CanAdd (t : OneTableValue) (row : Row) (rows : List Row) : Type 0 where
+  pub keeps : KeepsFacts t rows
+  pub wide : length row ≡ fact_width t.shape
+  pub bear : AllBear (fact_in t.shape row).label (facts_in t.shape (row ∷ rows))
+  pub can : CanKeep t.shape (row ∷ rows)
+
 -- the rows that move are those of facts, and bear one label: that of the kept facts, where there are some
 pub record BearsOne (shape : Shape) (kept : Text) (total : ℕ) (ms : List Signed) : Type 0 where
   pub label : Text

@@ -4,6 +4,7 @@ ghost use Rattle.flow_law.specs.FactRows.{fact_width};
 ghost use Rattle.fact_counts.specs.Moves.{AreNets};
 ghost use Rattle.unfold_op.specs.FactMoves.{fact_moves, key_move, column_move, entry_move};
 
+use crate::parts::key_in;
 use counts::{Move, Net};
 use fact_counts::Nets;
 use flow_law::Shape;
@@ -11,30 +12,11 @@ use operator_law::Signed;
 use ss_text::{NoMemory, Row, Text};
 use std::alloc::Global;
 
-fn copies(alloc: Global, cells: &[Text]) -> Result<Row, NoMemory>
-    ensures { IfOk result (λ row. row ≡ cells.now) }
-{
-    let mut texts = Vec::new(alloc);
-    for cell in cells {
-        texts.push(cell.copy()?)?;
-    }
-    Ok(Row::of(texts))
-}
-
-fn key_of(alloc: Global, shape: &Shape, m: &Signed) -> Result<Row, NoMemory>
-    requires { length m.now.row ≡ fact_width shape.now }
-    ensures { IfOk result (λ key. key ≡ (key_move shape.now m.now).key) }
-{
-    let cells = m.row.cells();
-    let key = copies(alloc, &cells[1..shape.constants.cells().len() + 1])?;
-    Ok(key)
-}
-
 fn key_move(alloc: Global, shape: &Shape, m: &Signed) -> Result<Move<Row>, NoMemory>
     requires { length m.now.row ≡ fact_width shape.now }
     ensures { IfOk result (λ key. key ≡ key_move shape.now m.now) }
 {
-    let key = key_of(alloc, shape, m)?;
+    let key = key_in(alloc, shape, &m.row)?;
     Ok(Move { key, up: m.up })
 }
 
@@ -67,7 +49,7 @@ fn entry_move(
     if cells[count + 2].as_slice().is_empty() {
         return Ok(None);
     }
-    let key = key_of(alloc, shape, m)?;
+    let key = key_in(alloc, shape, &m.row)?;
     let column = cells[count + 1].copy()?;
     let value = cells[count + 2].copy()?;
     Ok(Some(Move {

@@ -1,6 +1,7 @@
 //! Facts without columns.
-ghost use Rattle.std.specs.Prelude.{◌≡◌, [], None, Some, IfOk, IfErr, MatchResult};
-ghost use Rattle.unfold_op.specs.OneTables.{KeepsFacts, CanKeep, BearsOne, CanPrepare, Gives, MayStop, Makes};
+ghost use Rattle.std.specs.Prelude.{◌≡◌, [], ◌∷◌, List, None, Some, IfOk, IfErr, OnOk, MatchResult};
+ghost use Rattle.ss_text.specs.Texts.{Row as RowValue};
+ghost use Rattle.unfold_op.specs.OneTables.{KeepsFacts, CanAdd, CanKeep, BearsOne, CanPrepare, Gives, MayStop, Makes};
 
 use crate::one_table::{OneTable, TableReady};
 use flow_law::{Stop, TableLine};
@@ -43,6 +44,17 @@ impl Distinct {
         Distinct {
             table: OneTable::new(alloc, constants, None),
         }
+    }
+
+    /// Keeps the fact in a row beside those that are kept. No change waits then. After `NoMemory` it keeps no facts that are known.
+    pub fn add(&mut self, alloc: Global, row: &Row) -> Result<(), NoMemory>
+        requires { (rows : List RowValue) × CanAdd self.old row.now rows }
+        ensures keeps { OnOk result ((rows : List RowValue) → CanAdd self.old row.now rows → KeepsFacts self.new (row.now ∷ rows)) }
+        ensures shape { self.new.shape ≡ self.old.shape }
+        ensures none { self.new.waiting ≡ None }
+    {
+        self.table.add(alloc, row)?;
+        Ok(())
     }
 
     /// How many facts are kept.

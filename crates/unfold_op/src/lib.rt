@@ -8,6 +8,7 @@ mod delta;
 mod distinct;
 mod frame;
 mod one_table;
+mod parts;
 mod table_operator;
 mod unfold;
 

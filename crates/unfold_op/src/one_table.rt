@@ -1,5 +1,5 @@
 //! The facts of one table, kept as counts and moved in two steps.
-ghost use Rattle.std.specs.Prelude.{◌≡◌, [], List, All, length, None, Some, IfOk, IfErr, OnOk, OnErr};
+ghost use Rattle.std.specs.Prelude.{◌≡◌, ◌<◌, [], ◌∷◌, List, All, length, slice_index_or, None, Some, IfOk, IfErr, OnOk, OnErr, if◌then◌else◌, nat_lt};
 ghost use Rattle.ss_text.specs.Texts.{Row as RowValue};
 ghost use Rattle.flow_law.specs.FactRows.{fact_width};
 ghost use Rattle.flow_law.specs.FactTables.{fact_table};
@@ -10,10 +10,11 @@ ghost use Rattle.operator_law.specs.Bags.{MovesBag};
 ghost use Rattle.operator_law.specs.declared.delta.Signed.{Signed as SignedValue};
 ghost use Rattle.unfold_op.specs.FactMoves.{facts_in};
 ghost use Rattle.unfold_op.specs.TableFields.{seen, IsOneTable};
-ghost use Rattle.unfold_op.specs.OneTables.{KeepsFacts, CanKeep, BearsOne, CanPrepare, Gives, MayStop, Makes, label_for};
+ghost use Rattle.unfold_op.specs.OneTables.{KeepsFacts, CanAdd, CanKeep, BearsOne, CanPrepare, Gives, MayStop, Makes, label_for};
 
 use crate::delta::nets_of;
 use crate::frame::{framed, total_after};
+use crate::parts::{cell_in, key_in};
 use fact_counts::{FactCounts, NewCounts, commit, prepare, reserve};
 use flow_law::{Shape, Stop, TableLine};
 use operator_law::{Delta, Signed};
@@ -78,6 +79,17 @@ fn label_for<'a>(shape: &Shape, kept: &'a Text, moves: &'a [Signed]) -> &'a Text
     }
 }
 
+// The label of the kept facts, which is that of the row where there are none.
+fn take_label(kept: &mut Text, total: u128, row: &Row) -> Result<(), NoMemory>
+    requires { 0 < length row.now }
+    ensures { OnOk result (kept.new ≡ (if nat_lt 0 total then kept.old else slice_index_or row.now 0 [])) }
+{
+    if total == 0 {
+        *kept = row.cells()[0].copy()?;
+    }
+    Ok(())
+}
+
 impl OneTable {
     /// No facts, of a table with these constant columns.
     pub(crate) fn new(alloc: Global, constants: Row, spot: Option<usize>) -> OneTable
@@ -109,6 +121,24 @@ impl OneTable {
     {
         let constants = self.shape.constants.copy()?;
         Ok(OneTable::new(alloc, constants, self.shape.spot))
+    }
+
+    /// Keeps the fact in a row beside those that are kept. No change waits then. After `NoMemory` it keeps no facts that are known.
+    pub(crate) fn add(&mut self, alloc: Global, row: &Row) -> Result<(), NoMemory>
+        requires whole { IsOneTable self.old }
+        requires fits { (rows : List RowValue) × CanAdd (seen self.old) row.now rows }
+        ensures keeps { OnOk result ((rows : List RowValue) → CanAdd (seen self.old) row.now rows → KeepsFacts (seen self.new) (row.now ∷ rows)) }
+        ensures shape { self.new.shape ≡ self.old.shape }
+        ensures whole { IsOneTable self.new }
+        ensures none { self.new.waiting ≡ None }
+    {
+        self.waiting = None;
+        let key = key_in(alloc, &self.shape, row)?;
+        let cell = cell_in(&self.shape, row)?;
+        take_label(&mut self.label, self.total, row)?;
+        self.counts.count(key, cell)?;
+        self.total += 1;
+        Ok(())
     }
 
     // The lines between the table of the facts before and that of the facts after, or why the latter are refused.

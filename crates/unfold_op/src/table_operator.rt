@@ -1,14 +1,16 @@
 //! Operators for the facts of one table.
-ghost use Rattle.std.specs.Prelude.{◌≡◌, List};
+ghost use Rattle.std.specs.Prelude.{◌≡◌, ◌∷◌, List, OnOk};
 ghost use Rattle.std.specs.Vec.{vec_items};
 ghost use Rattle.ss_text.specs.Texts.{Row as RowValue};
 ghost use Rattle.flow_law.specs.declared.refused.Stop.{Stop};
 ghost use Rattle.operator_law.specs.declared.delta.Signed.{Signed as SignedValue};
-ghost use Rattle.unfold_op.specs.OneTables.{OneTableValue, KeepsFacts, CanKeep, BearsOne, CanPrepare, Gives, MayStop};
+ghost use Rattle.unfold_op.specs.OneTables.{OneTableValue, KeepsFacts, CanAdd, CanKeep, BearsOne, CanPrepare, Gives, MayStop};
 
 use crate::{Distinct, Unfold};
 use flow_law::TableLine;
 use operator_law::{Delta, Fresh, Kept, Operator};
+use ss_text::{NoMemory, Row};
+use std::alloc::Global;
 
 /// An operator that keeps the facts of one table, which is there while it has facts.
 pub trait TableOperator: Fresh
@@ -21,6 +23,12 @@ pub trait TableOperator: Fresh
     /// How many facts are kept.
     fn count(&self) -> u128
         ensures { result ≡ (table self.now).total };
+
+    /// Keeps the fact in a row beside those that are kept. After `NoMemory` it keeps no facts that are known.
+    fn add(&mut self, alloc: Global, row: &Row) -> Result<(), NoMemory>
+        requires { (rows : List RowValue) × CanAdd (table self.old) row.now rows }
+        ensures keeps { OnOk result ((rows : List RowValue) → CanAdd (table self.old) row.now rows → KeepsFacts (table self.new) (row.now ∷ rows)) }
+        ensures shape { (table self.new).shape ≡ (table self.old).shape };
 
     // What it keeps are the facts of rows.
     ghost keeps_facts: { (s : Self) (x : List RowValue) → Self.keeps s x → KeepsFacts (table s) x };
@@ -55,6 +63,10 @@ impl TableOperator for Distinct {
         Distinct::count(self)
     }
 
+    fn add(&mut self, alloc: Global, row: &Row) -> Result<(), NoMemory> {
+        Distinct::add(self, alloc, row)
+    }
+
     ghost keeps_facts = { λ s x h. h };
 
     ghost facts_kept = { λ s x h. h };
@@ -77,6 +89,10 @@ impl TableOperator for Unfold {
 
     fn count(&self) -> u128 {
         Unfold::count(self)
+    }
+
+    fn add(&mut self, alloc: Global, row: &Row) -> Result<(), NoMemory> {
+        Unfold::add(self, alloc, row)
     }
 
     ghost keeps_facts = { λ s x h. h };

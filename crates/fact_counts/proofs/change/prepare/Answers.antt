@@ -1,4 +1,4 @@
-use Rattle.std.proofs.Common.{◌≡◌, ◌∙◌, sym}
+use Rattle.std.proofs.Common.{◌∙◌, sym}
 use Rattle.fact_counts.proofs.CountLemmas.{can_move_all}
 use Rattle.fact_counts.proofs.Prepared.{illegal_is, clash_is, lines_are}
 use Rattle.fact_counts.proofs.change.prepare.Goals as goal

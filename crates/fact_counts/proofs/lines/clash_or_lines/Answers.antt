@@ -1,4 +1,4 @@
-use Rattle.std.proofs.Common.{◌≡◌, refl}
+use Rattle.std.proofs.Common.{refl}
 use Rattle.fact_counts.proofs.lines.clash_or_lines.Goals as goal
 
 pub returns-clause-ok : goal.returns-clause-ok

@@ -1,7 +1,6 @@
-use Rattle.std.proofs.Common.{rules, ◌≡◌, [], ◌∙◌, ap, sym, Ok, Err, Some, Option}
+use Rattle.std.proofs.Common.{rules, [], ◌∙◌, ap, sym, Ok, Err, Some}
 use Rattle.std.proofs.lemmas.Fn.{always_returns_same}
 use Rattle.std.proofs.lemmas.List.{get_or_default}
-use Rattle.ss_text.specs.Texts.{Text}
 use Rattle.ss_text.proofs.KeyLemmas.{searched, lookup_at, lookup_lacks, lacks_for}
 use Rattle.fact_counts.specs.Touched.{Entry, place_cmp}
 use Rattle.fact_counts.proofs.TouchedLines.{place_order}

@@ -1,7 +1,7 @@
-use Rattle.std.proofs.Common.{◌≡◌, ◌∙◌, ap, sym, Some, Option, option_map, ℕ}
+use Rattle.std.proofs.Common.{◌∙◌, ap, sym, Some, option_map, ℕ}
 use Rattle.std.specs.Map.{lookup}
 use Rattle.ss_text.specs.Texts.{Text}
-use Rattle.fact_counts.specs.Touched.{Place, Entry, place_eq}
+use Rattle.fact_counts.specs.Touched.{Place, place_eq}
 use Rattle.fact_counts.specs.Nets.{now}
 use Rattle.fact_counts.proofs.ready.new_cell.Goals as goal
 

@@ -1,4 +1,4 @@
-use Rattle.std.proofs.Common.{◌≡◌, ◌++◌, ◌∷◌, [], ◌∙◌, ap, sym, List, take, append_assoc}
+use Rattle.std.proofs.Common.{◌++◌, ◌∷◌, [], ◌∙◌, ap, sym, List, take, append_assoc}
 use Rattle.std.specs.List.{filter_map}
 use Rattle.fact_counts.specs.Touched.{Place, Entry}
 use Rattle.fact_counts.specs.Kept.{held_at}

@@ -1,4 +1,4 @@
-use Rattle.std.proofs.Common.{rules, ◌≡◌, [], ◌∙◌, ap, sym, Ok, Err, Option, unwrap_or}
+use Rattle.std.proofs.Common.{rules, [], ◌∙◌, ap, sym, Ok, Err, Option, unwrap_or}
 use Rattle.std.proofs.lemmas.Fn.{always_returns_same}
 use Rattle.std.proofs.lemmas.List.{get_or_default}
 use Rattle.ss_text.specs.Texts.{Text}
