@@ -1,9 +1,11 @@
 -- The tables of all labels, by the form of their view.
-use Rattle.std.proofs.Common.{◌≡◌, ◌≤◌, List, sym, ◌∙◌, subst, arith}
+use Rattle.std.proofs.Common.{◌≡◌, ◌≤◌, List, sym, ◌∙◌, subst, length, arith}
+use Rattle.std.specs.List.{All}
 use Rattle.ss_text.specs.Texts.{Text, Row}
 use Rattle.flow_law.specs.declared.shape.Shape.{Shape}
 use Rattle.flow_law.specs.declared.line.TableLine.{TableLine}
 use Rattle.flow_law.specs.declared.refused.Stop.{Stop}
+use Rattle.flow_law.specs.FactRows.{fact_width}
 use Rattle.flow_law.specs.Stops.{IsStop}
 use Rattle.operator_law.specs.declared.delta.Signed.{Signed}
 use Rattle.operator_law.specs.Bags.{weigh}
@@ -27,6 +29,9 @@ module _ (shape : Shape) (s : SplitValue OneTableValue) (old : List Row) (h : Ke
 
   pub wide_each : (ms : List Signed) (new : List Row) → MovesForm shape ms old new → AreWide s.shape ms
   wide_each ms new m = subst (λ (f : Shape). AreWide f ms) (sym h.shape_is) m.wide
+
+  pub wide_rows : (rows : List Row) → All (λ (row : Row). length row ≡ fact_width shape) rows → All (λ (row : Row). length row ≡ fact_width s.shape) rows
+  wide_rows rows wide = subst (λ (f : Shape). All (λ (row : Row). length row ≡ fact_width f) rows) (sym h.shape_is) wide
 
   pub can_prepare_each : (ms : List Signed) (new : List Row) → MovesForm shape ms old new → CanPrepareSplit seen s ms
   can_prepare_each ms new m = record { old = old; new = new; keeps = h.keeps; wide = wide_each ms new m; moves = m.moves; few = m.few }

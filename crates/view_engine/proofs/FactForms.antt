@@ -24,11 +24,11 @@ use Rattle.valuation_meaning.proofs.EvalLemmas.{facts_bear}
 use Rattle.fact_limits.proofs.FactsFew.{facts_few}
 use Rattle.fact_limits.proofs.FactsForm.{have_form, read_back, are_wide}
 use Rattle.operator_law.specs.declared.delta.Signed.{Signed}
-use Rattle.operator_law.specs.Bags.{MovesBag, all_signed}
+use Rattle.operator_law.specs.Bags.{MovesBag, SameBag, all_signed}
 use Rattle.operator_law.proofs.SignedRows.{come-up, go-up}
 use Rattle.plan_law.specs.Net.{IsNet}
 use Rattle.plan_law.specs.PlanMoves.{fact_rows}
-use Rattle.plan_translate.specs.Moves.{MovesFacts, AllCome}
+use Rattle.plan_translate.specs.Moves.{MovesFacts}
 use Rattle.unfold_op.specs.FactMoves.{facts_in, facts_moved}
 use Rattle.unfold_op.proofs.BagMoves.{facts_length}
 use Rattle.split_op.specs.Tables.{ScriptLines}
@@ -77,16 +77,16 @@ form_moves shape ms old new moves net wide_old wide_new bear_old bear_new few = 
   few = few;
 }
 
--- rows that all come
-come_moves : (rows : List Row) (ms : List Signed) → AllCome rows ms → MovesBag [] ms rows
-come_moves rows ms h = subst (λ (ns : List Signed). MovesBag [] ns rows) (sym h.1) (λ f. omega (arith, come-up f h.0, go-up f h.0, h.2 f))
+-- rows that all come, in any order
+come_moves : (rows some_order : List Row) → SameBag rows some_order → MovesBag [] (all_signed true some_order) rows
+come_moves rows some_order same = λ f. omega (arith, come-up f some_order, go-up f some_order, same f)
 
 all_up : (rows : List Row) → AllByRecursion (λ (m : Signed). true ≡ m.up) (all_signed true rows)
 all_up [] = tt
 all_up (row ∷ rows) = (refl, all_up rows)
 
-come_net : (rows : List Row) (ms : List Signed) → AllCome rows ms → IsNet ms
-come_net rows ms h = subst IsNet (sym h.1) (record { comes = λ row. true; tells = all_up h.0 })
+come_net : (rows : List Row) → IsNet (all_signed true rows)
+come_net rows = record { comes = λ row. true; tells = all_up rows }
 
 module _ (c : CatalogueValue) (q : Query) (profile : IsViewOfProfile q) where
   pub in_rows : facts_in (shape_of q) (fact_rows c q) ≡ facts c q
@@ -109,9 +109,9 @@ module _ (c : CatalogueValue) (q : Query) (profile : IsViewOfProfile q) where
   pub stop_rows : (s : Stop) → IsStop (shape_of q) (facts_in (shape_of q) (fact_rows c q)) s → IsViewStop c q s
   stop_rows s h = subst (λ (fs : List Fact). IsStop (shape_of q) fs s) in_rows h
 
-  pub come_form : IsSound c → (ms : List Signed) → AllCome (fact_rows c q) ms → MovesForm (shape_of q) ms [] (fact_rows c q)
-  come_form sound ms h =
-      form_moves (shape_of q) ms [] (fact_rows c q) (come_moves (fact_rows c q) ms h) (come_net (fact_rows c q) ms h) tt wide_rows (none_bears (shape_of q).label) bear_rows (few_rows sound)
+  pub come_form : IsSound c → (rows : List Row) → SameBag (fact_rows c q) rows → MovesForm (shape_of q) (all_signed true rows) [] (fact_rows c q)
+  come_form sound rows same =
+      form_moves (shape_of q) (all_signed true rows) [] (fact_rows c q) (come_moves (fact_rows c q) rows same) (come_net rows) tt wide_rows (none_bears (shape_of q).label) bear_rows (few_rows sound)
 
 module _ (c c' : CatalogueValue) (q : Query) (profile : IsViewOfProfile q) where
   pub move_form : IsSound c' → (ms : List Signed) → MovesFacts c c' q ms → MovesForm (shape_of q) ms (fact_rows c q) (fact_rows c' q)

@@ -4,3 +4,4 @@ pub mod EachForms
 pub mod FactForms
 pub mod Standing
 pub mod RowLimits
+mod SameRows

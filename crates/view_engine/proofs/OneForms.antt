@@ -2,6 +2,7 @@
 use Rattle.std.proofs.Common.{◌≡◌, ◌+◌, ℕ, List, [], ◌∷◌, Option, Some, None, refl, sym, ◌∙◌, ap, subst, map, length}
 use Rattle.std.specs.Prelude.{is_some}
 use Rattle.std.specs.Option.{option_or}
+use Rattle.std.specs.List.{All}
 use Rattle.std.specs.Prelude.{Result, Ok, Err, IfOk, IfErr}
 use Rattle.ss_text.specs.Texts.{Text, Row}
 use Rattle.flow_law.specs.declared.shape.Shape.{Shape}
@@ -113,6 +114,9 @@ module _ (shape : Shape) (label : Text) (t : OneTableValue) where
 
     pub can_prepare_one : (ms : List Signed) (new : List Row) → MovesForm shape ms old new → CanPrepareWhole label t ms
     can_prepare_one ms new m = record { bears = bears_one ms new m; old = old; new = new; keeps = h.keeps; moves = m.moves; few = m.few }
+
+    pub wide_one : (rows : List Row) → All (λ (row : Row). length row ≡ fact_width shape) rows → All (λ (row : Row). length row ≡ fact_width t.shape) rows
+    wide_one rows wide = λ k d lt. wide k d lt ∙ sym (width_alike t.shape shape h.columns.constants h.columns.variable)
 
     pub can_keep_one : (new : List Row) → CanKeepTables shape new → CanKeepWhole label t.shape new
     can_keep_one new can = record {

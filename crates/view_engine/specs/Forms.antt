@@ -1,5 +1,5 @@
 -- What the tables of a view keep, whatever their form, and how moves of facts change them.
-use Rattle.std.specs.Prelude.{◌≡◌, ◌<◌, ◌^◌, Bool, true, false, List, Option, Some, None, length}
+use Rattle.std.specs.Prelude.{◌≡◌, ◌<◌, ◌^◌, Bool, true, false, List, [], Option, Some, None, length}
 use Rattle.std.specs.List.{All}
 use Rattle.ss_text.specs.Texts.{Text, Row}
 use Rattle.flow_law.specs.declared.shape.Shape.{Shape}
@@ -50,6 +50,12 @@ pub record CanKeepTables (shape : Shape) (rows : List Row) : Type 0 where
   pub legal : illegal shape (facts_in shape rows) ≡ None
   pub clean : conflict (facts_in shape rows) ≡ None
   pub bear : BearLabel shape.label (facts_in shape rows)
+
+-- the facts in these rows, of this form, can be kept where none are
+pub record CanFillTables (shape : Shape) (t : ViewTables) (rows : List Row) : Type 0 where
+  pub none : KeepsTables shape t []
+  pub wide : All (λ (row : Row). length row ≡ fact_width shape) rows
+  pub can : CanKeepTables shape rows
 
 -- moves of facts of this form take rows to others, which can be counted
 pub record MovesForm (shape : Shape) (ms : List Signed) (old new : List Row) : Type 0 where

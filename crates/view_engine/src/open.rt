@@ -45,8 +45,8 @@ impl Engine {
         let _databases = catalogue.databases();
         let mut tables = tables_of(alloc, view)?;
         let mut plan = translate(alloc, view)?;
-        let facts = plan.fill(alloc, catalogue, steps)?;
-        tables.fill(alloc, &facts)?;
+        let facts = plan.fill(alloc, catalogue)?;
+        tables.fill(alloc, facts)?;
         Ok(Engine { plan, tables })
     }
 }

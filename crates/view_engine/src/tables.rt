@@ -5,7 +5,7 @@ ghost use Rattle.ss_text.specs.Texts.{Row as RowValue};
 ghost use Rattle.ss_text.specs.Label.{is_table_label};
 ghost use Rattle.flow_law.specs.declared.shape.Shape.{Shape as ShapeValue};
 ghost use Rattle.operator_law.specs.Bags.{MovesBag};
-ghost use Rattle.view_engine.specs.Forms.{KeepsTables, CanKeepTables, MovesTables, TellsLines, StopsSo, IsReadyFor, made_for, is_one};
+ghost use Rattle.view_engine.specs.Forms.{KeepsTables, CanKeepTables, CanFillTables, MovesTables, TellsLines, StopsSo, IsReadyFor, made_for, is_one};
 
 use flow_law::{Shape, Stop, TableLine};
 use operator_law::{Delta, Kept, Operator};
@@ -162,13 +162,17 @@ impl ViewTables {
         }
     }
 
-    /// Moves what is kept at once, where the facts after that can be kept.
-    pub fn fill(&mut self, alloc: Global, facts: &Delta) -> Result<(), NoMemory>
-        requires { (shape : ShapeValue) × (old : List RowValue) × (new : List RowValue) × MovesTables shape self.old facts.now old new × CanKeepTables shape new }
-        ensures { OnOk result ((shape : ShapeValue) (old new : List RowValue) → MovesTables shape self.old facts.now old new → CanKeepTables shape new → KeepsTables shape self.new new) }
+    /// Keeps the facts in these rows, where none are kept. After `NoMemory` the tables keep no facts that are known.
+    pub fn fill(&mut self, alloc: Global, facts: Vec<Row>) -> Result<(), NoMemory>
+        requires { (shape : ShapeValue) × CanFillTables shape self.old facts.items }
+        ensures { OnOk result ((shape : ShapeValue) → CanFillTables shape self.old facts.items → KeepsTables shape self.new facts.items) }
     {
-        let ready = self.reserve(alloc, facts)?;
-        self.commit(ready);
+        match self {
+            ViewTables::OneOfRows(whole) => whole.fill(alloc, facts)?,
+            ViewTables::OneOfCells(whole) => whole.fill(alloc, facts)?,
+            ViewTables::EachOfRows(split, _) => split.fill(alloc, facts)?,
+            ViewTables::EachOfCells(split, _) => split.fill(alloc, facts)?,
+        }
         Ok(())
     }
 }
