@@ -49,14 +49,14 @@ pub takes_next : (c c' : CatalogueValue) (q : Query) (m : EngineMove) (next : Ta
 takes_next c c' q m (ByLines lines) e h = script_moved c c' q lines m.lines h e
 takes_next c c' q m (Anew tables) e h = h
 
--- a move of a catalogue, of a change and of a view is one of equal ones
-pub moves_alike : (c d : CatalogueValue) (g h : Change) (q r : Query) (m : EngineMove) → c ≡ d → g ≡ h → q ≡ r → EngineMoves d (after d h) r m → EngineMoves c (after c g) q m
-moves_alike c d g h q r m e f k moves =
-    subst (λ (x : CatalogueValue). EngineMoves x (after x g) q m) (sym e)
-    (subst (λ (x : Change). EngineMoves d (after d x) q m) (sym f) (subst (λ (x : Query). EngineMoves d (after d h) x m) (sym k) moves))
+-- a move between catalogues, and of a view, is one of equal ones
+pub moves_alike : (c d c' d' : CatalogueValue) (q r : Query) (m : EngineMove) → c ≡ d → c' ≡ d' → q ≡ r → EngineMoves d d' r m → EngineMoves c c' q m
+moves_alike c d c' d' q r m e f k moves =
+    subst (λ (x : CatalogueValue). EngineMoves x c' q m) (sym e)
+    (subst (λ (x : CatalogueValue). EngineMoves d x q m) (sym f) (subst (λ (x : Query). EngineMoves d d' x m) (sym k) moves))
 
-pub ready_alike : (c d : CatalogueValue) (g h : Change) (q r : Query) (m : EngineMove) (ready : UpkeepReady) → c ≡ d → g ≡ h → q ≡ r → IsReadyFor (after d h) r m ready → IsReadyFor (after c g) q m ready
-ready_alike c d g h q r m ready e f k is = subst (λ (x : CatalogueValue). IsReadyFor (after x g) q m ready) (sym e) (subst (λ (x : Change). IsReadyFor (after d x) q m ready) (sym f) (subst (λ (x : Query). IsReadyFor (after d h) x m ready) (sym k) is))
+pub ready_alike : (c' d' : CatalogueValue) (q r : Query) (m : EngineMove) (ready : UpkeepReady) → c' ≡ d' → q ≡ r → IsReadyFor d' r m ready → IsReadyFor c' q m ready
+ready_alike c' d' q r m ready f k is = subst (λ (x : CatalogueValue). IsReadyFor x q m ready) (sym f) (subst (λ (x : Query). IsReadyFor d' x m ready) (sym k) is)
 
 pub names_alike : (c d : CatalogueValue) (g h : Change) (ls ms : List TableLine) → c ≡ d → g ≡ h → ls ≡ ms → of_both d h ms ≡ of_both c g ls
 names_alike c d g h ls ms e f k = λ i. of_both (sym e i) (sym f i) (sym k i)

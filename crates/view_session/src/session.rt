@@ -9,8 +9,9 @@ ghost use Rattle.schema_model.specs.Refusals.{fault};
 ghost use Rattle.view_def.specs.Query.{query_of};
 ghost use Rattle.view_def.specs.Profile.{IsViewOfProfile};
 ghost use Rattle.valuation_meaning.specs.Meaning.{shape_of};
-ghost use Rattle.valuation_meaning.specs.Refusal.{refusal};
+ghost use Rattle.valuation_meaning.specs.Refusal.{refusal, IsRefusal};
 ghost use Rattle.view_session.specs.Limits.{limit_of};
+ghost use Rattle.view_session.specs.Upkeeps.{view_of, IsKept};
 ghost use Rattle.view_session.specs.Session.{opened, cleared, begun, holding, closed, working, committed, tables_of, lines_to, moved, IsOpenFault, IsAccepted, IsRefused, IsHoldRefused, IsGroupStop};
 
 use crate::changed::Changed;
@@ -27,19 +28,36 @@ use ss_text::{Steps, Text};
 use std::alloc::Global;
 use std::marker::Model;
 use std::sync::ledger::Ledger;
-use valuation_meaning::shape_of;
+use valuation_meaning::{EvalFault, shape_of};
 use view_def::View;
 
 /// A view that is kept up to date, which contracts see as the view, the catalogue that it stands for, what was named
 /// since the names were last cleared, and the changes that the open group holds, where one is open. Its tables are the
 /// view's meaning.
-#[derive(Drop)]
 pub struct Session {
     catalogue: Catalogue,
     upkeep: Upkeep,
     shape: Shape,
     changed: Changed,
     group: Option<Group>,
+}
+
+// Each part is let go by a call, so that the proof of what owns a session does not unfold it.
+impl Drop for Session {
+    fn drop(self) {
+        let Session {
+            catalogue,
+            upkeep,
+            shape,
+            changed,
+            group,
+        } = self;
+        drop(catalogue);
+        drop(upkeep);
+        drop(shape);
+        drop(changed);
+        drop(group);
+    }
 }
 
 impl Model for Session {
@@ -65,6 +83,26 @@ impl Model for Session {
     } };
 }
 
+// The form of a view's tables, and what is kept for a catalogue; or the fault for which the view is refused over it.
+fn kept_over<L: Ledger>(
+    alloc: Global,
+    catalogue: &Catalogue,
+    view: Box<View>,
+    steps: &mut Steps<L>,
+) -> Result<(Shape, Upkeep), EvalFault>
+    requires { IsViewOfProfile (query_of view.value) }
+    ensures shape { IfOk result (λ told. told.0 ≡ shape_of (query_of view.value)) }
+    ensures view { IfOk result (λ told. view_of told.1 ≡ query_of view.value) }
+    ensures kept { IfOk result (λ told. IsKept catalogue.now.databases told.1) }
+    ensures refused { IfErr result (λ fault. IsRefusal (refusal catalogue.now.databases (query_of view.value)) fault) }
+    ensures steps { result ≢ Err EvalFault.NoMemory → steps.new ≡ steps.old }
+    ensures rises { steps.old ≤ steps.new }
+{
+    let shape = shape_of(&view)?;
+    let upkeep = Upkeep::open(alloc, catalogue, view, steps)?;
+    Ok((shape, upkeep))
+}
+
 impl Session {
     /// Opens a view over a catalogue. Where its facts have an illegal label, or else a conflict, it is refused. No step
     /// is counted.
@@ -81,15 +119,19 @@ impl Session {
         ensures steps { result ≢ Err OpenFault.NoMemory → steps.new ≡ steps.old }
         ensures rises { steps.old ≤ steps.new }
     {
-        let shape = shape_of(&view)?;
-        let upkeep = Upkeep::open(alloc, &catalogue, view, steps)?;
-        Ok(Session {
-            catalogue,
-            upkeep,
-            shape,
-            changed: Changed::none(alloc),
-            group: None,
-        })
+        match kept_over(alloc, &catalogue, view, steps) {
+            Ok((shape, upkeep)) => Ok(Session {
+                catalogue,
+                upkeep,
+                shape,
+                changed: Changed::none(alloc),
+                group: None,
+            }),
+            Err(fault) => {
+                drop(catalogue);
+                Err(fault.into())
+            }
+        }
     }
 
     /// Makes a change where no group is open, and answers the lines by which the tables change. It takes all memory
@@ -169,17 +211,19 @@ impl Session {
         ensures closed { OnErr result (self.new ≡ closed self.old) }
         ensures rises { steps.old ≤ steps.new }
     {
-        let Some(group) = self.group.take() else {
+        let Some(mut group) = self.group.take() else {
             unreachable!()
         };
-        commit_group(
+        let made = commit_group(
             alloc,
             &mut self.catalogue,
             &mut self.upkeep,
             &mut self.changed,
-            group,
+            &mut group,
             steps,
-        )
+        );
+        drop(group);
+        made
     }
 
     /// Gives up the open group.

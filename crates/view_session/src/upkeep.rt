@@ -17,31 +17,59 @@ use operator_law::Kept;
 use schema_model::Catalogue;
 use ss_text::{NoMemory, Steps};
 use std::alloc::Global;
+use std::mem;
 use std::sync::ledger::Ledger;
 use valuation_meaning::{EvalFault, evaluate};
 use view_def::View;
 use view_engine::{Engine, EngineMove, EngineReady};
 
 /// A view with its engine and its tables. Both stand for one catalogue.
-#[derive(Drop)]
 pub(crate) struct Upkeep {
     pub(crate) view: Box<View>,
     pub(crate) engine: Engine,
     pub(crate) tables: KeptTables,
 }
 
+impl Drop for Upkeep {
+    fn drop(self) {
+        let Upkeep {
+            view,
+            engine,
+            tables,
+        } = self;
+        drop(view);
+        drop(engine);
+        drop(tables);
+    }
+}
+
 /// How tables are moved: by lines that wait, or by others in their place.
-#[derive(Drop)]
 pub(crate) enum TablesNext {
     ByLines(LinesReady),
     Anew(KeptTables),
 }
 
+impl Drop for TablesNext {
+    fn drop(self) {
+        match self {
+            TablesNext::ByLines(lines) => drop(lines),
+            TablesNext::Anew(tables) => drop(tables),
+        }
+    }
+}
+
 /// A move for which all memory was taken.
-#[derive(Drop)]
 pub(crate) struct UpkeepReady {
     engine: EngineReady,
     tables: TablesNext,
+}
+
+impl Drop for UpkeepReady {
+    fn drop(self) {
+        let UpkeepReady { engine, tables } = self;
+        drop(engine);
+        drop(tables);
+    }
 }
 
 // The tables of a view over a catalogue, or the fault for which it is refused.
@@ -51,8 +79,9 @@ fn tables_over(alloc: Global, catalogue: &Catalogue, view: &View) -> Result<Kept
     ensures refused { IfErr result (λ fault. IsRefusal (refusal catalogue.now.databases (query_of view.now)) fault) }
 {
     let tables = evaluate(alloc, catalogue, view)?;
-    let kept = KeptTables::of(alloc, &tables)?;
-    Ok(kept)
+    let kept = KeptTables::of(alloc, &tables);
+    drop(tables);
+    Ok(kept?)
 }
 
 // The tables of a view over a catalogue, over which it is not refused.
@@ -67,14 +96,30 @@ fn allowed_tables(alloc: Global, catalogue: &Catalogue, view: &View) -> Result<K
     }
 }
 
-// Moves tables. It takes no memory.
-fn commit_tables(tables: &mut KeptTables, next: TablesNext)
-    requires { WaitsFor tables.old next }
-    ensures { (old new : TablesValue) → tables.old.tables ≡ old → TakesTo old new next → tables.new.tables ≡ new }
-{
-    match next {
-        TablesNext::ByLines(lines) => tables.commit(lines),
-        TablesNext::Anew(anew) => *tables = anew,
+impl TablesNext {
+    // Moves tables. It takes no memory.
+    fn make(self, tables: &mut KeptTables)
+        requires { WaitsFor tables.old self }
+        ensures { (old new : TablesValue) → tables.old.tables ≡ old → TakesTo old new self → tables.new.tables ≡ new }
+    {
+        match self {
+            TablesNext::ByLines(lines) => tables.commit(lines),
+            TablesNext::Anew(anew) => drop(mem::replace(tables, anew)),
+        }
+    }
+}
+
+impl UpkeepReady {
+    // Makes this move of what waits for it, and answers the lines by which the tables change. It takes no memory.
+    pub(crate) fn commit(self, upkeep: &mut Upkeep) -> Vec<TableLine>
+        requires { IsReadyUpkeep upkeep.old self }
+        ensures kept { (c c' : CatalogueValue) (m : Moves) → IsKept c upkeep.old → EngineMoves c c' (view_of upkeep.old) m → IsReadyFor c' (view_of upkeep.old) m self → IsKept c' upkeep.new }
+        ensures view { view_of upkeep.new ≡ view_of upkeep.old }
+        ensures lines { result ≡ self.engine.lines }
+    {
+        let UpkeepReady { engine, tables } = self;
+        tables.make(&mut upkeep.tables);
+        upkeep.engine.commit(engine)
     }
 }
 
@@ -94,12 +139,17 @@ impl Upkeep {
         ensures rises { steps.old ≤ steps.new }
     {
         let tables = tables_over(alloc, catalogue, &view)?;
-        let engine = Engine::open(alloc, catalogue, &view, steps)?;
-        Ok(Upkeep {
-            view,
-            engine,
-            tables,
-        })
+        match Engine::open(alloc, catalogue, &view, steps) {
+            Ok(engine) => Ok(Upkeep {
+                view,
+                engine,
+                tables,
+            }),
+            Err(NoMemory) => {
+                drop(tables);
+                Err(EvalFault::NoMemory)
+            }
+        }
     }
 
     // Takes all memory for a move by its lines. What is kept stays, after `NoMemory` too.
@@ -140,17 +190,5 @@ impl Upkeep {
             engine,
             tables: TablesNext::Anew(tables),
         })
-    }
-
-    // Makes a move that waits, and answers the lines by which the tables change. It takes no memory.
-    pub(crate) fn commit(&mut self, ready: UpkeepReady) -> Vec<TableLine>
-        requires { IsReadyUpkeep self.old ready }
-        ensures kept { (c c' : CatalogueValue) (m : Moves) → IsKept c self.old → EngineMoves c c' (view_of self.old) m → IsReadyFor c' (view_of self.old) m ready → IsKept c' self.new }
-        ensures view { view_of self.new ≡ view_of self.old }
-        ensures lines { result ≡ ready.engine.lines }
-    {
-        let UpkeepReady { engine, tables } = ready;
-        commit_tables(&mut self.tables, tables);
-        self.engine.commit(engine)
     }
 }
