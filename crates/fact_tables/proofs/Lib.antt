@@ -1,6 +1,7 @@
 pub mod FactLemmas
 pub mod FrontLemmas
+pub mod ShortLemmas
 pub mod ValueLemmas
 pub mod TableRows
-pub mod OrderedFacts
+pub mod OrderLemmas
 pub mod ColumnLemmas

@@ -49,6 +49,13 @@ impl<'a> Fact<'a> {
         &self.label
     }
 
+    /// Its key.
+    pub(crate) fn key(&self) -> &Key<'a>
+        ensures { result.now ≡ self.now.key }
+    {
+        &self.key
+    }
+
     /// Its column label.
     pub(crate) fn column(&self) -> Option<&Label<'a>>
         ensures { option_copied result ≡ column_of self.now }

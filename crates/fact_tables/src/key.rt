@@ -1,5 +1,5 @@
 //! The key of a fact.
-ghost use Rattle.std.specs.Prelude.{◌≡◌, refl, Some};
+ghost use Rattle.std.specs.Prelude.{◌≡◌, refl, Some, IfSome, slice_get};
 ghost use Rattle.std.specs.Ordering.{eq_by_cmp, as_partial_cmp};
 ghost use Rattle.std.specs.Cmp.{partial_equiv_from_equiv, partial_order_from_agreeing_total};
 ghost use Rattle.std.specs.Cmp.Lexicographic.{lists_equiv, lists_total, lists_ties, nat_list_eq_equiv, nat_list_cmp_total, texts_ties};
@@ -8,6 +8,7 @@ ghost use Rattle.fact_tables.specs.Front.{front_of_row, AreRowDigits, is_whole};
 
 use crate::front::long_front_of;
 use crate::label::Label;
+use crate::short::ShortFirst;
 use std::cmp::Ordering;
 use std::marker::Model;
 
@@ -39,6 +40,17 @@ impl<'a> Key<'a> {
         Key {
             front: front_of_row(labels),
             labels,
+        }
+    }
+
+    /// The bytes of its first value, where there is one and its front holds them all. No value is read.
+    pub(crate) fn first(&self) -> Option<ShortFirst>
+        ensures { IfSome result (λ first. Some first ≡ slice_get self.now 0) }
+    {
+        if is_whole(self.front) && !self.labels.is_empty() {
+            Some(ShortFirst::of(self.front))
+        } else {
+            None
         }
     }
 

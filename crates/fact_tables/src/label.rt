@@ -1,11 +1,12 @@
 //! A borrowed text that is compared often.
-ghost use Rattle.std.specs.Prelude.{◌≡◌, refl, Some, bytes_eq};
+ghost use Rattle.std.specs.Prelude.{◌≡◌, refl, Some, bytes_eq, IfSome};
 ghost use Rattle.std.specs.Ordering.{nat_cmp};
 ghost use Rattle.std.specs.Cmp.{partial_equiv_from_equiv};
 ghost use Rattle.std.specs.Cmp.Lexicographic.{slice_cmp, nat_list_eq_equiv, nat_list_cmp_total, texts_ties, texts_po};
 ghost use Rattle.fact_tables.specs.Front.{front_of, AreDigits, is_whole};
 
 use crate::front::front_of;
+use crate::short::Short;
 use ss_text::Text;
 use std::cmp::Ordering;
 use std::marker::Model;
@@ -50,8 +51,19 @@ impl<'a> Label<'a> {
         }
     }
 
+    /// Its bytes, where its front holds them all. No text is read.
+    pub fn short(&self) -> Option<Short>
+        ensures { IfSome result (λ short. short ≡ self.now) }
+    {
+        if is_whole(self.front) {
+            Some(Short::of(self.front))
+        } else {
+            None
+        }
+    }
+
     /// Its text.
-    pub(crate) fn text(&self) -> &'a Text
+    pub fn text(&self) -> &'a Text
         ensures { result.now ≡ self.now }
     {
         self.text

@@ -1,7 +1,8 @@
 //! Facts that are borrowed, put in order and made into tables.
 //!
 //! Its contract: `make_tables` gives the tables of facts in any order, or the illegal label or the conflict for which
-//! a view is refused with them. It knows nothing of where facts come from.
+//! a view is refused with them. `order_facts` gives the same as facts in order, from which the rows of the tables are
+//! read without tables. It knows nothing of where facts come from.
 #![tactic(auto)]
 
 mod fact;
@@ -9,10 +10,18 @@ mod front;
 mod key;
 mod label;
 mod made;
+mod ordered;
 mod refused;
+mod rows;
+mod short;
+mod table_facts;
 mod tables;
 
 pub use fact::Fact;
 pub use key::Key;
 pub use label::Label;
 pub use made::make_tables;
+pub use ordered::{OrderedFacts, order_facts};
+pub use rows::{FactRow, Rows};
+pub use short::{Short, ShortFirst};
+pub use table_facts::TableFacts;

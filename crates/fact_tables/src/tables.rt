@@ -37,7 +37,7 @@ fn put_column<'a>(columns: &mut Vec<Label<'a>>, column: &Label<'a>) -> Result<()
 }
 
 /// The column labels of facts, each once, ascending.
-fn columns<'a>(alloc: Global, facts: &[Fact<'a>]) -> Result<Vec<Label<'a>>, NoMemory>
+pub(crate) fn columns<'a>(alloc: Global, facts: &[Fact<'a>]) -> Result<Vec<Label<'a>>, NoMemory>
     ensures { IfOk result (λ columns. columns.items ≡ ascending text_cmp (filter_map column_of facts.now)) }
 {
     let mut columns = Vec::new(alloc);
@@ -61,7 +61,7 @@ fn copies(alloc: Global, labels: &[Label<'_>]) -> Result<Vec<Text>, NoMemory>
 }
 
 /// The least value of a column that is not empty, among facts whose cells ascend.
-fn value<'a>(facts: &[Fact<'a>], column: &Label<'_>) -> Option<&'a Text>
+pub(crate) fn value<'a>(facts: &[Fact<'a>], column: &Label<'_>) -> Option<&'a Text>
     requires { IsStrictlySortedBy by_cell facts.now }
     ensures { option_copied result ≡ least text_cmp (values_for facts.now column.now) }
 {

@@ -67,6 +67,9 @@ module _ (c : CatalogueValue) (q : Query) where
       by_cell None is = tt
       by_cell (Some t) is = (agree_more v (A_text t) agree (λ j a at. (t, refl, same_alias j a at ∙ is)), tt)
 
+  pub alias_agrees : (v : Valuation) (j : ℕ) (a : Place) (t : Text) → AliasesAgree q v → Some (range.Alias j a) ≡ slice_get q.decls (length v) → Some t ≡ cell_at v j a → AliasesAgree q (v ++ A_text t ∷ [])
+  alias_agrees v j a t agree here some = (rw (← some) at (elements_agree v (range.Alias j a) agree here)).0
+
 -- ---- branches that end have nothing
 all_empty : {A B : Type 0} (p : B → Bool) (f : A → List B) (Q : A → Type 0) (xs : List A) → AllByRecursion Q xs → ((x : A) → Q x → filter p (f x) ≡ []) → filter p (flat_map f xs) ≡ []
 all_empty p f Q [] all h = refl

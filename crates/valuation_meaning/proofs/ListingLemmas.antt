@@ -1,13 +1,16 @@
 -- The facts of the valuations that begin with given elements, one declaration on.
-use Rattle.std.proofs.Common.{◌≡◌, ◌+◌, Bool, List, [], ◌∷◌, ◌++◌, Some, None, drop, length, map, refl, ap, ◌∙◌}
-use Rattle.std.specs.Prelude.{filter, flat_map, slice_get, if◌then◌else◌}
+use Rattle.std.proofs.Common.{◌≡◌, ◌+◌, ℕ, Bool, List, [], ◌∷◌, ◌++◌, Some, None, drop, length, map, refl, sym, ap, ◌∙◌, append-nil, length-append}
+use Rattle.std.specs.Prelude.{filter, flat_map, option_to_list, slice_get, if◌then◌else◌}
 use Rattle.std.proofs.lemmas.List.{map-append}
 use Rattle.std.proofs.lemmas.List.Elements.{filter-append}
+use Rattle.ss_text.specs.Texts.{Text}
 use Rattle.schema_model.specs.Catalogue.{CatalogueValue}
+use Rattle.view_def.specs.declared.typed.Place.{Place}
 use Rattle.view_def.specs.declared.typed.Range.{Range}
+use Rattle.view_def.specs.declared.typed.Range.TheVariants as range
 use Rattle.view_def.specs.Query.{Query}
 use Rattle.flow_law.specs.Facts.{Fact}
-use Rattle.valuation_meaning.specs.Elements.{Element, Valuation, elements}
+use Rattle.valuation_meaning.specs.Elements.{Element, A_text, Valuation, cell_at, elements}
 use Rattle.valuation_meaning.specs.Terms.{value_of}
 use Rattle.valuation_meaning.specs.Valuations.{assignments, counts, valuations}
 use Rattle.valuation_meaning.specs.Meaning.{fact_of, facts}
@@ -40,6 +43,25 @@ module _ (c : CatalogueValue) (q : Query) (v : Valuation) where
   -- all elements of the next declaration are enough
   pub all_enough : (d : Range) → Some d ≡ slice_get q.decls (length v) → AreEnough c q v (elements c v d)
   all_enough d here = ap (facts_after c q v) (one_left q.decls (length v) d here) ∙ facts_after-more d (drop (length v + 1) q.decls)
+
+-- an alias has the element of its cell alone, or none
+module _ (c : CatalogueValue) (q : Query) (v : Valuation) (j : ℕ) (a : Place) (here : Some (range.Alias j a) ≡ slice_get q.decls (length v)) where
+  alias_enough : facts_after c q v (drop (length v) q.decls) ≡ flat_map (λ (e : Element). facts_after c q (v ++ e ∷ []) (drop (length v + 1) q.decls)) (map A_text (option_to_list (cell_at v j a)))
+  alias_enough = all_enough c q v (range.Alias j a) here
+
+  pub none_enough : None ≡ cell_at v j a → AreEnough c q v []
+  none_enough none = rw (← none) at alias_enough
+
+  pub one_enough : (t : Text) → Some t ≡ cell_at v j a → AreEnough c q v (A_text t ∷ [])
+  one_enough t some = rw (← some) at alias_enough
+
+-- the facts that are listed with one element
+pub facts_of_one : (c : CatalogueValue) (q : Query) (v begun : Valuation) (e : Element) (old new : List Fact) → begun ≡ v ++ e ∷ [] → AreEnough c q v (e ∷ [])
+    → new ≡ old ++ facts_after c q begun (drop (length begun) q.decls) → new ≡ old ++ facts_after c q v (drop (length v) q.decls)
+facts_of_one c q v begun e old new is enough added =
+    added ∙ ap (λ (w : Valuation). old ++ facts_after c q w (drop (length w) q.decls)) is
+    ∙ ap (λ n. old ++ facts_after c q (v ++ e ∷ []) (drop n q.decls)) (length-append v (e ∷ []))
+    ∙ ap (λ (fs : List Fact). old ++ fs) (sym (append-nil (facts_after c q (v ++ e ∷ []) (drop (length v + 1) q.decls))) ∙ sym enough)
 
 -- all facts
 pub facts_after_all : (c : CatalogueValue) (q : Query) → facts_after c q [] (drop 0 q.decls) ≡ facts c q

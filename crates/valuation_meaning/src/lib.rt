@@ -1,7 +1,8 @@
 //! The meaning of a view: its tables, over the whole catalogue.
 //!
 //! Its contract: `evaluate` gives the tables of the facts of a view, one fact for each assignment of rows and
-//! names to its declarations that counts, or the illegal label or the conflict for which the view is refused.
+//! names to its declarations that counts, or the illegal label or the conflict for which the view is refused;
+//! `ordered_facts` gives the same as facts in order, of which the tables can be read and need not be made.
 //! It knows nothing of the text of views, of changes, or of how tables are kept up to date or printed.
 #![tactic(auto)]
 
@@ -21,6 +22,6 @@ mod truth;
 mod value;
 
 pub use early::members;
-pub use evaluation::{EvalFault, evaluate};
+pub use evaluation::{EvalFault, evaluate, ordered_facts};
 pub use shape::shape_of;
 pub use truth::compares;

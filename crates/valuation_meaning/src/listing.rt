@@ -1,5 +1,5 @@
 //! The facts of a view, listed one for each valuation.
-ghost use Rattle.std.specs.Prelude.{◌≡◌, ◌&&◌, [], ◌∷◌, ◌++◌, drop, map, option_copied, option_map, option_to_list, length, slice_get, vec_len, ◌<◌, IfOk, OnOk, OnSome, IsTrue, Some, if◌then◌else◌};
+ghost use Rattle.std.specs.Prelude.{◌≡◌, ◌&&◌, [], ◌∷◌, ◌++◌, drop, map, option_copied, option_map, option_to_list, length, slice_get, vec_len, ◌<◌, IfOk, OnOk, OnSome, IfSome, IsTrue, Some, if◌then◌else◌};
 ghost use Rattle.view_def.specs.Conditions.{condition_of};
 ghost use Rattle.view_def.specs.Query.{query_of};
 ghost use Rattle.fact_tables.specs.Borrowed.{cell_value};
@@ -11,6 +11,7 @@ ghost use Rattle.valuation_meaning.specs.Listing.{facts_after, AreEnough};
 ghost use Rattle.valuation_meaning.specs.Early.{AliasesAgree, Ends};
 ghost use Rattle.valuation_meaning.specs.Sources.{IsReady};
 ghost use Rattle.std.specs.List.{All};
+ghost use Rattle.view_def.specs.declared.typed.Range.TheVariants as range;
 
 use crate::early::{EarlyMember, EarlyTerm, early_members, early_terms, fails_member, lacks_term};
 use crate::element::Element;
@@ -18,7 +19,7 @@ use crate::indexes::Indexes;
 use crate::lookups::{Lookup, looked_up, lookup_for, lookups};
 use crate::ranges::elements;
 use crate::truth::truth;
-use crate::value::{place_text, value_of};
+use crate::value::{cell_at, place_text, value_of};
 use bumpalo::Bump;
 use bumpalo::collections::into_bump_slice;
 use fact_tables::{Fact, Key, Label};
@@ -177,6 +178,24 @@ impl<'a> Source<'a> {
         Ok(found)
     }
 
+    /// The element of the next declaration, an alias, if it has one. It needs no list of one element.
+    fn aliased(
+        &self,
+        valuation: &[Element<'a>],
+        declaration: u32,
+        attribute: &'a Place,
+    ) -> Option<Element<'a>>
+        requires agree { AliasesAgree (query_of self.now.view.now) valuation.now }
+        requires range { Some (range.Alias declaration attribute.now) ≡ slice_get self.now.view.now.decls.items (length valuation.now) }
+        ensures enough { AreEnough self.now.catalogue.now.databases (query_of self.now.view.now) valuation.now (option_to_list result) }
+        ensures agree { IfSome result (λ e. AliasesAgree (query_of self.now.view.now) (valuation.now ++ e ∷ [])) }
+    {
+        match cell_at(valuation, declaration, attribute) {
+            Some(cell) => Some(Element::of_text(cell)),
+            None => None,
+        }
+    }
+
     /// Adds the facts of the valuations that begin with these elements.
     fn add_facts(
         &self,
@@ -198,6 +217,15 @@ impl<'a> Source<'a> {
             return self.add_fact(valuation, facts);
         };
         if self.ends(valuation) {
+            return Ok(());
+        }
+        if let Range::Alias(declaration, attribute) = range {
+            let Some(element) = self.aliased(valuation, *declaration, attribute) else {
+                return Ok(());
+            };
+            valuation.push(element)?;
+            self.add_facts(alloc, indexes, valuation, facts)?;
+            valuation.pop();
             return Ok(());
         }
         for element in self.candidates(alloc, indexes, valuation, range)? {

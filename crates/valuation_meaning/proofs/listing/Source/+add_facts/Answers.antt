@@ -5,6 +5,7 @@ use Rattle.std.proofs.lemmas.Iterator.Consumers.{YieldsList-end}
 use Rattle.view_def.specs.Query.{query_of}
 use Rattle.ss_text.proofs.GroupWalk.{none_left}
 use Rattle.valuation_meaning.proofs.AliasLemmas.{no_facts}
+use Rattle.valuation_meaning.proofs.ListingLemmas.{facts_of_one}
 use Rattle.valuation_meaning.proofs.listing.Source.+add_facts.Goals as goal
 
 pub returns-in_default-clause-facts : goal.returns-in_default-clause-facts
@@ -32,3 +33,15 @@ returns-clause-facts t c =
     let same = sym (map-id c.loop-element.yielded) ∙ done in
     let from = rw c.deref-3.ensures.value at c.in_ok-element-items.ensures.facts in
     rw (rw (← same) at from) c.loop-element.invariant.facts
+
+pub returns-in_default-aliased-clause-facts : goal.returns-in_default-aliased-clause-facts
+returns-in_default-aliased-clause-facts t c =
+    let enough = rw c.deref-in-Alias.ensures.value at c.in_default-aliased.ensures.enough in
+    rw enough (sym (append-nil c.args.facts.now.items))
+
+pub returns-in-Alias-clause-facts : goal.returns-in-Alias-clause-facts
+returns-in-Alias-clause-facts t c =
+    let s = c.args.self.now in
+    let v = c.args.valuation.now.items in
+    let enough = rw c.deref-in-Alias.ensures.value at c.in-Some-aliased.ensures.enough in
+    facts_of_one s.catalogue.now.databases (query_of s.view.now) v c.push.new.self.items c.in-Some-aliased.element c.args.facts.now.items c.add_facts.new.facts.items c.in_ok-push.ensures.items enough c.in_ok-add_facts.ensures.facts

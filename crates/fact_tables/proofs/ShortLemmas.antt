@@ -1,0 +1,64 @@
+-- The bytes of a text that its front holds whole.
+use Rattle.std.proofs.Common.{◌≡◌, ◌+◌, ◌*◌, ◌/◌, ◌%◌, ◌^◌, ◌<◌, ◌≤◌, ◌∙◌, ℕ, zero, suc, List, [], ◌∷◌, ◌++◌, length, drop, take, get_or, refl, sym, ap, arith}
+use Rattle.std.specs.Prelude.{min, slice_get, Some}
+use Rattle.std.specs.Int.{w64, w128, to_be_bytes}
+use native.Mathlib.Nat.{div-div-eq-div-mul, pow-suc}
+use Rattle.ss_text.specs.Texts.{Text, Row}
+use Rattle.fact_tables.specs.Front.{with_bytes, front_of, AreDigits, front_of_row, AreRowDigits}
+
+-- the first n bytes, 0 for each that is missing
+padded : ℕ → Text → List ℕ
+padded zero t = []
+padded (suc n) t = get_or t 0 0 ∷ padded n (drop 1 t)
+
+-- byte i of a number, where byte 0 is the lowest, and its lowest k bytes, the highest of them first
+byte_at : ℕ → ℕ → ℕ
+byte_at zero n = n % 256
+byte_at (suc i) n = n / 256 ^ suc i % 256
+
+bytes_high_first : ℕ → ℕ → List ℕ
+bytes_high_first zero n = []
+bytes_high_first (suc k) n = byte_at k n ∷ bytes_high_first k n
+
+-- the number before digits and one more byte
+before : (n a c : ℕ) (t : Text) → AreDigits n t → c < 256 → (with_bytes a n t * 256 + c) / 256 ^ suc n ≡ a
+before zero a c t h small = omega (arith, small)
+before (suc n) a c t h small =
+    let number = with_bytes (a * 256 + get_or t 0 0) n (drop 1 t) * 256 + c in
+    let inner = before n (a * 256 + get_or t 0 0) c (drop 1 t) h.1 small in
+    ap (λ p. number / p) (pow-suc 256 (suc n)) ∙ sym (div-div-eq-div-mul number (256 ^ suc n) 256)
+    ∙ ap (λ x. x / 256) inner ∙ omega (arith, h.0)
+
+-- digits and one more byte are the bytes of their number
+bytes_are : (n a c : ℕ) (t : Text) → AreDigits n t → c < 256 → bytes_high_first (suc n) (with_bytes a n t * 256 + c) ≡ padded n t ++ c ∷ []
+unfolding padded byte_at bytes_high_first
+bytes_are zero a c t h small = let last : (a * 256 + c) % 256 ≡ c = omega (arith, small) in ap (λ x. x ∷ []) last
+bytes_are (suc n) a c t h small =
+    let byte = get_or t 0 0 in
+    let number = with_bytes (a * 256 + byte) n (drop 1 t) * 256 + c in
+    let first : number / 256 ^ suc n % 256 ≡ byte = ap (λ x. x % 256) (before n (a * 256 + byte) c (drop 1 t) h.1 small) ∙ omega (arith, h.0) in
+    ap (λ x. x ∷ bytes_high_first (suc n) number) first ∙ ap (λ xs. byte ∷ xs) (bytes_are n (a * 256 + byte) c (drop 1 t) h.1 small)
+
+taken : (n : ℕ) (t : Text) (rest : List ℕ) → length t ≤ n → take (length t) (padded n t ++ rest) ≡ t
+unfolding padded
+taken n [] rest h = refl
+taken zero (b ∷ t) rest h = absurd (omega (arith, h))
+taken (suc n) (b ∷ t) rest h = ap (λ xs. b ∷ xs) (taken n t rest (omega (arith, h)))
+
+-- a text that is as short as the front says
+whole_bytes : (n : ℕ) (t : Text) → n < 255 → AreDigits n t → front_of n t % 256 < n + 1 → take (front_of n t % 256) (bytes_high_first (suc n) (front_of n t)) ≡ t
+whole_bytes n t small h whole =
+    let size : front_of n t % 256 ≡ length t = omega (arith, small, whole) in
+    let short : length t ≤ n = omega (arith, small, whole) in
+    ap (λ k. take k (bytes_high_first (suc n) (front_of n t))) size
+    ∙ ap (take (length t)) (bytes_are n 0 (min (length t) (n + 1)) t h (omega (arith, small)))
+    ∙ taken n t (min (length t) (n + 1) ∷ []) short
+
+pub short_bytes : (t : Text) → AreDigits 7 t → front_of 7 t % 256 < 8 → take (front_of 7 t % 256) (to_be_bytes w64 (front_of 7 t)) ≡ t
+unfolding byte_at bytes_high_first
+short_bytes t h whole = whole_bytes 7 t (omega arith) h whole
+
+pub first_bytes : (row : Row) → AreRowDigits row → 0 < length row → front_of_row row % 256 < 16 → Some (take (front_of_row row % 256) (to_be_bytes w128 (front_of_row row))) ≡ slice_get row 0
+unfolding byte_at bytes_high_first
+first_bytes [] h some whole = absurd (omega (arith, some))
+first_bytes (t ∷ ts) h some whole = ap Some (whole_bytes 15 t (omega arith) h whole)

@@ -1,0 +1,90 @@
+//! Facts in order, for which a view is not refused.
+ghost use Rattle.std.specs.Prelude.{◌≡◌, None, IfOk, IfErr, OnOk};
+ghost use Rattle.ss_text.specs.Ascending.{ascending};
+ghost use Rattle.flow_law.specs.Facts.{refusal_by};
+ghost use Rattle.flow_law.specs.FactOrder.{fact_cmp};
+ghost use Rattle.flow_law.specs.FactTables.{tables};
+ghost use Rattle.flow_law.specs.InOrder.{AreTables};
+ghost use Rattle.flow_law.specs.Labelled.{BearLabel};
+ghost use Rattle.flow_law.specs.Stops.{IsStop};
+ghost use Rattle.flow_law.specs.declared.refused.Stop.TheVariants as stop;
+
+use crate::fact::Fact;
+use crate::refused::{conflict, illegal};
+use crate::table_facts::{TableFacts, table_facts};
+use crate::tables::tables;
+use flow_law::{Shape, Stop, Tables};
+use ss_text::{NoMemory, make_ascending};
+use std::alloc::Global;
+use std::marker::Model;
+
+/// Facts in order, each once, which contracts see as the tables that they give. They are there to be read table by
+/// table and row by row, where the tables themselves are not wanted.
+#[derive(Drop)]
+pub struct OrderedFacts<'a> {
+    shape: &'a Shape,
+    facts: Vec<Fact<'a>>,
+}
+
+impl<'a> Model for OrderedFacts<'a> {
+    ghost use Rattle.std.specs.List.Sorted.{IsStrictlySortedBy};
+    ghost use Rattle.flow_law.specs.FactOrder.{fact_cmp};
+    ghost use Rattle.flow_law.specs.Labelled.{BearLabel};
+    ghost use Rattle.flow_law.specs.Tables.{TablesValue};
+    ghost use Rattle.flow_law.specs.FactTables.{tables};
+
+    ghost Value = { TablesValue };
+
+    ghost view = { λ o. tables o.shape.now o.facts.items };
+
+    ghost invariant = { λ o. record { sorted : IsStrictlySortedBy fact_cmp o.facts.items; bear : BearLabel o.shape.now.label o.facts.items } };
+}
+
+impl<'a> OrderedFacts<'a> {
+    /// The tables.
+    pub fn tables(&self, alloc: Global) -> Result<Tables, NoMemory>
+        ensures { IfOk result (λ made. made ≡ self.now) }
+    {
+        tables(alloc, self.shape, &self.facts)
+    }
+
+    /// The facts of each table, in the order of the labels.
+    pub fn by_table(&self, alloc: Global) -> Result<Vec<TableFacts<'_, 'a>>, NoMemory>
+        ensures each { IfOk result (λ each. each.items ≡ self.now) }
+        ensures in_order { AreTables self.now }
+    {
+        table_facts(alloc, self.shape, &self.facts)
+    }
+}
+
+/// The facts of a view of this form, in any order, put in order; or why the view is refused for them: the least table
+/// label that is not legal, or else the least column label, or else the least conflict.
+pub fn order_facts<'a>(
+    alloc: Global,
+    shape: &'a Shape,
+    mut facts: Vec<Fact<'a>>,
+) -> Result<OrderedFacts<'a>, Stop>
+    requires { BearLabel shape.now.label facts.items }
+    ensures tables { IfOk result (λ ordered. ordered ≡ tables shape.now facts.entry.items) }
+    ensures allowed { OnOk result (refusal_by stop.Illegal stop.Conflict shape.now facts.entry.items ≡ None) }
+    ensures refused { IfErr result (IsStop shape.now facts.entry.items) }
+{
+    put_in_order(alloc, shape, &mut facts)?;
+    Ok(OrderedFacts { shape, facts })
+}
+
+// Puts facts in order, unless the view is refused for them.
+fn put_in_order(alloc: Global, shape: &Shape, facts: &mut Vec<Fact<'_>>) -> Result<(), Stop>
+    ensures order { OnOk result (facts.new.items ≡ ascending fact_cmp facts.old.items) }
+    ensures allowed { OnOk result (refusal_by stop.Illegal stop.Conflict shape.now facts.old.items ≡ None) }
+    ensures refused { IfErr result (IsStop shape.now facts.old.items) }
+{
+    if let Some(label) = illegal(shape, facts)? {
+        return Err(Stop::Illegal(label));
+    }
+    make_ascending(facts)?;
+    if let Some(clash) = conflict(alloc, facts)? {
+        return Err(Stop::Conflict(clash));
+    }
+    Ok(())
+}

@@ -1,0 +1,123 @@
+//! The rows of a table, one after another.
+ghost use Rattle.std.specs.Prelude.{◌≡◌, ◌<◌, ◌∷◌, [], length, slice_get, slice_index_or, Some, IfSome, IfNone};
+ghost use Rattle.std.specs.List.Sorted.{IsStrictlySortedBy};
+ghost use Rattle.flow_law.specs.FactOrder.{by_cell, by_key};
+ghost use Rattle.fact_tables.specs.Cells.{cells_for, rows_for};
+
+use crate::fact::{Fact, fact_at, facts_from, key_count};
+use crate::key::Key;
+use crate::label::Label;
+use crate::short::ShortFirst;
+use crate::tables::value;
+use ss_text::Text;
+use std::marker::Model;
+
+/// The rows that are left of a table, which contracts see as the list of their keys with the cells.
+#[derive(Drop)]
+pub struct Rows<'f, 'a> {
+    columns: &'f [Label<'a>],
+    facts: &'f [Fact<'a>],
+}
+
+impl<'f, 'a> Model for Rows<'f, 'a> {
+    ghost use Rattle.std.specs.Prelude.{List};
+    ghost use Rattle.std.specs.List.Sorted.{IsStrictlySortedBy};
+    ghost use Rattle.ss_text.specs.Texts.{Row};
+    ghost use Rattle.flow_law.specs.FactOrder.{by_key};
+    ghost use Rattle.fact_tables.specs.Cells.{rows_for};
+
+    ghost Value = { List (Row × Row) };
+
+    ghost view = { λ r. rows_for r.columns.now r.facts.now };
+
+    ghost invariant = { λ r. IsStrictlySortedBy by_key r.facts.now };
+}
+
+impl<'f, 'a> Rows<'f, 'a> {
+    /// The rows of facts of one table, which are in order, with a cell for each of these columns.
+    pub(crate) fn of(columns: &'f [Label<'a>], facts: &'f [Fact<'a>]) -> Rows<'f, 'a>
+        requires { IsStrictlySortedBy by_key facts.now }
+        ensures { result ≡ rows_for columns.now facts.now }
+    {
+        Rows { columns, facts }
+    }
+
+    /// Takes the next row.
+    pub fn take_next(&mut self) -> Option<FactRow<'f, 'a>>
+        ensures next { IfSome result (λ row. self.old ≡ row ∷ self.new) }
+        ensures none { IfNone result (self.old ≡ []) }
+    {
+        let first = fact_at(self.facts, 0)?;
+        let count = key_count(self.facts, first);
+        let row = FactRow::of(self.columns, first.key(), &self.facts[..count]);
+        self.facts = facts_from(self.facts, count);
+        Some(row)
+    }
+}
+
+/// A row, which contracts see as its key and its cells.
+#[derive(Drop)]
+pub struct FactRow<'f, 'a> {
+    columns: &'f [Label<'a>],
+    key: &'f Key<'a>,
+    facts: &'f [Fact<'a>],
+}
+
+impl<'f, 'a> Model for FactRow<'f, 'a> {
+    ghost use Rattle.std.specs.List.Sorted.{IsStrictlySortedBy};
+    ghost use Rattle.ss_text.specs.Texts.{Row};
+    ghost use Rattle.flow_law.specs.FactOrder.{by_cell};
+    ghost use Rattle.fact_tables.specs.Cells.{cells_for};
+
+    ghost Value = { Row × Row };
+
+    ghost view = { λ r. (r.key.now, cells_for r.columns.now r.facts.now) };
+
+    ghost invariant = { λ r. IsStrictlySortedBy by_cell r.facts.now };
+}
+
+impl<'f, 'a> FactRow<'f, 'a> {
+    // The row with this key, whose facts these are, with a cell for each of these columns.
+    fn of(columns: &'f [Label<'a>], key: &'f Key<'a>, facts: &'f [Fact<'a>]) -> FactRow<'f, 'a>
+        requires { IsStrictlySortedBy by_cell facts.now }
+        ensures { result ≡ (key.now, cells_for columns.now facts.now) }
+    {
+        FactRow {
+            columns,
+            key,
+            facts,
+        }
+    }
+
+    /// Its key.
+    pub fn key(&self) -> &'a [Label<'a>]
+        ensures { result.now ≡ self.now.0 }
+    {
+        self.key.labels()
+    }
+
+    /// The bytes of the first text of its key, where it is short. That text is then not read.
+    pub fn first(&self) -> Option<ShortFirst>
+        ensures { IfSome result (λ first. Some first ≡ slice_get self.now.0 0) }
+    {
+        self.key.first()
+    }
+
+    /// How many cells it has.
+    pub fn cell_count(&self) -> usize
+        ensures { result ≡ length self.now.1 }
+    {
+        self.columns.len()
+    }
+
+    /// The bytes of its cell at a place, from 0.
+    pub fn cell(&self, place: usize) -> &'a [u8]
+        requires { place < length self.now.1 }
+        ensures { result.now ≡ slice_index_or self.now.1 place [] }
+    {
+        match value(self.facts, &self.columns[place]) {
+            Some(value) => value.as_slice(),
+            None => &[],
+        }
+    }
+}
