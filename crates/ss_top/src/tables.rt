@@ -5,13 +5,14 @@ ghost use Rattle.ss_top.specs.Stages.{refusal_of, files_of_view};
 ghost use Rattle.ss_top.specs.Steps.{Shows, AreNamed};
 ghost use Rattle.ss_top.specs.Records.{HasRecords};
 
+use bumpalo::Bump;
 use schema_model::Catalogue;
 use ss_print::{clash_fields, illegal_fields};
-use ss_text::{NoMemory, Row};
+use ss_text::{NoMemory, Row, Text};
 use std::alloc::Global;
-use valuation_meaning::{EvalFault, evaluate, shape_of};
+use valuation_meaning::{EvalFault, ordered_facts, shape_of};
 use view_def::View;
-use view_folder::{File, table_files};
+use view_folder::{File, TableTexts};
 
 /// What a view gives over a catalogue: the files of its tables, or a refusal with these fields.
 #[derive(Drop)]
@@ -20,7 +21,8 @@ pub(crate) enum Showing {
     Refused(Row),
 }
 
-// The files of a view's tables, in the order of their labels.
+// The files of a view's tables, in the order of their labels. They are written from the facts of the view, which stand
+// in an arena for so long, and no table is made.
 #[tactic(auto, using(crate::proofs::StageLemmas::meaning_fits, crate::proofs::StageLemmas::not_refused, crate::proofs::StageLemmas::refused_label, crate::proofs::StageLemmas::refused_clash), unfolding(crate::specs::Stages::files_of_view))]
 pub(crate) fn show_tables(
     alloc: Global,
@@ -31,10 +33,12 @@ pub(crate) fn show_tables(
     ensures shows { IfOk result (λ r. Shows r (refusal_of catalogue.now.databases (query_of view.now)) (files_of_view catalogue.now.databases (query_of view.now))) }
     ensures named { IfOk result AreNamed }
 {
-    match evaluate(alloc, catalogue, view) {
-        Ok(tables) => {
-            let shape = shape_of(view)?;
-            let files = table_files(alloc, &tables, &shape)?;
+    let empty = Text::empty(alloc);
+    let arena = Bump::new(alloc);
+    let shape = shape_of(view)?;
+    match ordered_facts(alloc, &arena, catalogue, view, &shape, &empty) {
+        Ok(facts) => {
+            let files = facts.files(alloc, &shape)?;
             Ok(Showing::Files(files))
         }
         Err(EvalFault::Illegal(label)) => {

@@ -49,7 +49,6 @@ mod group;
 
 /// An opened view, which contracts see as the view over its catalogue, the labels of its tables at the last
 /// sync, whether some line was refused, and how many were refused in the open group.
-#[derive(Drop)]
 pub(crate) struct OpenView {
     session: Session,
     view_db: Text,
@@ -57,6 +56,21 @@ pub(crate) struct OpenView {
     some_refused: bool,
     broken: usize,
     ghost records: { HasRecords session.query },
+}
+
+impl Drop for OpenView {
+    fn drop(self) {
+        let OpenView {
+            session,
+            view_db,
+            synced,
+            some_refused: _,
+            broken: _,
+        } = self;
+        drop(session);
+        drop(view_db);
+        drop(synced);
+    }
 }
 
 impl Model for OpenView {

@@ -1,5 +1,6 @@
 pub mod FolderLemmas
 pub mod TableFileLemmas
+pub mod FieldLemmas
 pub mod KeptFileLemmas
 pub mod ComparisonLemmas
 pub mod LaterLemmas

@@ -5,3 +5,4 @@ pub mod Comparison
 pub mod Records
 pub mod Held
 pub mod Forms
+pub mod Fields

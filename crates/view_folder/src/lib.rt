@@ -7,6 +7,8 @@
 #![tactic(auto)]
 
 mod comparison;
+mod fact_file;
+mod fields;
 mod file;
 mod held;
 mod kept_file;

@@ -5,8 +5,10 @@ ghost use Rattle.view_folder.specs.Files.{AreViewFiles};
 ghost use Rattle.view_folder.specs.TableFiles.{table_text, table_files, FitShape};
 
 use crate::File;
+use crate::fact_file::{fact_files, facts_of, facts_text};
 use crate::kept_file::{kept_files, kept_text};
 use crate::table_file::{table_files, table_text};
+use fact_tables::OrderedFacts;
 use flow_law::{Shape, Tables};
 use kept_tables::KeptTables;
 use ss_text::{NoMemory, Text};
@@ -71,5 +73,30 @@ impl TableTexts for KeptTables {
     #[tactic(auto, using(crate::proofs::OpeningLemmas::labelled_files))]
     fn files(&self, alloc: Global, shape: &Shape) -> Result<Vec<File>, NoMemory> {
         kept_files(alloc, self.slots(), shape)
+    }
+}
+
+impl TableTexts for OrderedFacts<'_> {
+    ghost tables = { λ tables. tables };
+
+    #[tactic(auto, using(crate::proofs::LaterLemmas::fits_of))]
+    fn text_of(
+        &self,
+        alloc: Global,
+        shape: &Shape,
+        label: &Text,
+    ) -> Result<Option<Text>, NoMemory> {
+        let tables = self.by_table(alloc)?;
+        let Some(facts) = facts_of(&tables, label) else {
+            return Ok(None);
+        };
+        let text = facts_text(alloc, facts, shape)?;
+        Ok(Some(text))
+    }
+
+    #[tactic(auto, using(crate::proofs::OpeningLemmas::are_view_files))]
+    fn files(&self, alloc: Global, shape: &Shape) -> Result<Vec<File>, NoMemory> {
+        let tables = self.by_table(alloc)?;
+        fact_files(alloc, &tables, shape)
     }
 }
