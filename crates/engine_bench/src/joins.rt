@@ -15,11 +15,17 @@ use std::sync::ledger::{Blank, Ledger};
 /// each with three partners.
 pub(crate) fn come(alloc: Global, kept: u32, changes: u32) -> Result<usize, NoMemory> {
     let mut join = by_first_cells(alloc)?;
-    keep(alloc, &mut join, rows(alloc, kept)?)?;
+    let count = come_in(alloc, &mut join, kept, changes);
+    drop(join);
+    count
+}
+
+fn come_in(alloc: Global, join: &mut Join, kept: u32, changes: u32) -> Result<usize, NoMemory> {
+    keep(alloc, join, rows(alloc, kept)?)?;
     let mut count: usize = 0;
     for number in 0..changes {
         let key = number % (kept / 3).max(1);
-        let more = meet(alloc, &mut join, one(alloc, key, number)?)?;
+        let more = meet(alloc, join, one(alloc, key, number)?)?;
         count = count.saturating_add(more);
     }
     Ok(count)
@@ -27,15 +33,20 @@ pub(crate) fn come(alloc: Global, kept: u32, changes: u32) -> Result<usize, NoMe
 
 fn by_first_cells(alloc: Global) -> Result<Join, NoMemory> {
     let left = KeyPlaces::of(alloc, &[0])?;
-    let right = KeyPlaces::of(alloc, &[0])?;
-    let join = Join::new(alloc, left, right)?;
-    Ok(join)
+    match KeyPlaces::of(alloc, &[0]) {
+        Ok(right) => Join::new(alloc, left, right),
+        Err(fault) => {
+            drop(left);
+            Err(fault)
+        }
+    }
 }
 
 // Adds these rows to the first side.
 fn keep(alloc: Global, join: &mut Join, rows: Vec<Row>) -> Result<(), NoMemory> {
     let change = change(alloc, rows, Vec::new(alloc))?;
     let made = make(alloc, join, &change);
+    drop(change);
     made
 }
 
@@ -54,8 +65,13 @@ fn change(alloc: Global, left: Vec<Row>, right: Vec<Row>) -> Result<(Delta, Delt
     ensures { IfOk result (λ d. (d.0 ≡ all_signed true left.items) × (d.1 ≡ all_signed true right.items)) }
 {
     let left = Delta::of(alloc, left, true)?;
-    let right = Delta::of(alloc, right, true)?;
-    Ok((left, right))
+    match Delta::of(alloc, right, true) {
+        Ok(right) => Ok((left, right)),
+        Err(fault) => {
+            drop(left);
+            Err(fault)
+        }
+    }
 }
 
 // Makes a change by which all rows come.

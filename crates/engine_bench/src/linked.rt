@@ -10,16 +10,25 @@ use std::alloc::Global;
 /// How many rows are left of so many kept ones after so many changes, by which a row comes and goes in turn.
 pub(crate) fn left(alloc: Global, kept: u32, changes: u32) -> Result<usize, NoMemory> {
     let mut linked = by_first_cell(alloc)?;
-    come(alloc, &mut linked, rows(alloc, kept)?)?;
+    let moved = move_rows(alloc, &mut linked, kept, changes);
+    let count = linked.count();
+    drop(linked);
+    moved?;
+    Ok(count)
+}
+
+// Adds the kept rows, and makes the changes.
+fn move_rows(alloc: Global, linked: &mut Linked, kept: u32, changes: u32) -> Result<(), NoMemory> {
+    come(alloc, linked, rows(alloc, kept)?)?;
     for number in 0..changes {
         let key = number / 2 % kept.max(1);
         if number % 2 == 0 {
-            come(alloc, &mut linked, one(alloc, key, kept)?)?;
+            come(alloc, linked, one(alloc, key, kept)?)?;
         } else {
-            linked.take_first(&row(alloc, key, kept)?);
+            go(linked, row(alloc, key, kept)?);
         }
     }
-    Ok(linked.count())
+    Ok(())
 }
 
 fn by_first_cell(alloc: Global) -> Result<Linked, NoMemory> {
@@ -36,6 +45,12 @@ fn come(alloc: Global, linked: &mut Linked, rows: Vec<Row>) -> Result<(), NoMemo
     linked.reserve(alloc, rows)?;
     add_waiting(linked, count);
     Ok(())
+}
+
+// Takes the first row that equals this one away.
+fn go(linked: &mut Linked, row: Row) {
+    linked.take_first(&row);
+    drop(row);
 }
 
 // Adds so many of the rows that wait.

@@ -1,5 +1,5 @@
 //! Rows that come and go one after another among the kept rows of a relation.
-ghost use Rattle.std.specs.Prelude.{IsTrue, IfOk};
+ghost use Rattle.std.specs.Prelude.{◌≡◌, ◌∷◌, [], IsTrue, IfOk};
 ghost use Rattle.schema_model.specs.Changes.{is_well_formed};
 
 use crate::made::row;
@@ -24,13 +24,13 @@ fn move_rows(
     kept: u32,
     changes: u32,
 ) -> Result<(), NoMemory> {
-    make(catalogue, &database(alloc)?)?;
-    make(catalogue, &relation(alloc)?)?;
+    make(catalogue, database(alloc)?)?;
+    make(catalogue, relation(alloc)?)?;
     for number in 0..kept {
-        make(catalogue, &come(alloc, number)?)?;
+        make(catalogue, come(alloc, number)?)?;
     }
     for number in 0..changes {
-        make(catalogue, &change_at(alloc, number, kept)?)?;
+        make(catalogue, change_at(alloc, number, kept)?)?;
     }
     Ok(())
 }
@@ -48,7 +48,15 @@ fn change_at(alloc: Global, number: u32, kept: u32) -> Result<Change, NoMemory>
 }
 
 // Makes a change, if it is not refused.
-fn make(catalogue: &mut Catalogue, change: &Change) -> Result<(), NoMemory>
+fn make(catalogue: &mut Catalogue, change: Change) -> Result<(), NoMemory>
+    requires { IsTrue (is_well_formed change) }
+{
+    let made = make_one(catalogue, &change);
+    drop(change);
+    made
+}
+
+fn make_one(catalogue: &mut Catalogue, change: &Change) -> Result<(), NoMemory>
     requires { IsTrue (is_well_formed change.now) }
 {
     if catalogue.judge(change).is_none() {
@@ -69,32 +77,64 @@ fn database(alloc: Global) -> Result<Change, NoMemory>
 fn relation(alloc: Global) -> Result<Change, NoMemory>
     ensures { IfOk result (λ change. IsTrue (is_well_formed change)) }
 {
+    let attributes = two_names(alloc)?;
+    match names(alloc) {
+        Ok((db, rel)) => Ok(Change::CreateRelation {
+            db,
+            rel,
+            attributes,
+        }),
+        Err(fault) => {
+            drop(attributes);
+            Err(fault)
+        }
+    }
+}
+
+// The names of two attributes.
+fn two_names(alloc: Global) -> Result<Row, NoMemory>
+    ensures { IfOk result (λ row. row ≡ (97 ∷ []) ∷ (98 ∷ []) ∷ []) }
+{
+    let mut names = Vec::with_capacity(alloc, 2)?;
+    names.push(Text::of(alloc, b"a")?)?;
+    names.push(Text::of(alloc, b"b")?)?;
+    Ok(Row::of(names))
+}
+
+// The names of the relation and of its database.
+fn names(alloc: Global) -> Result<(Text, Text), NoMemory> {
     let db = Text::of(alloc, b"d")?;
-    let rel = Text::of(alloc, b"r")?;
-    let a = Text::of(alloc, b"a")?;
-    let b = Text::of(alloc, b"b")?;
-    let attributes = Row::of(vec![in alloc; a, b]?);
-    Ok(Change::CreateRelation {
-        db,
-        rel,
-        attributes,
-    })
+    match Text::of(alloc, b"r") {
+        Ok(rel) => Ok((db, rel)),
+        Err(fault) => {
+            drop(db);
+            Err(fault)
+        }
+    }
 }
 
 fn come(alloc: Global, key: u32) -> Result<Change, NoMemory>
     ensures { IfOk result (λ change. IsTrue (is_well_formed change)) }
 {
-    let db = Text::of(alloc, b"d")?;
-    let rel = Text::of(alloc, b"r")?;
     let row = row(alloc, key, key / 7)?;
-    Ok(Change::Insert { db, rel, row })
+    match names(alloc) {
+        Ok((db, rel)) => Ok(Change::Insert { db, rel, row }),
+        Err(fault) => {
+            drop(row);
+            Err(fault)
+        }
+    }
 }
 
 fn go(alloc: Global, key: u32) -> Result<Change, NoMemory>
     ensures { IfOk result (λ change. IsTrue (is_well_formed change)) }
 {
-    let db = Text::of(alloc, b"d")?;
-    let rel = Text::of(alloc, b"r")?;
     let row = row(alloc, key, key / 7)?;
-    Ok(Change::Delete { db, rel, row })
+    match names(alloc) {
+        Ok((db, rel)) => Ok(Change::Delete { db, rel, row }),
+        Err(fault) => {
+            drop(row);
+            Err(fault)
+        }
+    }
 }

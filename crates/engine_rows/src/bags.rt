@@ -53,12 +53,23 @@ fn count(alloc: Global, bag: &Bag, cell: &[u8]) -> Result<u128, NoMemory> {
     Ok(bag.count(&row))
 }
 
+// How often both rows are there.
+fn both(alloc: Global, bag: &Bag, twice: &[u8], once: &[u8]) -> Result<(u128, u128), NoMemory> {
+    let twice = count(alloc, bag, twice)?;
+    let once = count(alloc, bag, once)?;
+    Ok((twice, once))
+}
+
 // How often both rows are there once the three have come, and once they have gone.
 fn counted(alloc: Global, twice: &[u8], once: &[u8]) -> Result<[u128; 4], NoMemory> {
+    let rows = three_rows(alloc, twice, once)?;
     let bag = filled(alloc, three_rows(alloc, twice, once)?)?;
-    let come = (count(alloc, &bag, twice)?, count(alloc, &bag, once)?);
-    let bag = emptied(alloc, bag, three_rows(alloc, twice, once)?)?;
-    let gone = (count(alloc, &bag, twice)?, count(alloc, &bag, once)?);
+    let come = both(alloc, &bag, twice, once);
+    let bag = emptied(alloc, bag, rows)?;
+    let gone = both(alloc, &bag, twice, once);
+    drop(bag);
+    let come = come?;
+    let gone = gone?;
     Ok([come.0, come.1, gone.0, gone.1])
 }
 

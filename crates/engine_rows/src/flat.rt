@@ -8,6 +8,7 @@ use schema_model::{Catalogue, Change, ChangeFault};
 use ss_text::{NoMemory, Row, Steps, Text};
 use std::alloc::Global;
 use std::marker::Brand;
+use std::slice;
 use std::sync::ledger::{Blank, Ledger};
 use view_def::{Place, Range};
 
@@ -158,29 +159,41 @@ fn range(alloc: Global, over: Over) -> Result<Range, NoMemory> {
     match over {
         Over::Rows(db, rel) | Over::Folds(db, rel) => {
             let db = place(alloc, db)?;
-            Ok(Range::Tuples(db, place(alloc, rel)?))
+            match place(alloc, rel) {
+                Ok(rel) => Ok(Range::Tuples(db, rel)),
+                Err(fault) => {
+                    drop(db);
+                    Err(fault)
+                }
+            }
         }
         Over::Relations(db) => Ok(Range::Relations(place(alloc, db)?)),
         Over::Databases => Ok(Range::Databases),
     }
 }
 
-fn specs(alloc: Global, moved: &Moved) -> Result<Vec<FlatSpec>, NoMemory> {
-    let mut specs = Vec::new(alloc);
+fn spec(alloc: Global, moved: &Moved) -> Result<FlatSpec, NoMemory> {
     let wanted = fields(alloc, moved.wanted)?;
-    specs.push(FlatSpec {
-        range: range(alloc, moved.over)?,
-        wanted,
-        folded: matches!(moved.over, Over::Folds(..)),
-    })?;
-    Ok(specs)
+    match range(alloc, moved.over) {
+        Ok(range) => Ok(FlatSpec {
+            range,
+            wanted,
+            folded: matches!(moved.over, Over::Folds(..)),
+        }),
+        Err(fault) => {
+            drop(wanted);
+            Err(fault)
+        }
+    }
 }
 
 fn change(alloc: Global, line: &str) -> Result<Change, ChangeFault>
     ensures { IfOk result (λ change. IsTrue (is_well_formed change)) }
 {
     let line = fields(alloc, line)?;
-    Change::read(alloc, &line)
+    let change = Change::read(alloc, &line);
+    drop(line);
+    change
 }
 
 // Makes a change that is not refused.
@@ -194,15 +207,25 @@ fn make(catalogue: &mut Catalogue, change: &Change) -> Result<(), NoMemory>
     Ok(())
 }
 
-fn before(alloc: Global) -> Result<Catalogue, ChangeFault> {
-    let mut catalogue = Catalogue::empty(alloc);
+fn make_all(alloc: Global, catalogue: &mut Catalogue) -> Result<(), ChangeFault> {
     for line in BEFORE {
         let change = change(alloc, line)?;
-        let made = make(&mut catalogue, &change);
+        let made = make(catalogue, &change);
         drop(change);
         made?;
     }
-    Ok(catalogue)
+    Ok(())
+}
+
+fn before(alloc: Global) -> Result<Catalogue, ChangeFault> {
+    let mut catalogue = Catalogue::empty(alloc);
+    match make_all(alloc, &mut catalogue) {
+        Ok(()) => Ok(catalogue),
+        Err(fault) => {
+            drop(catalogue);
+            Err(fault)
+        }
+    }
 }
 
 // The moves of a change that is not refused.
@@ -269,9 +292,25 @@ fn shown(
     specs: &[FlatSpec],
 ) -> Result<Option<Vec<u8>>, NoMemory> {
     match moves_of(alloc, catalogue, change, specs)? {
-        Some(deltas) => Ok(Some(lines(alloc, &deltas)?)),
+        Some(deltas) => {
+            let shown = lines(alloc, &deltas);
+            drop(deltas);
+            Ok(Some(shown?))
+        }
         None => Ok(None),
     }
+}
+
+fn shown_of(
+    alloc: Global,
+    catalogue: &Catalogue,
+    line: &str,
+    specs: &[FlatSpec],
+) -> Result<Option<Vec<u8>>, ChangeFault> {
+    let change = change(alloc, line)?;
+    let shown = shown(alloc, catalogue, &change, specs);
+    drop(change);
+    Ok(shown?)
 }
 
 // The lines of what a change of the catalogue moves.
@@ -280,11 +319,10 @@ fn moved_lines(
     catalogue: &Catalogue,
     moved: &Moved,
 ) -> Result<Option<Vec<u8>>, ChangeFault> {
-    let specs = specs(alloc, moved)?;
-    let change = change(alloc, moved.change)?;
-    let shown = shown(alloc, catalogue, &change, &specs);
-    drop(change);
-    Ok(shown?)
+    let spec = spec(alloc, moved)?;
+    let shown = shown_of(alloc, catalogue, moved.change, slice::from_ref(&spec));
+    drop(spec);
+    shown
 }
 
 // Whether a change moves just these rows.

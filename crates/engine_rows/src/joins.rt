@@ -128,8 +128,13 @@ fn delta(alloc: Global, text: &str) -> Result<Delta, NoMemory> {
 
 fn deltas(alloc: Global, joined: &Joined) -> Result<(Delta, Delta), NoMemory> {
     let left = delta(alloc, joined.left_moves)?;
-    let right = delta(alloc, joined.right_moves)?;
-    Ok((left, right))
+    match delta(alloc, joined.right_moves) {
+        Ok(right) => Ok((left, right)),
+        Err(fault) => {
+            drop(left);
+            Err(fault)
+        }
+    }
 }
 
 // All rows of both sides come.
@@ -137,8 +142,13 @@ fn come(alloc: Global, left: Vec<Row>, right: Vec<Row>) -> Result<(Delta, Delta)
     ensures { IfOk result (λ d. (d.0 ≡ all_signed true left.items) × (d.1 ≡ all_signed true right.items)) }
 {
     let left = Delta::of(alloc, left, true)?;
-    let right = Delta::of(alloc, right, true)?;
-    Ok((left, right))
+    match Delta::of(alloc, right, true) {
+        Ok(right) => Ok((left, right)),
+        Err(fault) => {
+            drop(left);
+            Err(fault)
+        }
+    }
 }
 
 fn empty(alloc: Global) -> Result<Join, NoMemory>
@@ -146,9 +156,13 @@ fn empty(alloc: Global) -> Result<Join, NoMemory>
     ensures right { IfOk result (λ join. join.right ≡ []) }
 {
     let left_key = KeyPlaces::of(alloc, &[1])?;
-    let right_key = KeyPlaces::of(alloc, &[0])?;
-    let join = Join::new(alloc, left_key, right_key)?;
-    Ok(join)
+    match KeyPlaces::of(alloc, &[0]) {
+        Ok(right_key) => Join::new(alloc, left_key, right_key),
+        Err(fault) => {
+            drop(left_key);
+            Err(fault)
+        }
+    }
 }
 
 fn fill(alloc: Global, join: &mut Join, change: &(Delta, Delta)) -> Result<(), NoMemory>
@@ -161,16 +175,28 @@ fn fill(alloc: Global, join: &mut Join, change: &(Delta, Delta)) -> Result<(), N
     Ok(())
 }
 
+// A join that keeps the rows that come.
+fn filled(alloc: Global, change: &(Delta, Delta)) -> Result<Join, NoMemory>
+    requires { (xs : List RowValue) × (ys : List RowValue) × (change.now.0 ≡ all_signed true xs) × (change.now.1 ≡ all_signed true ys) }
+{
+    let mut join = empty(alloc)?;
+    match fill(alloc, &mut join, change) {
+        Ok(()) => Ok(join),
+        Err(fault) => {
+            drop(join);
+            Err(fault)
+        }
+    }
+}
+
 // A join that keeps these rows.
 fn kept(alloc: Global, left: &str, right: &str) -> Result<Join, NoMemory> {
     let left = rows(alloc, left)?;
     let right = rows(alloc, right)?;
     let change = come(alloc, left, right)?;
-    let mut join = empty(alloc)?;
-    let filled = fill(alloc, &mut join, &change);
+    let join = filled(alloc, &change);
     drop(change);
-    filled?;
-    Ok(join)
+    join
 }
 
 fn moves<L: Ledger>(
@@ -190,16 +216,24 @@ fn moves<L: Ledger>(
 // What the change moves in the join, each a line, sorted.
 fn shown(alloc: Global, join: &Join, change: &(Delta, Delta)) -> Result<Vec<u8>, Stop> {
     let delta = moves::<Brand>(alloc, join, change, Blank::new(1))?;
-    let shown = lines(alloc, slice::from_ref(&delta))?;
-    Ok(shown)
+    let shown = lines(alloc, slice::from_ref(&delta));
+    drop(delta);
+    Ok(shown?)
 }
 
 // Whether the moves move just these rows of the join.
 fn is_joined(alloc: Global, joined: &Joined) -> Result<bool, Stop> {
     let join = kept(alloc, joined.left, joined.right)?;
+    let same = is_joined_in(alloc, &join, joined);
+    drop(join);
+    same
+}
+
+fn is_joined_in(alloc: Global, join: &Join, joined: &Joined) -> Result<bool, Stop> {
     let change = deltas(alloc, joined)?;
-    let shown = shown(alloc, &join, &change)?;
-    Ok(shown.as_slice() == joined.moves.as_bytes())
+    let shown = shown(alloc, join, &change);
+    drop(change);
+    Ok(shown?.as_slice() == joined.moves.as_bytes())
 }
 
 #[test]

@@ -16,11 +16,23 @@ use std::slice;
 use std::sync::ledger::{Blank, Ledger};
 
 /// A sheet of three attributes, `k`, `a` and `b`, and two rows.
-#[derive(Drop)]
 struct Page {
     attributes: Row,
     first: Row,
     second: Row,
+}
+
+impl Drop for Page {
+    fn drop(self) {
+        let Page {
+            attributes,
+            first,
+            second,
+        } = self;
+        drop(attributes);
+        drop(first);
+        drop(second);
+    }
 }
 
 impl Model for Page {
@@ -290,8 +302,13 @@ fn down(alloc: Global, row: &str) -> Result<SheetChange, NoMemory> {
 
 fn add(alloc: Global, name: &str, fill: &str) -> Result<SheetChange, NoMemory> {
     let name = Text::of(alloc, name.as_bytes())?;
-    let fill = Text::of(alloc, fill.as_bytes())?;
-    Ok(SheetChange::Add { name, fill })
+    match Text::of(alloc, fill.as_bytes()) {
+        Ok(fill) => Ok(SheetChange::Add { name, fill }),
+        Err(fault) => {
+            drop(name);
+            Err(fault)
+        }
+    }
 }
 
 fn rename(alloc: Global, place: usize, to: &str) -> Result<SheetChange, NoMemory> {
@@ -347,8 +364,18 @@ fn moves<S: Sheet, L: Ledger>(
 {
     let wanted = fields(alloc, wanted)?;
     match by {
-        By::Pick => Pick::<S>::new(wanted).prepare(alloc, sheet, change, steps),
-        By::Fold => Fold::<S>::new(wanted).prepare(alloc, sheet, change, steps),
+        By::Pick => {
+            let pick = Pick::<S>::new(wanted);
+            let delta = pick.prepare(alloc, sheet, change, steps);
+            drop(pick);
+            delta
+        }
+        By::Fold => {
+            let fold = Fold::<S>::new(wanted);
+            let delta = fold.prepare(alloc, sheet, change, steps);
+            drop(fold);
+            delta
+        }
     }
 }
 
@@ -395,15 +422,24 @@ fn shown(
         return Ok(None);
     }
     let delta = page_moves::<Brand>(alloc, page, change, shifted, Blank::new(1))?;
-    let shown = lines(alloc, slice::from_ref(&delta))?;
-    Ok(Some(shown))
+    let shown = lines(alloc, slice::from_ref(&delta));
+    drop(delta);
+    Ok(Some(shown?))
 }
 
 // Whether a change moves just these rows.
 fn is_shifted(alloc: Global, shifted: &Shifted) -> Result<bool, Stop> {
     let page = full_page(alloc)?;
+    let same = is_shifted_in(alloc, &page, shifted);
+    drop(page);
+    same
+}
+
+fn is_shifted_in(alloc: Global, page: &Page, shifted: &Shifted) -> Result<bool, Stop> {
     let change = change(alloc, shifted.shift)?;
-    match shown(alloc, &page, &change, shifted)? {
+    let shown = shown(alloc, page, &change, shifted);
+    drop(change);
+    match shown? {
         Some(shown) => Ok(shown.as_slice() == shifted.moves.as_bytes()),
         None => Ok(false),
     }
@@ -426,10 +462,12 @@ fn birth(alloc: Global) -> Result<SheetChange, NoMemory>
 
 // How many rows an absent sheet moves once it is there.
 fn born(alloc: Global, by: By) -> Result<usize, Stop> {
-    let absent = no_sheet(alloc);
     let birth = birth(alloc)?;
-    let delta = born_moves::<Brand>(alloc, &absent, &birth, by, Blank::new(1))?;
-    Ok(delta.moves.len())
+    let absent = no_sheet(alloc);
+    let delta = born_moves::<Brand>(alloc, &absent, &birth, by, Blank::new(1));
+    drop(absent);
+    drop(birth);
+    Ok(delta?.moves.len())
 }
 
 // The moves of the first change that makes others.

@@ -60,16 +60,23 @@ fn wanted(alloc: Global) -> Result<Vec<u8>, NoMemory> {
     Ok(out)
 }
 
-fn kept(alloc: Global) -> Result<Vec<u8>, NoMemory> {
-    let mut rows = RowShelves::new(alloc);
+fn put_and_take(alloc: Global, rows: &mut RowShelves) -> Result<(), NoMemory> {
     for step in 0..300 {
-        put(alloc, &mut rows, step * 7 % 300)?;
+        put(alloc, rows, step * 7 % 300)?;
     }
     for step in 0..100 {
-        take(alloc, &mut rows, step * 3)?;
+        take(alloc, rows, step * 3)?;
     }
-    let out = written(alloc, &rows)?;
-    Ok(out)
+    Ok(())
+}
+
+fn kept(alloc: Global) -> Result<Vec<u8>, NoMemory> {
+    let mut rows = RowShelves::new(alloc);
+    let done = put_and_take(alloc, &mut rows);
+    let out = written(alloc, &rows);
+    drop(rows);
+    done?;
+    out
 }
 
 #[test]

@@ -1,4 +1,6 @@
 //! The objects in memory, and their calls that fail.
+
+use crate::names::{Names, texts};
 use outside::{
     Failed, Folders, MemFolders, MemSink, MemSource, Sink, Source, StoreFault, SureFolders,
     SureSink, SureSource,
@@ -6,29 +8,31 @@ use outside::{
 use ss_text::{NoMemory, Text};
 use std::alloc::Global;
 
-// The parts between commas.
-fn texts(alloc: Global, parts: &[u8]) -> Result<Vec<Text>, NoMemory> {
-    let mut texts = Vec::new(alloc);
-    for part in parts.split(|b| *b == b',') {
-        texts.push(Text::of(alloc, part)?)?;
-    }
-    Ok(texts)
+// What two calls give, and the first byte given last.
+fn read_twice<S: Source>(source: &mut S) -> ([Result<usize, Failed>; 2], u8) {
+    let mut into = [0u8; 2];
+    let first = source.read(&mut into);
+    let second = source.read(&mut into);
+    ([first, second], into[0])
 }
 
 #[test]
 fn sources_give_their_pieces(rt: HostRuntime) -> Result<(), NoMemory> {
     let alloc = rt.alloc();
-    let mut into = [0u8; 2];
     let mut sure = SureSource::of(texts(alloc, b",x,")?);
-    assert_eq!(rt; sure.read(&mut into), Ok(1));
-    assert_eq!(rt; into[0], b'x');
-    assert_eq!(rt; sure.read(&mut into), Ok(0));
+    let told = read_twice(&mut sure);
+    drop(sure);
+    assert_eq!(rt; told, ([Ok(1), Ok(0)], b'x'));
     let mut source = MemSource::of(texts(alloc, b"abc,,d")?, vec![in alloc; 2]?);
-    let answers = [Ok(2), Err(Failed), Ok(1), Ok(1), Ok(0), Ok(0)];
-    for (call, want) in answers.iter().enumerate() {
-        assert_eq!(rt; source.read(&mut into), *want, "at {call}");
-    }
-    assert_eq!(rt; into[0], b'd');
+    let told = [
+        read_twice(&mut source),
+        read_twice(&mut source),
+        read_twice(&mut source),
+    ];
+    drop(source);
+    assert_eq!(rt; told[0].0, [Ok(2), Err(Failed)]);
+    assert_eq!(rt; told[1], ([Ok(1), Ok(1)], b'd'));
+    assert_eq!(rt; told[2].0, [Ok(0), Ok(0)]);
     Ok(())
 }
 
@@ -36,50 +40,94 @@ fn sources_give_their_pieces(rt: HostRuntime) -> Result<(), NoMemory> {
 fn sinks_keep_what_they_take(rt: HostRuntime) -> Result<(), NoMemory> {
     let alloc = rt.alloc();
     let mut sure = SureSink::of(alloc, 2);
-    assert_eq!(rt; sure.write(alloc, b"abc"), Ok(2));
-    assert_eq!(rt; sure.bytes(), b"ab".as_slice());
+    let told = sure.write(alloc, b"abc");
+    let is_kept = sure.bytes() == b"ab".as_slice();
+    drop(sure);
+    assert_eq!(rt; (told, is_kept), (Ok(2), true));
     let mut sink = MemSink::of(alloc, 2, vec![in alloc; 2]?);
-    for want in [Ok(2), Err(StoreFault::Failed), Ok(2)] {
-        assert_eq!(rt; sink.write(alloc, b"abc"), want);
-    }
-    assert_eq!(rt; sink.bytes(), b"abab".as_slice());
+    let told = [
+        sink.write(alloc, b"abc"),
+        sink.write(alloc, b"abc"),
+        sink.write(alloc, b"abc"),
+    ];
+    let is_kept = sink.bytes() == b"abab".as_slice();
+    drop(sink);
+    assert_eq!(rt; told, [Ok(2), Err(StoreFault::Failed), Ok(2)]);
+    assert!(rt; is_kept);
     Ok(())
 }
 
-// The subfolders of a folder, and then its files.
-fn names<F: Folders>(
+// Whether the names are this one alone, or none.
+fn are(names: &[Text], name: Option<&[u8]>) -> bool {
+    match (names, name) {
+        ([], None) => true,
+        ([found], Some(name)) => found.as_slice() == name,
+        _ => false,
+    }
+}
+
+fn has_subfolder<F: Folders>(
+    alloc: Global,
+    store: &mut F,
+    folder: &Text,
+    name: Option<&[u8]>,
+) -> Result<bool, StoreFault> {
+    let names = store.subfolders(alloc, folder)?;
+    let same = are(&names, name);
+    drop(names);
+    Ok(same)
+}
+
+fn has_file<F: Folders>(
+    alloc: Global,
+    store: &mut F,
+    folder: &Text,
+    name: Option<&[u8]>,
+) -> Result<bool, StoreFault> {
+    let names = store.files(alloc, folder)?;
+    let same = are(&names, name);
+    drop(names);
+    Ok(same)
+}
+
+// Whether a folder has this subfolder alone, or none, and so with its files.
+fn has<F: Folders>(
     alloc: Global,
     store: &mut F,
     folder: &[u8],
-) -> Result<(Vec<Text>, Vec<Text>), StoreFault> {
+    subfolder: Option<&[u8]>,
+    file: Option<&[u8]>,
+) -> Result<bool, StoreFault> {
     let folder = Text::of(alloc, folder)?;
-    Ok((
-        store.subfolders(alloc, &folder)?,
-        store.files(alloc, &folder)?,
-    ))
+    let subfolders = has_subfolder(alloc, store, &folder, subfolder);
+    let files = has_file(alloc, store, &folder, file);
+    drop(folder);
+    Ok(subfolders? && files?)
 }
 
 // Writes a file, and answers how many bytes it was given.
 fn written<F: Folders>(alloc: Global, store: &mut F, bytes: &[u8]) -> Result<usize, StoreFault> {
-    store.write(
-        alloc,
-        &Text::of(alloc, b"a//b")?,
-        &Text::of(alloc, b"f")?,
-        bytes,
-    )?;
+    let names = Names::of(alloc, b"a//b", b"f")?;
+    let done = store.write(alloc, &names.outer, &names.inner, bytes);
+    drop(names);
+    done?;
     Ok(bytes.len())
 }
 
 // How many bytes the file holds, or 100 where it is missing.
 fn held<F: Folders>(alloc: Global, store: &mut F) -> Result<usize, StoreFault> {
-    let bytes = store.read(alloc, &Text::of(alloc, b"a//b")?, &Text::of(alloc, b"f")?)?;
-    Ok(bytes.map_or(100, |bytes| bytes.as_slice().len()))
+    let names = Names::of(alloc, b"a//b", b"f")?;
+    let bytes = store.read(alloc, &names.outer, &names.inner);
+    drop(names);
+    Ok(bytes?.map_or(100, |bytes| bytes.as_slice().len()))
 }
 
 // Removes the file, and answers how many there were.
 fn removed<F: Folders>(alloc: Global, store: &mut F) -> Result<usize, StoreFault> {
-    let was = store.remove(alloc, &Text::of(alloc, b"a//b")?, &Text::of(alloc, b"f")?)?;
-    Ok(was as usize)
+    let names = Names::of(alloc, b"a//b", b"f")?;
+    let was = store.remove(alloc, &names.outer, &names.inner);
+    drop(names);
+    Ok(was? as usize)
 }
 
 fn changed<F: Folders>(alloc: Global, store: &mut F) -> [Result<usize, StoreFault>; 4] {
@@ -98,28 +146,30 @@ fn taken<F: Folders>(alloc: Global, store: &mut F) -> [Result<usize, StoreFault>
     [kept, whole, gone, missing]
 }
 
+// Puts the file.
+fn put(alloc: Global, store: &mut SureFolders) -> Result<(), StoreFault> {
+    let names = Names::of(alloc, b"a//b", b"f")?;
+    let done = store.put(alloc, &names.outer, &names.inner, b"12345");
+    drop(names);
+    Ok(done?)
+}
+
+// Whether a folder has no names at first, and has those of the file's folder once this is put; and whether that has the file.
+fn named(alloc: Global, store: &mut SureFolders) -> Result<[bool; 3], StoreFault> {
+    let none = has(alloc, store, b"a/", None, None)?;
+    put(alloc, store)?;
+    let above = has(alloc, store, b"a/", Some(b"b".as_slice()), None)?;
+    let inside = has(alloc, store, b"a//b", None, Some(b"f".as_slice()))?;
+    Ok([none, above, inside])
+}
+
 #[test]
 fn folders_are_made_with_those_above(rt: HostRuntime) -> Result<(), StoreFault> {
     let alloc = rt.alloc();
     let mut store = SureFolders::of(alloc);
-    assert_eq!(rt;
-        names(alloc, &mut store, b"a/")?,
-        (Vec::new(alloc), Vec::new(alloc))
-    );
-    store.put(
-        alloc,
-        &Text::of(alloc, b"a//b")?,
-        &Text::of(alloc, b"f")?,
-        b"12345",
-    )?;
-    assert_eq!(rt;
-        names(alloc, &mut store, b"a/")?,
-        (texts(alloc, b"b")?, Vec::new(alloc))
-    );
-    assert_eq!(rt;
-        names(alloc, &mut store, b"a//b")?,
-        (Vec::new(alloc), texts(alloc, b"f")?)
-    );
+    let told = named(alloc, &mut store);
+    drop(store);
+    assert_eq!(rt; told?, [true; 3]);
     Ok(())
 }
 
@@ -128,8 +178,11 @@ fn calls_on_folders_fail(rt: HostRuntime) -> Result<(), StoreFault> {
     let alloc = rt.alloc();
     let fails = Err(StoreFault::Failed);
     let mut store = MemFolders::of(alloc, vec![in alloc; 2]?, vec![in alloc; 1, 3]?);
-    assert_eq!(rt; changed(alloc, &mut store), [fails, Ok(2), Ok(3), fails]);
-    assert_eq!(rt; taken(alloc, &mut store), [fails, Ok(3), Ok(1), Ok(100)]);
+    let change = changed(alloc, &mut store);
+    let taking = taken(alloc, &mut store);
+    drop(store);
+    assert_eq!(rt; change, [fails, Ok(2), Ok(3), fails]);
+    assert_eq!(rt; taking, [fails, Ok(3), Ok(1), Ok(100)]);
     Ok(())
 }
 
@@ -138,14 +191,14 @@ fn made_and_removed<F: Folders>(
     alloc: Global,
     store: &mut F,
 ) -> Result<[Result<bool, StoreFault>; 6], NoMemory> {
-    let above = Text::of(alloc, b"a")?;
-    let folder = Text::of(alloc, b"a/b")?;
-    let made = store.make_folder(alloc, &folder);
-    let again = store.make_folder(alloc, &above);
-    let full = store.remove_folder(alloc, &above);
-    let gone = store.remove_folder(alloc, &folder);
-    let empty = store.remove_folder(alloc, &above);
-    let missing = store.remove_folder(alloc, &above);
+    let names = Names::of(alloc, b"a", b"a/b")?;
+    let made = store.make_folder(alloc, &names.inner);
+    let again = store.make_folder(alloc, &names.outer);
+    let full = store.remove_folder(alloc, &names.outer);
+    let gone = store.remove_folder(alloc, &names.inner);
+    let empty = store.remove_folder(alloc, &names.outer);
+    let missing = store.remove_folder(alloc, &names.outer);
+    drop(names);
     Ok([made, again, full, gone, empty, missing])
 }
 
@@ -161,23 +214,24 @@ fn folders_come_and_go(rt: HostRuntime) -> Result<(), NoMemory> {
         Ok(true),
         Ok(false),
     ];
-    assert_eq!(rt; made_and_removed(alloc, &mut store)?, all);
+    let told = made_and_removed(alloc, &mut store);
+    drop(store);
+    assert_eq!(rt; told?, all);
     let mut store = MemFolders::of(alloc, Vec::new(alloc), vec![in alloc; 4]?);
     let fails = Err(StoreFault::Failed);
     let one_fails = [Ok(true), Ok(false), Ok(false), fails, Ok(false), Ok(false)];
-    assert_eq!(rt; made_and_removed(alloc, &mut store)?, one_fails);
+    let told = made_and_removed(alloc, &mut store);
+    drop(store);
+    assert_eq!(rt; told?, one_fails);
     Ok(())
 }
 
 // How many of the first bytes of the file there are, at most so many, or 100 where it is missing.
 fn begun<F: Folders>(alloc: Global, store: &mut F, most: usize) -> Result<usize, StoreFault> {
-    let front = store.front(
-        alloc,
-        &Text::of(alloc, b"a//b")?,
-        &Text::of(alloc, b"f")?,
-        most,
-    )?;
-    Ok(front.map_or(100, |front| front.as_slice().len()))
+    let names = Names::of(alloc, b"a//b", b"f")?;
+    let front = store.front(alloc, &names.outer, &names.inner, most);
+    drop(names);
+    Ok(front?.map_or(100, |front| front.as_slice().len()))
 }
 
 fn fronts<F: Folders>(alloc: Global, store: &mut F) -> [Result<usize, StoreFault>; 5] {
@@ -193,11 +247,14 @@ fn fronts<F: Folders>(alloc: Global, store: &mut F) -> [Result<usize, StoreFault
 fn fronts_count_as_reads(rt: HostRuntime) -> Result<(), NoMemory> {
     let alloc = rt.alloc();
     let mut store = SureFolders::of(alloc);
-    let told = [Ok(100), Ok(3), Ok(0), Ok(2), Ok(3)];
-    assert_eq!(rt; fronts(alloc, &mut store), told);
+    let told = fronts(alloc, &mut store);
+    drop(store);
+    assert_eq!(rt; told, [Ok(100), Ok(3), Ok(0), Ok(2), Ok(3)]);
     let mut store = MemFolders::of(alloc, vec![in alloc; 3]?, Vec::new(alloc));
     let fails = Err(StoreFault::Failed);
     let one_fails = [Ok(100), Ok(3), Ok(0), fails, Ok(3)];
-    assert_eq!(rt; fronts(alloc, &mut store), one_fails);
+    let told = fronts(alloc, &mut store);
+    drop(store);
+    assert_eq!(rt; told, one_fails);
     Ok(())
 }

@@ -6,6 +6,6 @@ use Rattle.sheets.specs.Sheets.{FitsSheet}
 use Rattle.engine_rows.proofs.PageLemmas.{can_be_born}
 use Rattle.engine_rows.proofs.pages.born.Goals as goal
 
-pub born_moves-requires-clause-fits : goal.born_moves-requires-clause-fits
-born_moves-requires-clause-fits c =
+pub born_moves-delta-requires-clause-fits : goal.born_moves-delta-requires-clause-fits
+born_moves-delta-requires-clause-fits c =
     subst (λ (p : SheetChange × (Row × Placed)). FitsSheet p.0 (p.1.0, placed_rows p.1.1)) (λ i. (sym c.in_ok-birth.ensures i, sym c.no_sheet-absent.ensures i)) can_be_born
