@@ -22,28 +22,36 @@ def program():
     return str(pathlib.Path(sys.argv[1] if len(sys.argv) > 1 else PROGRAM).resolve())
 
 
-def time_of_change(word, kept, changes, count):
-    """The seconds of one change, which are those of a run with changes less those of a run without, by their number."""
+def least(word, kept, changes, count):
+    """The run of the least time of five, each of which comes to this count."""
     with folder() as root:
-        filled = run([program(), word, str(kept), "0"], root)
-        changed = wanted(run([program(), word, str(kept), str(changes)], root), 0, str(count))
-    each = (changed.seconds - filled.seconds) / changes
-    report(f"{word}, {kept} rows, {changes} changes", changed, f"; one change {each * 1e6:.1f} us")
+        runs = [wanted(run([program(), word, str(kept), str(changes)], root), 0, str(count)) for _ in range(5)]
+    return min(runs, key=lambda ended: ended.seconds)
+
+
+def time_of_change(word, kept, changes, count):
+    """The seconds of one change behind the first two, which are those of a run with all changes less those of a run with
+    two, by the number of the others: a relation is linked once, at the first."""
+    begun = least(word, kept, 2, count(kept, 2))
+    changed = least(word, kept, changes, count(kept, changes))
+    each = (changed.seconds - begun.seconds) / (changes - 2)
+    report(f"{word}, {kept} rows, {changes} changes", changed, f"; one change {each * 1e6:.2f} us")
     return each
 
 
 def compare(word, changes, count):
-    """One change over many rows against one over few; a run comes to a count, which is told from that of the kept rows."""
-    few = time_of_change(word, FEW, changes, count(FEW))
-    many = time_of_change(word, MANY, changes, count(MANY))
-    print(f"{word}: a change over {MANY // FEW} times as many rows takes {many / few:.1f} times as long")
+    """One change over many rows against one over few; a run comes to a count, which is told from those of the kept rows and
+    of the changes."""
+    few = time_of_change(word, FEW, changes, count)
+    many = time_of_change(word, MANY, changes, count)
+    print(f"{word}: a change over {MANY // FEW} times as many rows takes {many / few:.2f} times as long")
 
 
 def main():
     changes = int(sys.argv[2]) if len(sys.argv) > 2 else 100_000
-    compare("links", changes, lambda kept: kept)
-    compare("sources", changes, lambda kept: kept)
-    compare("join", changes, lambda kept: 3 * changes)
+    compare("links", changes, lambda kept, changes: kept)
+    compare("sources", changes, lambda kept, changes: kept)
+    compare("join", changes, lambda kept, changes: 3 * changes)
 
 
 main()

@@ -1,7 +1,7 @@
 #!/usr/bin/env python3
 """`maintain` with inserts and deletes in turn, over few and over many rows: the time of one change, for values to columns,
-values to tables, columns to values and a join, beside SQLite with triggers that keep the wide table; what it takes to
-open, beside `show`; and `load` of few and of many changes.
+values to tables, columns to values and a join, the first in groups of ten too, and beside SQLite with triggers that keep
+the wide table; what it takes to open, beside `show`; and `load` of few and of many changes.
 
 usage: bench/maintain.py [PROGRAM [CHANGES]]
 
@@ -50,6 +50,16 @@ def in_turn(rows, count, row):
         yield ("insert" if place % 2 == 0 else "delete") + "\tg\t" + row(number) + "\n"
 
 
+def in_groups(rows, count, row):
+    """Groups of ten inserts and of their ten deletes, one after the other, at keys all over the table."""
+    for place in range(count // 10):
+        yield "begin\n"
+        for step in range(10):
+            number = (place // 2 * 10 + step) * 7_919 % rows
+            yield ("insert" if place % 2 == 0 else "delete") + "\tg\t" + row(number) + "\n"
+        yield "commit\n"
+
+
 # Each view with its sources, by the number of rows, a row that comes and goes, and how many files the last sync counts.
 VIEWS = {
     "values to columns": (
@@ -88,20 +98,28 @@ def ended(words, root, given=None):
 
 
 def time_of_change(name, rows, count):
-    """The seconds of one change, which are those of a run with changes less those of a run without, by their number; with
-    the run without, and a run of `show`."""
+    """The seconds of one change behind the first two, which are those of a run with all changes less those of a run with
+    two, by the number of the others: both link the rows of the relation once, and save it and the view at the end. With a
+    run without changes, and a run of `show`."""
     view, sources, row, _ = VIEWS[name]
     with folder() as root:
         for relation, lines in sources(rows).items():
             write(root, f"sources/g/{relation}.csv", lines)
         write(root, "defs/V.ssql", view)
+        first = write(root, "first", in_turn(rows, 2, row))
         given = write(root, "changes", in_turn(rows, count, row))
         shown = ended([program(), "show", "V"], root)
         words = [program(), "maintain", "V"]
         opened = ended(words, root)
+        begun = ended(words, root, first)
         changed = ended(words, root, given)
-    each = (changed.seconds - opened.seconds) / count
-    report(f"maintain, {name}, {rows} rows, {count} changes", changed, f"; one change {each * 1e6:.2f} us")
+        if name == "values to columns":
+            grouped = ended(words, root, write(root, "groups", in_groups(rows, count, row)))
+            each = (grouped.seconds - begun.seconds) / (count - 2)
+            report(f"maintain, {name}, {rows} rows, {count} changes in groups of ten", grouped, f"; one change {each * 1e6:.2f} us")
+    each = (changed.seconds - begun.seconds) / (count - 2)
+    once = begun.seconds - opened.seconds
+    report(f"maintain, {name}, {rows} rows, {count} changes", changed, f"; one change {each * 1e6:.2f} us, the first two and the last sync {once:.2f} s")
     return each, opened, shown
 
 
@@ -127,7 +145,7 @@ def time_in_sqlite(rows, count):
             "begin;\n",
         ]
 
-        def statements():
+        def statements(count):
             for place in range(count):
                 number = place // 2 * 7_919 % rows
                 key, column = f"{number // COLUMNS:06}x", f"d{number % COLUMNS}"
@@ -137,11 +155,11 @@ def time_in_sqlite(rows, count):
                     yield f"delete from r where k = '{key}' and d = '{column}' and v = '1';\n"
 
         words = ["sqlite3", ":memory:"]
-        opened = run(words, root, write(root, "opened.sql", [*head, "commit;\n"]))
-        changed = run(words, root, write(root, "changed.sql", [*head, *statements(), "commit;\n"]))
-        if opened.status != 0 or changed.status != 0:
-            sys.exit(f"sqlite3 ended with status {opened.status} and {changed.status}")
-    each = (changed.seconds - opened.seconds) / count
+        begun = run(words, root, write(root, "begun.sql", [*head, *statements(2), "commit;\n"]))
+        changed = run(words, root, write(root, "changed.sql", [*head, *statements(count), "commit;\n"]))
+        if begun.status != 0 or changed.status != 0:
+            sys.exit(f"sqlite3 ended with status {begun.status} and {changed.status}")
+    each = (changed.seconds - begun.seconds) / (count - 2)
     report(f"sqlite3, triggers, {rows} rows, {count} changes", changed, f"; one change {each * 1e6:.2f} us")
     return each
 
