@@ -21,12 +21,24 @@ use std::hash::Hash;
 const MOST_ROWS: usize = 1_000_000;
 
 /// How often changes of rows bring and take each row that they name, and how many they bring and take in all.
-#[derive(Drop)]
 pub(crate) struct RowCounts {
     came: IndexMap<Named<'static>, u128>,
     went: IndexMap<Named<'static>, u128>,
     come: usize,
     gone: usize,
+}
+
+impl Drop for RowCounts {
+    fn drop(self) {
+        let RowCounts {
+            came,
+            went,
+            come: _,
+            gone: _,
+        } = self;
+        drop(came);
+        drop(went);
+    }
 }
 
 /// Whether a change inserts or deletes a row.

@@ -16,19 +16,34 @@ use std::mem::replace;
 
 /// Changes that wait to be made together, which contracts see as their list and the catalogue after them, where it
 /// keeps one. It stands over the catalogue that they are for.
-#[derive(Drop)]
 pub struct Draft {
     changes: Vec<Change>,
     kept: Kept,
 }
 
+impl Drop for Draft {
+    fn drop(self) {
+        let Draft { changes, kept } = self;
+        drop(changes);
+        drop(kept);
+    }
+}
+
 // What is kept to judge a change.
-#[derive(Drop)]
 enum Kept {
     // How often the changes bring and take each row, where they insert and delete rows alone.
     Counts(RowCounts),
     // The catalogue after them.
     After(Catalogue),
+}
+
+impl Drop for Kept {
+    fn drop(self) {
+        match self {
+            Kept::Counts(part) => drop(part),
+            Kept::After(part) => drop(part),
+        }
+    }
 }
 
 impl Model for Draft {

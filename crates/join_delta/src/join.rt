@@ -12,13 +12,29 @@ use std::alloc::Global;
 use std::marker::Model;
 
 /// Joins two bags of rows by key cells, and keeps both. A joined row is the first side's cells, then the second's.
-#[derive(Drop)]
 pub struct Join {
     pub(crate) left_key: KeyPlaces,
     pub(crate) right_key: KeyPlaces,
     pub(crate) left: Linked,
     pub(crate) right: Linked,
     pub(crate) waiting: Option<Waiting>,
+}
+
+impl Drop for Join {
+    fn drop(self) {
+        let Join {
+            left_key,
+            right_key,
+            left,
+            right,
+            waiting,
+        } = self;
+        drop(left_key);
+        drop(right_key);
+        drop(left);
+        drop(right);
+        drop(waiting);
+    }
 }
 
 impl Model for Join {

@@ -14,7 +14,6 @@ use std::marker::Model;
 use std::snapshot::Snapshot;
 
 /// What was made ready for a change, beside the rows that wait in both sides.
-#[derive(Drop)]
 pub(crate) struct Waiting {
     pub of: Snapshot<(Delta, Delta)>,
     pub left_ups: usize,
@@ -23,10 +22,31 @@ pub(crate) struct Waiting {
     pub right_downs: Vec<Row>,
 }
 
+impl Drop for Waiting {
+    fn drop(self) {
+        let Waiting {
+            of,
+            left_ups: _,
+            left_downs,
+            right_ups: _,
+            right_downs,
+        } = self;
+        drop(of);
+        drop(left_downs);
+        drop(right_downs);
+    }
+}
+
 /// Names the change that a join was made ready for.
-#[derive(Drop)]
 pub struct JoinReady {
     of: Snapshot<(Delta, Delta)>,
+}
+
+impl Drop for JoinReady {
+    fn drop(self) {
+        let JoinReady { of } = self;
+        drop(of);
+    }
 }
 
 impl Model for JoinReady {

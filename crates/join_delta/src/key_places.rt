@@ -10,9 +10,16 @@ use std::marker::Model;
 const SHORT: usize = 4;
 
 /// The positions of a key's cells in a row, in order. A cell behind the row's end is none, and equals another such cell.
-#[derive(Debug, Drop)]
+#[derive(Debug)]
 pub struct KeyPlaces {
     places: SmallVec<usize, SHORT>,
+}
+
+impl Drop for KeyPlaces {
+    fn drop(self) {
+        let KeyPlaces { places } = self;
+        drop(places);
+    }
 }
 
 impl Model for KeyPlaces {

@@ -10,9 +10,15 @@ use std::marker::Model;
 use std::snapshot::Snapshot;
 
 /// Names the lines for which memory was taken.
-#[derive(Drop)]
 pub struct LinesReady {
     of: Snapshot<Vec<TableLine>>,
+}
+
+impl Drop for LinesReady {
+    fn drop(self) {
+        let LinesReady { of } = self;
+        drop(of);
+    }
 }
 
 impl Model for LinesReady {

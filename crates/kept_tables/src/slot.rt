@@ -13,11 +13,23 @@ use ss_text::Text;
 use std::alloc::Global;
 
 /// A table under its label, or where it is not there memory for one that may come.
-#[derive(Debug, Drop)]
+#[derive(Debug)]
 pub struct Slot {
     pub(crate) label: Text,
     pub(crate) there: bool,
     pub(crate) table: KeptTable,
+}
+
+impl Drop for Slot {
+    fn drop(self) {
+        let Slot {
+            label,
+            there: _,
+            table,
+        } = self;
+        drop(label);
+        drop(table);
+    }
 }
 
 impl Slot {

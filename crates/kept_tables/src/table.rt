@@ -17,11 +17,23 @@ use std::marker::Model;
 
 /// A table that takes rows and columns for which memory was taken before. Contracts see the table, and how many rows
 /// and columns there is memory for beside its own.
-#[derive(Debug, Drop)]
+#[derive(Debug)]
 pub struct KeptTable {
     columns: Vec<Text>,
     rows: RowShelves,
     coming: usize,
+}
+
+impl Drop for KeptTable {
+    fn drop(self) {
+        let KeptTable {
+            columns,
+            rows,
+            coming: _,
+        } = self;
+        drop(columns);
+        drop(rows);
+    }
 }
 
 impl Model for KeptTable {

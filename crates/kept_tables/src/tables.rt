@@ -32,10 +32,17 @@ pub(crate) struct Waiting {
 }
 
 /// Tables by their labels, in ascending order. Contracts see them, and the lines that wait.
-#[derive(Drop)]
 pub struct KeptTables {
     slots: Vec<Slot>,
     waiting: Option<Waiting>,
+}
+
+impl Drop for KeptTables {
+    fn drop(self) {
+        let KeptTables { slots, waiting } = self;
+        drop(slots);
+        drop(waiting);
+    }
 }
 
 impl Model for KeptTables {

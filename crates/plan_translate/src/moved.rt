@@ -6,10 +6,17 @@ use operator_law::Delta;
 use std::marker::Model;
 
 /// How a change moves what the joins of a plan keep, and its fact rows.
-#[derive(Drop)]
 pub struct PlanMove {
     pub(crate) sides: Vec<(Delta, Delta)>,
     pub(crate) facts: Delta,
+}
+
+impl Drop for PlanMove {
+    fn drop(self) {
+        let PlanMove { sides, facts } = self;
+        drop(sides);
+        drop(facts);
+    }
 }
 
 impl Model for PlanMove {

@@ -26,7 +26,6 @@ use view_def::View;
 
 /// Joins the flat rows of a view's declarations, and keeps what comes to each join. Contracts see the view, the kept rows
 /// and the moves that wait.
-#[derive(Drop)]
 pub struct Plan {
     pub(crate) view: Snapshot<View>,
     pub(crate) specs: Vec<FlatSpec>,
@@ -34,6 +33,25 @@ pub struct Plan {
     pub(crate) joins: Vec<Join>,
     pub(crate) output: Output,
     pub(crate) waiting: Option<Snapshot<Vec<(Delta, Delta)>>>,
+}
+
+impl Drop for Plan {
+    fn drop(self) {
+        let Plan {
+            view,
+            specs,
+            tests,
+            joins,
+            output,
+            waiting,
+        } = self;
+        drop(view);
+        drop(specs);
+        drop(tests);
+        drop(joins);
+        drop(output);
+        drop(waiting);
+    }
 }
 
 impl Model for Plan {

@@ -12,12 +12,25 @@ use ss_text::{NoMemory, Row};
 use std::alloc::Global;
 
 /// The chains of some rows.
-#[derive(Drop)]
 pub(crate) struct Chains {
     pub order: Vec<Link>,
     pub ends: Option<Ends>,
     pub same: Chain,
     pub keyed: Vec<Chain>,
+}
+
+impl Drop for Chains {
+    fn drop(self) {
+        let Chains {
+            order,
+            ends: _,
+            same,
+            keyed,
+        } = self;
+        drop(order);
+        drop(same);
+        drop(keyed);
+    }
 }
 
 impl Chains {

@@ -19,13 +19,27 @@ use std::sync::ledger::Ledger;
 
 /// Rows in order of adding, each at a place that it keeps until it is taken away. Rows that are equal, and rows with the
 /// same cells at the positions of a key, are found without a walk of the others. Memory is taken by `reserve` alone.
-#[derive(Drop)]
 pub struct Linked {
     keys: Vec<Vec<usize>>,
     rows: Slab<Row>,
     chains: Chains,
     // The first to be added is the last.
     waiting: Vec<Row>,
+}
+
+impl Drop for Linked {
+    fn drop(self) {
+        let Linked {
+            keys,
+            rows,
+            chains,
+            waiting,
+        } = self;
+        drop(keys);
+        drop(rows);
+        drop(chains);
+        drop(waiting);
+    }
 }
 
 impl Model for Linked {

@@ -12,13 +12,24 @@ use std::marker::Model;
 use std::snapshot::Snapshot;
 
 /// Rows in a list, which contracts see as the list and the rows that wait to be added, the first to be added first.
-#[derive(Drop)]
 pub(crate) struct Listed {
     rows: Vec<Row>,
     // The first to be added is the last.
     waiting: Vec<Row>,
     // Whether a row was to be taken out before.
     taken: bool,
+}
+
+impl Drop for Listed {
+    fn drop(self) {
+        let Listed {
+            rows,
+            waiting,
+            taken: _,
+        } = self;
+        drop(rows);
+        drop(waiting);
+    }
 }
 
 impl Model for Listed {

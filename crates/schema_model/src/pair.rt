@@ -4,10 +4,18 @@ ghost use Rattle.std.specs.Prelude.{◌≡◌, IfOk};
 use ss_text::{NoMemory, Text};
 
 /// Names a relation: its database and its own name there. Pairs are ordered by the first, and then by the second.
-#[derive(Debug, Drop, PartialEq, Eq, PartialOrd, Ord)]
+#[derive(Debug, PartialEq, Eq, PartialOrd, Ord)]
 pub struct Pair {
     pub db: Text,
     pub rel: Text,
+}
+
+impl Drop for Pair {
+    fn drop(self) {
+        let Pair { db, rel } = self;
+        drop(db);
+        drop(rel);
+    }
 }
 
 impl Pair {

@@ -13,12 +13,20 @@ use std::alloc::Global;
 use std::snapshot::Snapshot;
 
 /// Rows in order, each at a place of its own.
-#[derive(Drop)]
 pub(crate) enum Rows {
     /// A row is found by a walk of all.
     Listed(Listed),
     /// A row is found without one.
     Linked(Linked),
+}
+
+impl Drop for Rows {
+    fn drop(self) {
+        match self {
+            Rows::Listed(part) => drop(part),
+            Rows::Linked(part) => drop(part),
+        }
+    }
 }
 
 impl Rows {

@@ -17,7 +17,6 @@ use std::sync::ledger::Ledger;
 use unfold_op::{Distinct, TableReady, Unfold};
 
 /// Keeps the facts of a view's tables, by the form of the tables.
-#[derive(Drop)]
 pub enum ViewTables {
     /// The one table of a constant label, with constant columns alone.
     OneOfRows(Whole<Distinct>),
@@ -27,6 +26,23 @@ pub enum ViewTables {
     EachOfRows(Split<Distinct>, Answer),
     /// A table for each label, with a variable column.
     EachOfCells(Split<Unfold>, Answer),
+}
+
+impl Drop for ViewTables {
+    fn drop(self) {
+        match self {
+            ViewTables::OneOfRows(part) => drop(part),
+            ViewTables::OneOfCells(part) => drop(part),
+            ViewTables::EachOfRows(part0, part1) => {
+                drop(part0);
+                drop(part1);
+            }
+            ViewTables::EachOfCells(part0, part1) => {
+                drop(part0);
+                drop(part1);
+            }
+        }
+    }
 }
 
 /// What an operator of each label answers. It has no value: a function over `Split` at a given operator is proved only where
