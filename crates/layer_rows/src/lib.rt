@@ -1,12 +1,10 @@
-//! Worked rows of the lower layers: the language, lines and scripts, changes that wait, and runs that are measured.
+//! Worked rows of the lower layers: the language, lines and scripts, and changes that wait.
 //!
 //! It has tests alone, so that none of these layers is proved again with them. What they want is worked out by hand.
 #![tactic(auto)]
 
 #[cfg(test)]
 mod drafts;
-#[cfg(test)]
-mod loads;
 #[cfg(test)]
 mod prints;
 #[cfg(test)]
