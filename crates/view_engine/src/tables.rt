@@ -31,16 +31,10 @@ pub enum ViewTables {
 impl Drop for ViewTables {
     fn drop(self) {
         match self {
-            ViewTables::OneOfRows(part) => drop(part),
-            ViewTables::OneOfCells(part) => drop(part),
-            ViewTables::EachOfRows(part0, part1) => {
-                drop(part0);
-                drop(part1);
-            }
-            ViewTables::EachOfCells(part0, part1) => {
-                drop(part0);
-                drop(part1);
-            }
+            ViewTables::OneOfRows(table) => drop(table),
+            ViewTables::OneOfCells(table) => drop(table),
+            ViewTables::EachOfRows(tables, _) => drop(tables),
+            ViewTables::EachOfCells(tables, _) => drop(tables),
         }
     }
 }
