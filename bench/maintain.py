@@ -90,11 +90,12 @@ VIEWS = {
 
 
 def ended(words, root, given=None):
-    """A run of the program that ended with a sync."""
-    done = run(words, root, given)
-    if done.status != 0 or not done.lines[-1:] or not done.lines[-1].startswith("synced\t"):
-        sys.exit(f"ended with status {done.status} and {done.lines[-1:]}")
-    return done
+    """Of three runs of the program, each of which ended with a sync, the one of the least time."""
+    runs = [run(words, root, given) for _ in range(3)]
+    for done in runs:
+        if done.status != 0 or not done.lines[-1:] or not done.lines[-1].startswith("synced\t"):
+            sys.exit(f"ended with status {done.status} and {done.lines[-1:]}")
+    return min(runs, key=lambda done: done.seconds)
 
 
 def time_of_change(name, rows, count):
@@ -121,6 +122,15 @@ def time_of_change(name, rows, count):
     once = begun.seconds - opened.seconds
     report(f"maintain, {name}, {rows} rows, {count} changes", changed, f"; one change {each * 1e6:.2f} us, the first two and the last sync {once:.2f} s")
     return each, opened, shown
+
+
+def least_of_sqlite(words, root, given):
+    """Of three runs of SQLite the one of the least time."""
+    runs = [run(words, root, given) for _ in range(3)]
+    for done in runs:
+        if done.status != 0:
+            sys.exit(f"sqlite3 ended with status {done.status}")
+    return min(runs, key=lambda done: done.seconds)
 
 
 def time_in_sqlite(rows, count):
@@ -155,10 +165,8 @@ def time_in_sqlite(rows, count):
                     yield f"delete from r where k = '{key}' and d = '{column}' and v = '1';\n"
 
         words = ["sqlite3", ":memory:"]
-        begun = run(words, root, write(root, "begun.sql", [*head, *statements(2), "commit;\n"]))
-        changed = run(words, root, write(root, "changed.sql", [*head, *statements(count), "commit;\n"]))
-        if begun.status != 0 or changed.status != 0:
-            sys.exit(f"sqlite3 ended with status {begun.status} and {changed.status}")
+        begun = least_of_sqlite(words, root, write(root, "begun.sql", [*head, *statements(2), "commit;\n"]))
+        changed = least_of_sqlite(words, root, write(root, "changed.sql", [*head, *statements(count), "commit;\n"]))
     each = (changed.seconds - begun.seconds) / (count - 2)
     report(f"sqlite3, triggers, {rows} rows, {count} changes", changed, f"; one change {each * 1e6:.2f} us")
     return each
