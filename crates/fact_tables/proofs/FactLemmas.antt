@@ -1,10 +1,16 @@
 -- The order of facts by the parts that the code compares.
-use Rattle.std.proofs.Common.{◌≡◌, Option, Some, None, Bor, refl, sym, ◌∙◌}
+use Rattle.std.proofs.Common.{◌≡◌, ◌+◌, ◌-◌, ◌<◌, ℕ, List, [], ◌∷◌, length, take, drop, Option, Some, None, Bor, true, refl, sym, ap, subst, arith, ◌∙◌}
+use Rattle.std.specs.Prelude.{slice_get}
+use Rattle.std.specs.List.{prefix_len}
+use Rattle.std.proofs.lemmas.List.{take_all}
+use Rattle.std.proofs.lemmas.Cmp.{tied_itself}
+use Rattle.ss_text.proofs.KeyLemmas.{row_order}
+use Rattle.flow_law.specs.Facts.{Fact}
 use Rattle.std.specs.declared.cmp.Ordering.{Ordering}
 use Rattle.std.specs.declared.cmp.Ordering.TheVariants.{Less, Equal, Greater}
-use Rattle.std.specs.Ordering.{ordering_then}
+use Rattle.std.specs.Ordering.{ordering_then, is_eq}
 use Rattle.std.specs.Option.{option_cmp}
-use Rattle.ss_text.specs.Texts.{Text, Row, text_cmp, row_cmp}
+use Rattle.ss_text.specs.Texts.{Text, Row, text_cmp, row_cmp, row_eq}
 use Rattle.fact_tables.specs.Borrowed.{cell_value, fact_value}
 use Rattle.flow_law.specs.FactOrder.{cell_cmp, fact_cmp}
 
@@ -33,3 +39,13 @@ module _ (l m : Text) (j k : Row) (p q : Cell) (r : Ordering) where
   -- and else the cells
   pub by_cell : text_cmp l m ≡ Equal → row_cmp j k ≡ Equal → r ≡ borrowed_cells_cmp p q → r ≡ fact_cmp (fact_value l j p) (fact_value m k q)
   by_cell same also e = rw (same, also) (e ∙ sym (same_cells p q))
+
+-- a fact has its own key
+pub first_counts : (first : Fact) (fs : List Fact) (n : ℕ) → Some first ≡ slice_get fs 0 → 0 < length fs → n ≡ prefix_len (λ (f : Fact). row_eq first.key f.key) (take (length fs - 1) (drop 1 fs))
+    → 1 + n ≡ prefix_len (λ (f : Fact). row_eq first.key f.key) fs
+first_counts first [] n is some counted = absurd (omega (arith, some))
+first_counts first (f ∷ fs) n is some counted =
+    let same : first ≡ f = cc in
+    let itself : row_eq first.key first.key ≡ true = row_order.ties first.key first.key ∙ ap is_eq (tied_itself row_order.total first.key) in
+    let equal : row_eq first.key f.key ≡ true = subst (λ (g : Fact). row_eq first.key g.key ≡ true) same itself in
+    rw equal (ap (λ m. 1 + m) (counted ∙ ap (prefix_len (λ (g : Fact). row_eq first.key g.key)) (take_all (length (f ∷ fs) - 1) fs (omega arith))))

@@ -1,14 +1,14 @@
 -- Texts compare as their fronts do.
-use Rattle.std.proofs.Common.{◌≡◌, ◌+◌, ◌*◌, ◌<◌, ◌≤◌, ◌%◌, ◌-◌, ◌∙◌, ◌⊎◌, inl, inr, ℕ, zero, suc, [], ◌∷◌, length, drop, take, get_or, refl, true, sym, ap, subst, arith}
+use Rattle.std.proofs.Common.{◌≡◌, ◌+◌, ◌*◌, ◌<◌, ◌≤◌, ◌%◌, ◌-◌, ◌∙◌, ◌⊎◌, inl, inr, ℕ, zero, suc, [], ◌∷◌, length, drop, take, get_or, refl, Bool, true, false, sym, ap, subst, arith}
 use Rattle.std.specs.declared.cmp.Ordering.{Ordering}
 use Rattle.std.specs.declared.cmp.Ordering.TheVariants.{Less, Equal, Greater}
 use Rattle.std.specs.Ordering.{nat_cmp, ordering_then, ordering_reverse}
 use Rattle.std.specs.Cmp.{nat_cmp_is}
 use Rattle.std.specs.Cmp.Lexicographic.{nat_list_cmp_total}
-use Rattle.std.proofs.lemmas.Bool.{cases_order, ltb-true}
+use Rattle.std.proofs.lemmas.Bool.{cases_order, ltb-true, ltb-false}
 use Rattle.std.proofs.lemmas.List.{take_all}
 use Rattle.ss_text.specs.Texts.{Text, Row, text_cmp, row_cmp}
-use Rattle.fact_tables.specs.Front.{with_bytes, front_of, is_whole, AreDigits, front_of_row, AreRowDigits}
+use Rattle.fact_tables.specs.Front.{with_bytes, front_of, is_whole, AreDigits, first_of, next_of, holds_first}
 
 less_is : (x y : ℕ) → x < y → nat_cmp x y ≡ Less
 less_is x y lt = sym (nat_cmp_is x y Less lt)
@@ -93,23 +93,49 @@ module _ (n : ℕ) (small : n < 255) (s t : Text) (hs : AreDigits n s) (ht : Are
       by_order (inr (inl h)) = is ∙ less_is (front_of n s) (front_of n t) h ∙ sym (below n small s t hs ht h)
       by_order (inr (inr h)) = is ∙ greater_is (front_of n s) (front_of n t) h ∙ sym (nat_list_cmp_total.antisymm s t ∙ ap ordering_reverse (below n small t s ht hs h))
 
--- and rows as those of their first texts
-pub rows_by_fronts : (j k : Row) → AreRowDigits j → AreRowDigits k → (r : Ordering) → r ≡ nat_cmp (front_of_row j) (front_of_row k) → (r ≡ Equal → ⊥) → r ≡ row_cmp j k
+-- texts that begin with the same bytes compare as what is behind these
+behind_begun : (n number : ℕ) (s t : Text) → AreDigits n s → AreDigits n t → with_bytes number n s ≡ with_bytes number n t → n ≤ length s → n ≤ length t → text_cmp (drop n s) (drop n t) ≡ text_cmp s t
+behind_begun zero number s t hs ht e ls lt = refl
+behind_begun (suc n) number [] t hs ht e ls lt = absurd (omega (arith, ls))
+behind_begun (suc n) number (a ∷ s) [] hs ht e ls lt = absurd (omega (arith, lt))
+behind_begun (suc n) number (a ∷ s) (b ∷ t) hs ht e ls lt = by_first (λ same. behind_begun n (number * 256 + b) s t hs.1 ht.1 same (omega (arith, ls)) (omega (arith, lt))) (cases_order a b)
+  where
+    by_first : (with_bytes (number * 256 + b) n s ≡ with_bytes (number * 256 + b) n t → text_cmp (drop n s) (drop n t) ≡ text_cmp s t) → (a ≡ b) ⊎ ((a < b) ⊎ (b < a)) → text_cmp (drop n s) (drop n t) ≡ text_cmp (a ∷ s) (b ∷ t)
+    by_first later (inl same) =
+        later (subst (λ k. with_bytes (number * 256 + k) n s ≡ with_bytes (number * 256 + b) n t) same e)
+        ∙ sym (ap (λ o. ordering_then o (text_cmp s t)) (equal_is a b same))
+    by_first later (inr (inl h)) = absurd (omega (arith, e, greater_stays n (number * 256 + a) (number * 256 + b) s t (omega (arith, h)) hs.1))
+    by_first later (inr (inr h)) = absurd (omega (arith, e, greater_stays n (number * 256 + b) (number * 256 + a) t s (omega (arith, h)) ht.1))
+
+module _ (n : ℕ) (small : n < 255) (s t : Text) (hs : AreDigits n s) (ht : AreDigits n t) (e : front_of n s ≡ front_of n t) (long : n + 1 ≤ front_of n s % 256) where
+  -- and so do those whose fronts are the same and do not hold them whole
+  behind_same : text_cmp (drop n s) (drop n t) ≡ text_cmp s t
+  behind_same = behind_begun n 0 s t hs ht (omega (arith, e, small)) (omega (arith, long, small)) (omega (arith, e, long, small))
+
+-- what is next to the front
+next_whole : (t : Text) (ts : Row) → is_whole 7 (front_of 7 t) ≡ true → next_of (t ∷ ts) ≡ first_of ts
+next_whole t ts whole = rw whole refl
+
+next_long : (t : Text) (ts : Row) → is_whole 7 (front_of 7 t) ≡ false → next_of (t ∷ ts) ≡ drop 7 t
+next_long t ts long = rw long refl
+
+-- rows whose first fronts differ compare as these do
+pub rows_by_fronts : (j k : Row) → AreDigits 7 (first_of j) → AreDigits 7 (first_of k) → (r : Ordering) → r ≡ nat_cmp (front_of 7 (first_of j)) (front_of 7 (first_of k)) → (r ≡ Equal → ⊥) → r ≡ row_cmp j k
 rows_by_fronts [] [] hj hk r is differs = absurd (differs (is ∙ equal_is 0 0 refl))
-rows_by_fronts [] (t ∷ ts) hj hk r is differs = by_order (cases_order 0 (front_of 15 t))
+rows_by_fronts [] (t ∷ ts) hj hk r is differs = by_order (cases_order 0 (front_of 7 t))
   where
-    by_order : (0 ≡ front_of 15 t) ⊎ ((0 < front_of 15 t) ⊎ (front_of 15 t < 0)) → r ≡ Less
-    by_order (inl e) = absurd (differs (is ∙ equal_is 0 (front_of 15 t) e))
-    by_order (inr (inl h)) = is ∙ less_is 0 (front_of 15 t) h
+    by_order : (0 ≡ front_of 7 t) ⊎ ((0 < front_of 7 t) ⊎ (front_of 7 t < 0)) → r ≡ Less
+    by_order (inl e) = absurd (differs (is ∙ equal_is 0 (front_of 7 t) e))
+    by_order (inr (inl h)) = is ∙ less_is 0 (front_of 7 t) h
     by_order (inr (inr h)) = absurd (omega (arith, h))
-rows_by_fronts (s ∷ ss) [] hj hk r is differs = by_order (cases_order (front_of 15 s) 0)
+rows_by_fronts (s ∷ ss) [] hj hk r is differs = by_order (cases_order (front_of 7 s) 0)
   where
-    by_order : (front_of 15 s ≡ 0) ⊎ ((front_of 15 s < 0) ⊎ (0 < front_of 15 s)) → r ≡ Greater
-    by_order (inl e) = absurd (differs (is ∙ equal_is (front_of 15 s) 0 e))
+    by_order : (front_of 7 s ≡ 0) ⊎ ((front_of 7 s < 0) ⊎ (0 < front_of 7 s)) → r ≡ Greater
+    by_order (inl e) = absurd (differs (is ∙ equal_is (front_of 7 s) 0 e))
     by_order (inr (inl h)) = absurd (omega (arith, h))
-    by_order (inr (inr h)) = is ∙ greater_is (front_of 15 s) 0 h
+    by_order (inr (inr h)) = is ∙ greater_is (front_of 7 s) 0 h
 rows_by_fronts (s ∷ ss) (t ∷ ts) hj hk r is differs =
-    let first : r ≡ text_cmp s t = by_fronts 15 (omega arith) s t hj hk r is differs in
+    let first : r ≡ text_cmp s t = by_fronts 7 (omega arith) s t hj hk r is differs in
     first ∙ decided (text_cmp s t) (row_cmp ss ts) (λ e. differs (first ∙ e))
   where
     decided : (o p : Ordering) → (o ≡ Equal → ⊥) → o ≡ ordering_then o p
@@ -117,11 +143,57 @@ rows_by_fronts (s ∷ ss) (t ∷ ts) hj hk r is differs =
     decided Equal p d = absurd (d refl)
     decided Greater p d = refl
 
+below_some : (t : Text) (ts : Row) (r : Ordering) → r ≡ row_cmp [] ts → (r ≡ Equal → ⊥) → r ≡ row_cmp [] (t ∷ ts)
+below_some t [] r is differs = absurd (differs is)
+below_some t (u ∷ us) r is differs = is
+
+above_none : (s : Text) (ss : Row) (r : Ordering) → r ≡ row_cmp ss [] → (r ≡ Equal → ⊥) → r ≡ row_cmp (s ∷ ss) []
+above_none s [] r is differs = absurd (differs is)
+above_none s (u ∷ us) r is differs = is
+
+-- and where these are the same, as their next fronts do
+pub rows_by_next : (j k : Row) → AreDigits 7 (first_of j) → AreDigits 7 (first_of k) → AreDigits 7 (next_of j) → AreDigits 7 (next_of k) → front_of 7 (first_of j) ≡ front_of 7 (first_of k)
+    → (r : Ordering) → r ≡ nat_cmp (front_of 7 (next_of j)) (front_of 7 (next_of k)) → (r ≡ Equal → ⊥) → r ≡ row_cmp j k
+rows_by_next [] [] hj hk nj nk e r is differs = absurd (differs (is ∙ equal_is 0 0 refl))
+rows_by_next [] (t ∷ ts) hj hk nj nk e r is differs =
+    let whole : is_whole 7 (front_of 7 t) ≡ true = rw (← e) refl in
+    below_some t ts r (rows_by_fronts [] ts hj (rw (next_whole t ts whole) at nk) r (rw (next_whole t ts whole) at is) differs) differs
+rows_by_next (s ∷ ss) [] hj hk nj nk e r is differs =
+    let whole : is_whole 7 (front_of 7 s) ≡ true = rw e refl in
+    above_none s ss r (rows_by_fronts ss [] (rw (next_whole s ss whole) at nj) hk r (rw (next_whole s ss whole) at is) differs) differs
+rows_by_next (s ∷ ss) (t ∷ ts) hj hk nj nk e r is differs = by_whole (is_whole 7 (front_of 7 s)) refl
+  where
+    decided : (o p : Ordering) → (o ≡ Equal → ⊥) → o ≡ ordering_then o p
+    decided Less p d = refl
+    decided Equal p d = absurd (d refl)
+    decided Greater p d = refl
+
+    by_whole : (b : Bool) → is_whole 7 (front_of 7 s) ≡ b → r ≡ row_cmp (s ∷ ss) (t ∷ ts)
+    by_whole true whole =
+        let also : is_whole 7 (front_of 7 t) ≡ true = rw (← e) whole in
+        let rest : r ≡ row_cmp ss ts = rows_by_fronts ss ts (rw (next_whole s ss whole) at nj) (rw (next_whole t ts also) at nk) r (rw (next_whole s ss whole, next_whole t ts also) at is) differs in
+        rest ∙ sym (ap (λ o. ordering_then o (row_cmp ss ts)) (whole_same 7 (omega arith) s t hj hk e (ltb-true (front_of 7 s % 256) 8 whole)))
+    by_whole false long =
+        let also : is_whole 7 (front_of 7 t) ≡ false = rw (← e) long in
+        let rest : r ≡ text_cmp (drop 7 s) (drop 7 t) = by_fronts 7 (omega arith) (drop 7 s) (drop 7 t) (rw (next_long s ss long) at nj) (rw (next_long t ts also) at nk) r (rw (next_long s ss long, next_long t ts also) at is) differs in
+        let first : r ≡ text_cmp s t = rest ∙ behind_same 7 (omega arith) s t hj hk e (ltb-false (front_of 7 s % 256) 8 long) in
+        first ∙ decided (text_cmp s t) (row_cmp ss ts) (λ same. differs (first ∙ same))
+
 -- where the fronts hold their first texts, rows compare as what is behind these
-pub behind_fronts : (j k : Row) → AreRowDigits j → AreRowDigits k → 0 < length j → 0 < length k → front_of_row j ≡ front_of_row k → is_whole 15 (front_of_row j) ≡ true
+pub behind_fronts : (j k : Row) → AreDigits 7 (first_of j) → AreDigits 7 (first_of k) → AreDigits 7 (next_of j) → AreDigits 7 (next_of k) → 0 < length j → 0 < length k
+    → front_of 7 (first_of j) ≡ front_of 7 (first_of k) → front_of 7 (next_of j) ≡ front_of 7 (next_of k) → holds_first (front_of 7 (first_of j)) (front_of 7 (next_of j)) ≡ true
     → row_cmp (take (length j - 1) (drop 1 j)) (take (length k - 1) (drop 1 k)) ≡ row_cmp j k
-behind_fronts [] k hj hk some others e whole = absurd (omega (arith, some))
-behind_fronts (s ∷ ss) [] hj hk some others e whole = absurd (omega (arith, others))
-behind_fronts (s ∷ ss) (t ∷ ts) hj hk some others e whole =
+behind_fronts [] k hj hk nj nk some others e next holds = absurd (omega (arith, some))
+behind_fronts (s ∷ ss) [] hj hk nj nk some others e next holds = absurd (omega (arith, others))
+behind_fronts (s ∷ ss) (t ∷ ts) hj hk nj nk some others e next holds =
     rw (take_all (length (s ∷ ss) - 1) ss (omega arith), take_all (length (t ∷ ts) - 1) ts (omega arith))
-    (sym (ap (λ o. ordering_then o (row_cmp ss ts)) (whole_same 15 (omega arith) s t hj hk e (ltb-true (front_of 15 s % 256) 16 whole))))
+    (sym (ap (λ o. ordering_then o (row_cmp ss ts)) (by_whole (is_whole 7 (front_of 7 s)) refl)))
+  where
+    by_whole : (b : Bool) → is_whole 7 (front_of 7 s) ≡ b → text_cmp s t ≡ Equal
+    by_whole true whole = whole_same 7 (omega arith) s t hj hk e (ltb-true (front_of 7 s % 256) 8 whole)
+    by_whole false long =
+        let also : is_whole 7 (front_of 7 t) ≡ false = rw (← e) long in
+        let whole : is_whole 7 (front_of 7 (drop 7 s)) ≡ true = rw (next_long s ss long, long) at holds in
+        let same : front_of 7 (drop 7 s) ≡ front_of 7 (drop 7 t) = rw (next_long s ss long, next_long t ts also) at next in
+        sym (behind_same 7 (omega arith) s t hj hk e (ltb-false (front_of 7 s % 256) 8 long))
+        ∙ whole_same 7 (omega arith) (drop 7 s) (drop 7 t) (rw (next_long s ss long) at nj) (rw (next_long t ts also) at nk) same (ltb-true (front_of 7 (drop 7 s) % 256) 8 whole)

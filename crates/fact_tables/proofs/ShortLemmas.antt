@@ -1,10 +1,11 @@
 -- The bytes of a text that its front holds whole.
-use Rattle.std.proofs.Common.{◌≡◌, ◌+◌, ◌*◌, ◌/◌, ◌%◌, ◌^◌, ◌<◌, ◌≤◌, ◌∙◌, ℕ, zero, suc, List, [], ◌∷◌, ◌++◌, length, drop, take, get_or, refl, sym, ap, arith}
+use Rattle.std.proofs.Common.{◌≡◌, ◌+◌, ◌*◌, ◌/◌, ◌%◌, ◌^◌, ◌<◌, ◌≤◌, ◌∙◌, ℕ, zero, suc, List, [], ◌∷◌, ◌++◌, length, drop, take, get_or, refl, false, sym, ap, arith}
 use Rattle.std.specs.Prelude.{min, slice_get, Some}
-use Rattle.std.specs.Int.{w64, w128, to_be_bytes}
+use Rattle.std.specs.Int.{w64, to_be_bytes}
+use Rattle.std.proofs.lemmas.Bool.{ltb-false}
 use native.Mathlib.Nat.{div-div-eq-div-mul, pow-suc}
 use Rattle.ss_text.specs.Texts.{Text, Row}
-use Rattle.fact_tables.specs.Front.{with_bytes, front_of, AreDigits, front_of_row, AreRowDigits}
+use Rattle.fact_tables.specs.Front.{with_bytes, front_of, is_whole, AreDigits, first_of, next_of}
 
 -- the first n bytes, 0 for each that is missing
 padded : ℕ → Text → List ℕ
@@ -58,7 +59,38 @@ pub short_bytes : (t : Text) → AreDigits 7 t → front_of 7 t % 256 < 8 → ta
 unfolding byte_at bytes_high_first
 short_bytes t h whole = whole_bytes 7 t (omega arith) h whole
 
-pub first_bytes : (row : Row) → AreRowDigits row → 0 < length row → front_of_row row % 256 < 16 → Some (take (front_of_row row % 256) (to_be_bytes w128 (front_of_row row))) ≡ slice_get row 0
+-- the first bytes of a longer text
+begun : (n : ℕ) (t : Text) (rest : List ℕ) → n ≤ length t → take n (padded n t ++ rest) ++ drop n t ≡ t
+unfolding padded
+begun zero t rest h = refl
+begun (suc n) [] rest h = absurd (omega (arith, h))
+begun (suc n) (b ∷ t) rest h = ap (λ xs. b ∷ xs) (begun n t rest (omega (arith, h)))
+
+long_begun : (n : ℕ) (t : Text) → n < 255 → AreDigits n t → n + 1 ≤ front_of n t % 256 → take n (bytes_high_first (suc n) (front_of n t)) ++ drop n t ≡ t
+long_begun n t small h long =
+    ap (λ xs. take n xs ++ drop n t) (bytes_are n 0 (min (length t) (n + 1)) t h (omega (arith, small)))
+    ∙ begun n t (min (length t) (n + 1) ∷ []) (omega (arith, small, long))
+
+seven_bytes : (t : Text) → AreDigits 7 t → 8 ≤ front_of 7 t % 256 → take 7 (to_be_bytes w64 (front_of 7 t)) ++ drop 7 t ≡ t
 unfolding byte_at bytes_high_first
-first_bytes [] h some whole = absurd (omega (arith, some))
-first_bytes (t ∷ ts) h some whole = ap Some (whole_bytes 15 t (omega arith) h whole)
+seven_bytes t h long = long_begun 7 t (omega arith) h long
+
+first_is : (row : Row) → 0 < length row → Some (first_of row) ≡ slice_get row 0
+first_is [] some = absurd (omega (arith, some))
+first_is (t ∷ ts) some = refl
+
+rest_is : (row : Row) → is_whole 7 (front_of 7 (first_of row)) ≡ false → next_of row ≡ drop 7 (first_of row)
+rest_is [] long = refl
+rest_is (t ∷ ts) long = rw long refl
+
+module _ (row : Row) (h : AreDigits 7 (first_of row)) (some : 0 < length row) where
+  -- the first text of a row, by its front
+  pub first_bytes : front_of 7 (first_of row) % 256 < 8 → Some (take (front_of 7 (first_of row) % 256) (to_be_bytes w64 (front_of 7 (first_of row)))) ≡ slice_get row 0
+  first_bytes whole = ap Some (short_bytes (first_of row) h whole) ∙ first_is row some
+
+  -- and by the next front too
+  pub both_bytes : AreDigits 7 (next_of row) → is_whole 7 (front_of 7 (first_of row)) ≡ false → front_of 7 (next_of row) % 256 < 8
+      → Some (take 7 (to_be_bytes w64 (front_of 7 (first_of row))) ++ take (front_of 7 (next_of row) % 256) (to_be_bytes w64 (front_of 7 (next_of row)))) ≡ slice_get row 0
+  both_bytes next long whole =
+      ap (λ xs. Some (take 7 (to_be_bytes w64 (front_of 7 (first_of row))) ++ xs)) (short_bytes (next_of row) next whole ∙ rest_is row long)
+      ∙ ap Some (seven_bytes (first_of row) h (ltb-false (front_of 7 (first_of row) % 256) 8 long)) ∙ first_is row some

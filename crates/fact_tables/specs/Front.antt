@@ -1,5 +1,5 @@
 -- The front of a text: a number by which most texts compare.
-use Rattle.std.specs.Prelude.{ℕ, zero, suc, ◌+◌, ◌*◌, ◌%◌, ◌<◌, nat_lt, Bool, [], ◌∷◌, length, drop, min, slice_index_or}
+use Rattle.std.specs.Prelude.{ℕ, zero, suc, ◌+◌, ◌*◌, ◌%◌, ◌<◌, nat_lt, Bool, ◌||◌, if◌then◌else◌, [], ◌∷◌, length, drop, min, slice_index_or}
 use Rattle.ss_text.specs.Texts.{Text, Row}
 
 -- a number with these bytes behind it as digits, 0 for each that is missing
@@ -20,11 +20,16 @@ abbrev pub AreDigits : ℕ → Text → Type 0
 AreDigits zero t = Unit {0}
 AreDigits (suc n) t = (slice_index_or t 0 0 < 256) × AreDigits n (drop 1 t)
 
--- the front of the first text of a row, of fifteen bytes, or 0
-abbrev pub front_of_row : Row → ℕ
-front_of_row [] = 0
-front_of_row (t ∷ ts) = front_of 15 t
+-- the first text of a row, or an empty one
+abbrev pub first_of : Row → Text
+first_of [] = []
+first_of (t ∷ ts) = t
 
-abbrev pub AreRowDigits : Row → Type 0
-AreRowDigits [] = Unit {0}
-AreRowDigits (t ∷ ts) = AreDigits 15 t
+-- what is next to the front of the first text: the second text, where that front has all bytes, and else those that are left
+abbrev pub next_of : Row → Text
+next_of [] = []
+next_of (t ∷ ts) = if is_whole 7 (front_of 7 t) then first_of ts else drop 7 t
+
+-- whether the fronts of a row have all bytes of its first text
+abbrev pub holds_first : ℕ → ℕ → Bool
+holds_first front next = is_whole 7 front || is_whole 7 next

@@ -1,5 +1,5 @@
 //! A fact of a view, borrowed from the catalogue and the view.
-ghost use Rattle.std.specs.Prelude.{◌≡◌, ◌<◌, ◌≤◌, refl, drop, length, slice_get, option_copied, option_map, IfOk, OnSome};
+ghost use Rattle.std.specs.Prelude.{◌≡◌, ◌<◌, ◌≤◌, refl, drop, length, slice_get, Some, option_copied, option_map, IfOk, OnSome};
 ghost use Rattle.std.specs.List.{prefix_len};
 ghost use Rattle.ss_text.specs.Texts.{text_eq, row_eq};
 ghost use Rattle.flow_law.specs.Facts.{column_of, value_in};
@@ -147,8 +147,20 @@ pub(crate) fn label_count(facts: &[Fact<'_>], label: &Label<'_>) -> usize
         .count()
 }
 
-/// How many facts at the front have the key of this one.
+/// How many facts at the front have the key of the first one, which is this. That one is not compared with itself.
 pub(crate) fn key_count(facts: &[Fact<'_>], first: &Fact<'_>) -> usize
+    requires { Some first.now ≡ slice_get facts.now 0 }
+    ensures count { result ≡ prefix_len (λ f. row_eq first.now.key f.key) facts.now }
+    ensures within { result ≤ length facts.now }
+{
+    let [_, others @ ..] = facts else {
+        return 0;
+    };
+    1 + like_count(others, first)
+}
+
+// How many facts at the front have the key of this one.
+fn like_count(facts: &[Fact<'_>], first: &Fact<'_>) -> usize
     ensures count { result ≡ prefix_len (λ f. row_eq first.now.key f.key) facts.now }
     ensures within { result ≤ length facts.now }
 {

@@ -2,16 +2,13 @@
 ghost use Rattle.std.specs.Prelude.{◌≡◌, slice_index_or};
 ghost use Rattle.fact_tables.specs.Front.{front_of, AreDigits};
 
-use ss_text::Text;
-
 /// The first seven bytes of a text as the digits of a number, 0 for each that is missing, and behind them its
 /// length, where it is at most 7. Texts compare as their fronts do; where two fronts are the same, the texts are
 /// the same too if they are that short.
-pub(crate) fn front_of(text: &Text) -> u64
-    ensures front { result ≡ front_of 7 text.now }
-    ensures digits { AreDigits 7 text.now }
+pub(crate) fn front_of(bytes: &[u8]) -> u64
+    ensures front { result ≡ front_of 7 bytes.now }
+    ensures digits { AreDigits 7 bytes.now }
 {
-    let bytes = text.as_slice();
     u64::from_be_bytes([
         byte_at(bytes, 0),
         byte_at(bytes, 1),
@@ -21,32 +18,6 @@ pub(crate) fn front_of(text: &Text) -> u64
         byte_at(bytes, 5),
         byte_at(bytes, 6),
         bytes.len().min(8) as u8,
-    ])
-}
-
-/// The same with fifteen bytes.
-pub(crate) fn long_front_of(text: &Text) -> u128
-    ensures front { result ≡ front_of 15 text.now }
-    ensures digits { AreDigits 15 text.now }
-{
-    let bytes = text.as_slice();
-    u128::from_be_bytes([
-        byte_at(bytes, 0),
-        byte_at(bytes, 1),
-        byte_at(bytes, 2),
-        byte_at(bytes, 3),
-        byte_at(bytes, 4),
-        byte_at(bytes, 5),
-        byte_at(bytes, 6),
-        byte_at(bytes, 7),
-        byte_at(bytes, 8),
-        byte_at(bytes, 9),
-        byte_at(bytes, 10),
-        byte_at(bytes, 11),
-        byte_at(bytes, 12),
-        byte_at(bytes, 13),
-        byte_at(bytes, 14),
-        bytes.len().min(16) as u8,
     ])
 }
 

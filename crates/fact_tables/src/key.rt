@@ -4,32 +4,39 @@ ghost use Rattle.std.specs.Ordering.{eq_by_cmp, as_partial_cmp};
 ghost use Rattle.std.specs.Cmp.{partial_equiv_from_equiv, partial_order_from_agreeing_total};
 ghost use Rattle.std.specs.Cmp.Lexicographic.{lists_equiv, lists_total, lists_ties, nat_list_eq_equiv, nat_list_cmp_total, texts_ties};
 ghost use Rattle.ss_text.specs.Texts.{text_cmp, row_cmp, row_eq};
-ghost use Rattle.fact_tables.specs.Front.{front_of_row, AreRowDigits, is_whole};
+ghost use Rattle.fact_tables.specs.Front.{front_of, AreDigits, first_of, next_of, holds_first};
 
-use crate::front::long_front_of;
-use crate::label::Label;
+use crate::front::front_of;
+use crate::label::{Label, is_whole};
 use crate::short::ShortFirst;
 use std::cmp::Ordering;
 use std::marker::Model;
 
-/// The values of the constant columns, which contracts see as a row; equality and order are those of the row. The
-/// front of the first value stands beside them, so that most comparisons read no value.
+/// The values of the constant columns, which contracts see as a row; equality and order are those of the row. Two
+/// fronts stand beside them, so that most comparisons read no value: that of the first value, and that of what is
+/// next, which is the second value where the first front holds all of the first one, and else the rest of that.
 #[derive(Drop)]
 pub struct Key<'a> {
-    front: u128,
+    front: u64,
+    next: u64,
     labels: &'a [Label<'a>],
 }
 
 impl<'a> Model for Key<'a> {
     ghost use Rattle.std.specs.Prelude.{◌≡◌};
     ghost use Rattle.ss_text.specs.Texts.{Row};
-    ghost use Rattle.fact_tables.specs.Front.{front_of_row, AreRowDigits};
+    ghost use Rattle.fact_tables.specs.Front.{front_of, AreDigits, first_of, next_of};
 
     ghost Value = { Row };
 
     ghost view = { λ k. k.labels.now };
 
-    ghost invariant = { λ k. record { front : k.front ≡ front_of_row k.labels.now; digits : AreRowDigits k.labels.now } };
+    ghost invariant = { λ k. record {
+      front : k.front ≡ front_of 7 (first_of k.labels.now);
+      next : k.next ≡ front_of 7 (next_of k.labels.now);
+      digits : AreDigits 7 (first_of k.labels.now);
+      next_digits : AreDigits 7 (next_of k.labels.now);
+    } };
 }
 
 impl<'a> Key<'a> {
@@ -38,17 +45,22 @@ impl<'a> Key<'a> {
         ensures { result ≡ labels.now }
     {
         Key {
-            front: front_of_row(labels),
+            front: first_front(labels),
+            next: next_front(labels),
             labels,
         }
     }
 
-    /// The bytes of its first value, where there is one and its front holds them all. No value is read.
+    /// The bytes of its first value, where there is one and the fronts hold them all. No value is read.
     pub(crate) fn first(&self) -> Option<ShortFirst>
         ensures { IfSome result (λ first. Some first ≡ slice_get self.now 0) }
     {
-        if is_whole(self.front) && !self.labels.is_empty() {
+        if self.labels.is_empty() {
+            None
+        } else if is_whole(self.front) {
             Some(ShortFirst::of(self.front))
+        } else if is_whole(self.next) {
+            Some(ShortFirst::of_both(self.front, self.next))
         } else {
             None
         }
@@ -62,22 +74,26 @@ impl<'a> Key<'a> {
     }
 }
 
-// Whether a front holds all of the first value.
-fn is_whole(front: u128) -> bool
-    ensures { result ≡ is_whole 15 front }
+// Whether the two fronts of a row hold all of its first text.
+fn holds_first(front: u64, next: u64) -> bool
+    ensures { result ≡ holds_first front next }
 {
-    front % 256 < 16
+    is_whole(front) || is_whole(next)
 }
 
-// The order of rows with this front: where it holds the first value, that one is not read.
-fn order_behind(front: u128, labels: &[Label<'_>], others: &[Label<'_>]) -> Ordering
-    requires front { front ≡ front_of_row labels.now }
-    requires same { front ≡ front_of_row others.now }
-    requires digits { AreRowDigits labels.now }
-    requires others { AreRowDigits others.now }
+// The order of rows with these fronts: where they hold the first value, that one is not read.
+fn order_behind(front: u64, next: u64, labels: &[Label<'_>], others: &[Label<'_>]) -> Ordering
+    requires front { front ≡ front_of 7 (first_of labels.now) }
+    requires same { front ≡ front_of 7 (first_of others.now) }
+    requires next { next ≡ front_of 7 (next_of labels.now) }
+    requires next_same { next ≡ front_of 7 (next_of others.now) }
+    requires digits { AreDigits 7 (first_of labels.now) }
+    requires others { AreDigits 7 (first_of others.now) }
+    requires next_digits { AreDigits 7 (next_of labels.now) }
+    requires next_others { AreDigits 7 (next_of others.now) }
     ensures { result ≡ row_cmp labels.now others.now }
 {
-    if is_whole(front)
+    if holds_first(front, next)
         && let [_, rest @ ..] = labels
         && let [_, rest_of_others @ ..] = others
     {
@@ -87,15 +103,30 @@ fn order_behind(front: u128, labels: &[Label<'_>], others: &[Label<'_>]) -> Orde
     }
 }
 
-// The front of the first value, or 0.
-fn front_of_row(labels: &[Label<'_>]) -> u128
-    ensures front { result ≡ front_of_row labels.now }
-    ensures digits { AreRowDigits labels.now }
+// The front of the first value, or of an empty text.
+fn first_front(labels: &[Label<'_>]) -> u64
+    ensures front { result ≡ front_of 7 (first_of labels.now) }
+    ensures digits { AreDigits 7 (first_of labels.now) }
 {
     match labels {
-        [first, ..] => long_front_of(first.text()),
+        [first, ..] => first.front(),
         [] => 0,
     }
+}
+
+// The front of what is next.
+fn next_front(labels: &[Label<'_>]) -> u64
+    ensures front { result ≡ front_of 7 (next_of labels.now) }
+    ensures digits { AreDigits 7 (next_of labels.now) }
+{
+    let [first, others @ ..] = labels else {
+        return 0;
+    };
+    if is_whole(first.front()) {
+        return first_front(others);
+    }
+    let bytes = first.text().as_slice();
+    front_of(&bytes[bytes.len().min(7)..])
 }
 
 impl PartialEq for Key<'_> {
@@ -104,7 +135,7 @@ impl PartialEq for Key<'_> {
     ghost laws = { partial_equiv_from_equiv (lists_equiv nat_list_eq_equiv) };
 
     fn eq(&self, other: &Self) -> bool {
-        self.front == other.front && order_behind(self.front, self.labels, other.labels).is_eq()
+        self.cmp(other).is_eq()
     }
 }
 
@@ -133,7 +164,10 @@ impl Ord for Key<'_> {
 
     fn cmp(&self, other: &Self) -> Ordering {
         match self.front.cmp(&other.front) {
-            Ordering::Equal => order_behind(self.front, self.labels, other.labels),
+            Ordering::Equal => match self.next.cmp(&other.next) {
+                Ordering::Equal => order_behind(self.front, self.next, self.labels, other.labels),
+                differs => differs,
+            },
             differs => differs,
         }
     }

@@ -36,7 +36,7 @@ impl<'a> Label<'a> {
         ensures { result ≡ text.now }
     {
         Label {
-            front: front_of(text),
+            front: front_of(text.as_slice()),
             text,
         }
     }
@@ -49,6 +49,14 @@ impl<'a> Label<'a> {
             front: self.front,
             text: self.text,
         }
+    }
+
+    /// Its front.
+    pub(crate) fn front(&self) -> u64
+        ensures front { result ≡ front_of 7 self.now }
+        ensures digits { AreDigits 7 self.now }
+    {
+        self.front
     }
 
     /// Its bytes, where its front holds them all. No text is read.
@@ -70,8 +78,8 @@ impl<'a> Label<'a> {
     }
 }
 
-// Whether a front holds all of its text.
-fn is_whole(front: u64) -> bool
+/// Whether a front holds all of its text.
+pub(crate) fn is_whole(front: u64) -> bool
     ensures { result ≡ is_whole 7 front }
 {
     front % 256 < 8

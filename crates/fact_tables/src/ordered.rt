@@ -14,7 +14,7 @@ use crate::refused::{conflict, illegal};
 use crate::table_facts::{TableFacts, table_facts};
 use crate::tables::tables;
 use flow_law::{Shape, Stop, Tables};
-use ss_text::{NoMemory, make_ascending};
+use ss_text::NoMemory;
 use std::alloc::Global;
 use std::marker::Model;
 
@@ -73,6 +73,14 @@ pub fn order_facts<'a>(
     Ok(OrderedFacts { shape, facts })
 }
 
+// Leaves each fact once, in order. It is done in place, since a copy of all facts would take more memory than all else.
+fn make_ascending(facts: &mut Vec<Fact<'_>>)
+    ensures { facts.new.items ≡ ascending fact_cmp facts.old.items }
+{
+    facts.sort_unstable();
+    facts.dedup();
+}
+
 // Puts facts in order, unless the view is refused for them.
 fn put_in_order(alloc: Global, shape: &Shape, facts: &mut Vec<Fact<'_>>) -> Result<(), Stop>
     ensures order { OnOk result (facts.new.items ≡ ascending fact_cmp facts.old.items) }
@@ -82,7 +90,7 @@ fn put_in_order(alloc: Global, shape: &Shape, facts: &mut Vec<Fact<'_>>) -> Resu
     if let Some(label) = illegal(shape, facts)? {
         return Err(Stop::Illegal(label));
     }
-    make_ascending(facts)?;
+    make_ascending(facts);
     if let Some(clash) = conflict(alloc, facts)? {
         return Err(Stop::Conflict(clash));
     }

@@ -1,14 +1,23 @@
 use Rattle.std.proofs.Common.{◌∙◌, ◌<◌, ◌%◌, take, sym, ap, length, Some, rules}
-use Rattle.std.specs.Int.{w128, to_be_bytes}
+use Rattle.std.specs.Int.{w64, to_be_bytes}
 use Rattle.std.proofs.lemmas.Bool.{ltb-true}
 use Rattle.std.specs.Prelude.{slice_get}
-use Rattle.fact_tables.proofs.ShortLemmas.{first_bytes}
+use Rattle.fact_tables.proofs.ShortLemmas.{first_bytes, both_bytes}
 use Rattle.fact_tables.proofs.key.Key.first.Goals as goal
 
-pub returns-then-not-is_empty : goal.returns-then-not-is_empty
-returns-then-not-is_empty c =
+pub returns-then-is_whole : goal.returns-then-is_whole
+returns-then-is_whole c =
     let row = c.self.inside.labels.now in
-    let whole = ltb-true (c.self.inside.front % 256) 16 (sym c.is_whole.ensures ∙ c.if-is_whole.true) in
+    let whole = ltb-true (c.self.inside.front % 256) 8 (sym c.is_whole.ensures ∙ c.if-is_whole.true) in
     let some : 0 < length row = search rules in
-    ap Some (c.of.ensures ∙ ap (λ n. take (n % 256) (to_be_bytes w128 n)) c.self.invariant.front)
+    ap Some (c.of.ensures ∙ ap (λ n. take (n % 256) (to_be_bytes w64 n)) c.self.invariant.front)
     ∙ first_bytes row c.self.invariant.digits some (rw c.self.invariant.front at whole) ∙ ap (λ r. slice_get r 0) c.self.view_is
+
+pub returns-then-is_whole-2 : goal.returns-then-is_whole-2
+returns-then-is_whole-2 c =
+    let row = c.self.inside.labels.now in
+    let long = sym c.is_whole.ensures ∙ c.if-is_whole.false in
+    let whole = ltb-true (c.self.inside.next % 256) 8 (sym c.is_whole-else-is_whole.ensures ∙ c.if-is_whole-2.true) in
+    let some : 0 < length row = search rules in
+    let both = rw (c.self.invariant.front, c.self.invariant.next) at c.of_both.ensures in
+    ap Some both ∙ both_bytes row c.self.invariant.digits some c.self.invariant.next_digits (rw c.self.invariant.front at long) (rw c.self.invariant.next at whole) ∙ ap (λ r. slice_get r 0) c.self.view_is
