@@ -1,31 +1,50 @@
-//! What a relation contributes, without the names of its database and its own.
-ghost use Rattle.std.specs.Prelude.{◌≡◌, ◌∷◌, [], IfOk, map};
+//! What a relation contributes, behind the names of its database and its own.
+ghost use Rattle.std.specs.Prelude.{◌≡◌, ◌++◌, ◌∷◌, [], IfOk, OnOk, map};
+ghost use Rattle.unite_op.specs.NamedThings.{rows_behind};
 ghost use Rattle.schema_delta.specs.Flat.{inside, values_of, names_of};
 
 use crate::FlatSpec;
+use crate::behind::push_rows;
+use crate::tuples::{push_all_folded, push_all_picked};
 use fold_op::{fold_rows, pick_rows};
 use ss_text::{NoMemory, Row, Text};
 use std::alloc::Global;
 use unite_op::rows_behind;
 use view_def::{Place, Range};
 
-/// What a relation with these attributes and rows contributes.
-pub(crate) fn inside_rows(
+/// Adds what a relation with these attributes and rows contributes, each row behind these names.
+pub(crate) fn push_inside(
     alloc: Global,
+    flat: &mut Vec<Row>,
+    names: &Row,
     spec: &FlatSpec,
     attributes: &Row,
     rows: &[&Row],
-) -> Result<Vec<Row>, NoMemory>
-    ensures { IfOk result (λ flat. flat.items ≡ inside spec.now.range spec.now.wanted spec.now.folded (attributes.now, map (λ r. r.now) rows.now)) }
+) -> Result<(), NoMemory>
+    ensures { OnOk result (flat.new.items ≡ flat.old.items ++ rows_behind names.now (inside spec.now.range spec.now.wanted spec.now.folded (attributes.now, map (λ r. r.now) rows.now))) }
 {
     match &spec.range {
-        Range::Databases | Range::Alias(..) => Ok(Vec::new(alloc)),
-        Range::Relations(..) => Ok(one_empty(alloc)?),
-        Range::Attributes(..) => Ok(attribute_rows(alloc, attributes)?),
-        Range::Tuples(..) if spec.folded => Ok(fold_rows(alloc, &spec.wanted, attributes, rows)?),
-        Range::Tuples(..) => Ok(pick_rows(alloc, &spec.wanted, attributes, rows)?),
-        Range::Values(_, _, place) => Ok(value_rows(alloc, place, attributes, rows)?),
+        Range::Tuples(..) if spec.folded => {
+            push_all_folded(alloc, flat, names, &spec.wanted, attributes, rows)?;
+        }
+        Range::Tuples(..) => {
+            push_all_picked(alloc, flat, names, &spec.wanted, attributes, rows)?;
+        }
+        Range::Databases | Range::Alias(..) => {}
+        Range::Relations(..) => push_rows(alloc, flat, names, &one_empty(alloc)?)?,
+        Range::Attributes(..) => {
+            push_rows(alloc, flat, names, &attribute_rows(alloc, attributes)?)?;
+        }
+        Range::Values(_, _, place) => {
+            push_rows(
+                alloc,
+                flat,
+                names,
+                &value_rows(alloc, place, attributes, rows)?,
+            )?;
+        }
     }
+    Ok(())
 }
 
 // The name and the cell of the attribute that a place names, for every row.

@@ -6,6 +6,7 @@
 #![tactic(auto)]
 
 mod attributes;
+mod behind;
 mod change;
 mod changes;
 mod databases;
@@ -16,6 +17,7 @@ mod one_row;
 mod part;
 mod rows;
 mod spec;
+mod tuples;
 
 pub use changes::flat_changes;
 pub use group::flat_group;

@@ -1,14 +1,33 @@
 //! What a relation contributes behind the names of its database and its own.
-ghost use Rattle.std.specs.Prelude.{◌≡◌, ◌∷◌, [], IfOk, map};
+ghost use Rattle.std.specs.Prelude.{◌≡◌, ◌++◌, ◌∷◌, [], IfOk, OnOk, map};
 ghost use Rattle.schema_model.specs.Catalogue.{relation_value};
 ghost use Rattle.schema_delta.specs.Flat.{part, goes_over, keeps};
 
 use crate::FlatSpec;
-use crate::inside::inside_rows;
+use crate::inside::push_inside;
 use ss_text::{NoMemory, Row, Text};
 use std::alloc::Global;
-use unite_op::rows_behind;
 use view_def::{Place, Range};
+
+/// Adds what a relation of this name contributes, with these attributes and rows.
+pub(crate) fn push_part(
+    alloc: Global,
+    flat: &mut Vec<Row>,
+    spec: &FlatSpec,
+    db: &Text,
+    rel: &Text,
+    attributes: &Row,
+    rows: &[&Row],
+) -> Result<(), NoMemory>
+    ensures { OnOk result (flat.new.items ≡ flat.old.items ++ part spec.now db.now (relation_value rel.now attributes.now (map (λ r. r.now) rows.now))) }
+{
+    if !goes_over(&spec.range, db, rel) {
+        return Ok(());
+    }
+    let names = both(alloc, db, rel)?;
+    push_inside(alloc, flat, &names, spec, attributes, rows)?;
+    Ok(())
+}
 
 /// What a relation of this name contributes, with these attributes and rows.
 pub(crate) fn part_rows(
@@ -21,12 +40,8 @@ pub(crate) fn part_rows(
 ) -> Result<Vec<Row>, NoMemory>
     ensures { IfOk result (λ flat. flat.items ≡ part spec.now db.now (relation_value rel.now attributes.now (map (λ r. r.now) rows.now))) }
 {
-    if !goes_over(&spec.range, db, rel) {
-        return Ok(Vec::new(alloc));
-    }
-    let inside = inside_rows(alloc, spec, attributes, rows)?;
-    let names = both(alloc, db, rel)?;
-    let flat = rows_behind(alloc, &names, &inside)?;
+    let mut flat = Vec::new(alloc);
+    push_part(alloc, &mut flat, spec, db, rel, attributes, rows)?;
     Ok(flat)
 }
 

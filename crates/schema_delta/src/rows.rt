@@ -7,7 +7,7 @@ ghost use Rattle.schema_delta.specs.Flat.{flat, whole, part, own};
 
 use crate::FlatSpec;
 use crate::inside::one;
-use crate::part::part_rows;
+use crate::part::push_part;
 use schema_model::{Catalogue, Database, Relation};
 use ss_text::{NoMemory, Row, Text};
 use std::alloc::Global;
@@ -51,6 +51,22 @@ pub(crate) fn own_rows(alloc: Global, name: &Text, spec: &FlatSpec) -> Result<Ve
     Ok(rows)
 }
 
+// Adds what a relation contributes under this name.
+fn push_relation(
+    alloc: Global,
+    rows: &mut Vec<Row>,
+    db: &Text,
+    relation: &Relation,
+    name: &Text,
+    spec: &FlatSpec,
+) -> Result<(), NoMemory>
+    ensures { OnOk result (rows.new.items ≡ rows.old.items ++ part spec.now db.now (record (plain_relation relation.now) { name = name.now })) }
+{
+    let kept = relation.rows(alloc)?;
+    push_part(alloc, rows, spec, db, name, relation.attributes(), &kept)?;
+    Ok(())
+}
+
 /// What a relation contributes under this name.
 pub(crate) fn relation_rows(
     alloc: Global,
@@ -61,8 +77,8 @@ pub(crate) fn relation_rows(
 ) -> Result<Vec<Row>, NoMemory>
     ensures { IfOk result (λ rows. rows.items ≡ part spec.now db.now (record (plain_relation relation.now) { name = name.now })) }
 {
-    let kept = relation.rows(alloc)?;
-    let rows = part_rows(alloc, spec, db, name, relation.attributes(), &kept)?;
+    let mut rows = Vec::new(alloc);
+    push_relation(alloc, &mut rows, db, relation, name, spec)?;
     Ok(rows)
 }
 
@@ -99,17 +115,7 @@ fn push_parts(
     ensures { OnOk result (rows.new.items ≡ rows.old.items ++ flat_map (part spec.now db.now) (map plain_relation database.now.relations)) }
 {
     for relation in database.relations() {
-        let flat = relation_rows(alloc, db, relation, relation.name(), spec)?;
-        push_all(rows, flat)?;
-    }
-    Ok(())
-}
-
-fn push_all(rows: &mut Vec<Row>, more: Vec<Row>) -> Result<(), NoMemory>
-    ensures { OnOk result (rows.new.items ≡ rows.old.items ++ more.items) }
-{
-    for row in more {
-        rows.push(row)?;
+        push_relation(alloc, rows, db, relation, relation.name(), spec)?;
     }
     Ok(())
 }
