@@ -4,3 +4,4 @@ pub mod InsideLemmas
 pub mod Asked
 pub mod GroupLemmas
 pub mod OneRowLaw
+pub mod BehindLemmas

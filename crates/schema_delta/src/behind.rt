@@ -65,6 +65,15 @@ fn picked(
     Ok(cells)
 }
 
+/// The names, and one more behind them.
+pub(crate) fn with_name(alloc: Global, names: &Row, name: &Text) -> Result<Row, NoMemory>
+    ensures { IfOk result (λ row. row ≡ names.now ++ name.now ∷ []) }
+{
+    let mut cells = begun(alloc, names, 1)?;
+    cells.push(name.copy()?)?;
+    Ok(Row::of(cells))
+}
+
 // Adds a row behind names.
 fn push_row(alloc: Global, flat: &mut Vec<Row>, names: &Row, row: &Row) -> Result<(), NoMemory>
     ensures { OnOk result (flat.new.items ≡ flat.old.items ++ (names.now ++ row.now) ∷ []) }

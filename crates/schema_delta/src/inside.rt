@@ -1,15 +1,14 @@
 //! What a relation contributes, behind the names of its database and its own.
 ghost use Rattle.std.specs.Prelude.{◌≡◌, ◌++◌, ◌∷◌, [], IfOk, OnOk, map};
+ghost use Rattle.fold_op.specs.Flat.{pick_value};
 ghost use Rattle.unite_op.specs.NamedThings.{rows_behind};
 ghost use Rattle.schema_delta.specs.Flat.{inside, values_of, names_of};
 
 use crate::FlatSpec;
-use crate::behind::push_rows;
+use crate::behind::{push_rows, with_name};
 use crate::tuples::{push_all_folded, push_all_picked};
-use fold_op::{fold_rows, pick_rows};
 use ss_text::{NoMemory, Row, Text};
 use std::alloc::Global;
-use unite_op::rows_behind;
 use view_def::{Place, Range};
 
 /// Adds what a relation with these attributes and rows contributes, each row behind these names.
@@ -35,38 +34,46 @@ pub(crate) fn push_inside(
         Range::Attributes(..) => {
             push_rows(alloc, flat, names, &attribute_rows(alloc, attributes)?)?;
         }
-        Range::Values(_, _, place) => {
-            push_rows(
-                alloc,
-                flat,
-                names,
-                &value_rows(alloc, place, attributes, rows)?,
-            )?;
-        }
+        Range::Values(_, _, place) => push_values(alloc, flat, names, place, attributes, rows)?,
     }
     Ok(())
 }
 
-// The name and the cell of the attribute that a place names, for every row.
-fn value_rows(
+// Adds the name and the cell of the attribute that a place names, for every row.
+fn push_values(
     alloc: Global,
+    flat: &mut Vec<Row>,
+    names: &Row,
     place: &Place,
     attributes: &Row,
     rows: &[&Row],
-) -> Result<Vec<Row>, NoMemory>
-    ensures { IfOk result (λ flat. flat.items ≡ values_of place.now (attributes.now, map (λ r. r.now) rows.now)) }
+) -> Result<(), NoMemory>
+    ensures { OnOk result (flat.new.items ≡ flat.old.items ++ rows_behind names.now (values_of place.now (attributes.now, map (λ r. r.now) rows.now))) }
 {
     match place {
-        Place::Fixed(name) => {
-            let name = one(alloc, name)?;
-            let cells = pick_rows(alloc, &name, attributes, rows)?;
-            Ok(rows_behind(alloc, &name, &cells)?)
-        }
+        Place::Fixed(name) => push_named(alloc, flat, names, name, attributes, rows),
         Place::Var(_) => {
             let none = Row::of(Vec::new(alloc));
-            Ok(fold_rows(alloc, &none, attributes, rows)?)
+            push_all_folded(alloc, flat, names, &none, attributes, rows)
         }
     }
+}
+
+// Adds the name and the cell of this attribute, for every row.
+fn push_named(
+    alloc: Global,
+    flat: &mut Vec<Row>,
+    names: &Row,
+    name: &Text,
+    attributes: &Row,
+    rows: &[&Row],
+) -> Result<(), NoMemory>
+    ensures { OnOk result (flat.new.items ≡ flat.old.items ++ rows_behind names.now (rows_behind (name.now ∷ []) (pick_value (name.now ∷ []) (attributes.now, map (λ r. r.now) rows.now)))) }
+{
+    let wanted = one(alloc, name)?;
+    let names = with_name(alloc, names, name)?;
+    push_all_picked(alloc, flat, &names, &wanted, attributes, rows)?;
+    Ok(())
 }
 
 fn one_empty(alloc: Global) -> Result<Vec<Row>, NoMemory>
