@@ -1,4 +1,4 @@
-use Rattle.std.proofs.Common.{◌≡◌, ◌++◌, ◌∷◌, [], ap, sym, ◌∙◌, map}
+use Rattle.std.proofs.Common.{◌++◌, ◌∷◌, [], ap, ◌∙◌, map}
 use Rattle.ss_text.specs.Texts.{Row}
 use Rattle.sheets.specs.Sheets.{SheetValue}
 use Rattle.fold_op.specs.Flat.{pick_value}
