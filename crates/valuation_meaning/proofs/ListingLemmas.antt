@@ -1,8 +1,10 @@
 -- The facts of the valuations that begin with given elements, one declaration on.
-use Rattle.std.proofs.Common.{◌≡◌, ◌+◌, ℕ, Bool, List, [], ◌∷◌, ◌++◌, Some, None, drop, length, map, refl, sym, ap, ◌∙◌, append-nil, length-append}
-use Rattle.std.specs.Prelude.{filter, flat_map, option_to_list, slice_get, if◌then◌else◌}
+use Rattle.std.proofs.Common.{◌≡◌, ◌+◌, ℕ, Bool, List, [], ◌∷◌, ◌++◌, Some, None, drop, length, map, refl, sym, ap, ◌∙◌, append-nil, length-append, append_assoc, take, ◌-◌, Option, arith}
+use Rattle.std.specs.Prelude.{filter, flat_map, option_to_list, option_map, option_copied, slice_get, IfSome, if◌then◌else◌}
 use Rattle.std.proofs.lemmas.List.{map-append}
 use Rattle.std.proofs.lemmas.List.Elements.{filter-append}
+use Rattle.std.proofs.Math.Seq.{take-append_seam}
+use Rattle.std.proofs.lemmas.List.Concat.{flat_map-append}
 use Rattle.ss_text.specs.Texts.{Text}
 use Rattle.schema_model.specs.Catalogue.{CatalogueValue}
 use Rattle.view_def.specs.declared.typed.Place.{Place}
@@ -10,7 +12,14 @@ use Rattle.view_def.specs.declared.typed.Range.{Range}
 use Rattle.view_def.specs.declared.typed.Range.TheVariants as range
 use Rattle.view_def.specs.Query.{Query}
 use Rattle.flow_law.specs.Facts.{Fact}
-use Rattle.valuation_meaning.specs.Elements.{Element, A_text, Valuation, cell_at, elements}
+use Rattle.schema_model.specs.Catalogue.{RelationValue}
+use Rattle.schema_model.specs.States.{RelationState, plain_relation}
+use denote.Ref.{Bor}
+use Rattle.std.specs.List.{range_with_len}
+use Rattle.std.proofs.lemmas.List.FromFn.{map-range_with_len_more}
+use Rattle.valuation_meaning.specs.Early.{AliasesAgree}
+use Rattle.valuation_meaning.proofs.AliasLemmas.{no_alias}
+use Rattle.valuation_meaning.specs.Elements.{Element, A_text, A_row, Valuation, cell_at, relation_at, all_rows, elements}
 use Rattle.valuation_meaning.specs.Terms.{value_of}
 use Rattle.valuation_meaning.specs.Valuations.{assignments, counts, valuations}
 use Rattle.valuation_meaning.specs.Meaning.{fact_of, facts}
@@ -62,6 +71,38 @@ facts_of_one c q v begun e old new is enough added =
     added ∙ ap (λ (w : Valuation). old ++ facts_after c q w (drop (length w) q.decls)) is
     ∙ ap (λ n. old ++ facts_after c q (v ++ e ∷ []) (drop n q.decls)) (length-append v (e ∷ []))
     ∙ ap (λ (fs : List Fact). old ++ fs) (sym (append-nil (facts_after c q (v ++ e ∷ []) (drop (length v + 1) q.decls))) ∙ sym enough)
+
+-- all rows of a relation, where the next declaration is of its tuples
+module _ (c : CatalogueValue) (q : Query) (v : Valuation) (db rel : Place) (here : Some (range.Tuples db rel) ≡ slice_get q.decls (length v)) where
+  pub rows_enough : (o : Option (Bor RelationState)) → option_map plain_relation (option_copied o) ≡ relation_at c v db rel → IfSome o (λ r. AreEnough c q v (all_rows (plain_relation r.now)))
+  rows_enough None is = tt
+  rows_enough (Some r) is = rw (← is) at (all_enough c q v (range.Tuples db rel) here)
+
+  pub rows_agree : (o : Option (Bor RelationState)) → AliasesAgree q v → IfSome o (λ _. (e : Element) → AliasesAgree q (v ++ e ∷ []))
+  rows_agree None agree = tt
+  rows_agree (Some r) agree = λ e. no_alias c q v e (range.Tuples db rel) agree here (λ j a h. absurd (cc))
+
+-- the elements before one that was put last, and is out again
+pub popped : (v left all : Valuation) (e : Element) (count : ℕ) → all ≡ v ++ e ∷ [] → count ≡ length all → left ≡ take (count - 1) all → left ≡ v
+popped v left all e count is size taken =
+    taken ∙ ap (λ k. take (k - 1) all) size ∙ ap (λ (w : Valuation). take (length w - 1) w) is
+    ∙ ap (λ k. take k (v ++ e ∷ [])) (omega (arith, length-append v (e ∷ []))) ∙ take-append_seam v (e ∷ [])
+
+-- the facts that are listed with one row more
+pub facts_of_row : (c : CatalogueValue) (q : Query) (v begun : Valuation) (r : RelationValue) (n : ℕ) (e : Element) (old listed new : List Fact) → begun ≡ v ++ e ∷ [] → e ≡ A_row r n
+    → listed ≡ old ++ flat_map (λ (e : Element). facts_after c q (v ++ e ∷ []) (drop (length v + 1) q.decls)) (map (A_row r) (range_with_len 0 n))
+    → new ≡ listed ++ facts_after c q begun (drop (length begun) q.decls)
+    → new ≡ old ++ flat_map (λ (e : Element). facts_after c q (v ++ e ∷ []) (drop (length v + 1) q.decls)) (map (A_row r) (range_with_len 0 (n + 1)))
+facts_of_row c q v begun r n e old listed new is row before added =
+    let facts = λ (e : Element). facts_after c q (v ++ e ∷ []) (drop (length v + 1) q.decls) in
+    added ∙ ap (λ (w : Valuation). listed ++ facts_after c q w (drop (length w) q.decls)) is
+    ∙ ap (λ m. listed ++ facts_after c q (v ++ e ∷ []) (drop m q.decls)) (length-append v (e ∷ []))
+    ∙ ap (λ (w : Element). listed ++ facts w) row
+    ∙ ap (λ (fs : List Fact). fs ++ facts (A_row r n)) before
+    ∙ ap (λ (fs : List Fact). (old ++ flat_map facts (map (A_row r) (range_with_len 0 n))) ++ fs) (sym (append-nil (facts (A_row r n))))
+    ∙ append_assoc old (flat_map facts (map (A_row r) (range_with_len 0 n))) (facts (A_row r n) ++ [])
+    ∙ ap (λ (fs : List Fact). old ++ fs) (sym (flat_map-append facts (map (A_row r) (range_with_len 0 n)) (A_row r n ∷ [])))
+    ∙ ap (λ (es : List Element). old ++ flat_map facts es) (sym (map-range_with_len_more (A_row r) 0 n n (omega arith)))
 
 -- all facts
 pub facts_after_all : (c : CatalogueValue) (q : Query) → facts_after c q [] (drop 0 q.decls) ≡ facts c q

@@ -4,6 +4,8 @@ ghost use Rattle.view_def.specs.Conditions.{condition_of};
 ghost use Rattle.view_def.specs.Query.{query_of};
 ghost use Rattle.fact_tables.specs.Borrowed.{cell_value};
 ghost use Rattle.view_def.specs.Terms.{terms_of_filter};
+ghost use Rattle.schema_model.specs.States.{plain_relation};
+ghost use Rattle.valuation_meaning.specs.Elements.{Element, all_rows};
 ghost use Rattle.valuation_meaning.specs.Terms.{value_of, are_defined};
 ghost use Rattle.valuation_meaning.specs.Valuations.{counts, meets};
 ghost use Rattle.valuation_meaning.specs.Meaning.{given, term_of, values_of, cell_of_reading, fact_of, facts};
@@ -17,13 +19,13 @@ use crate::early::{EarlyMember, EarlyTerm, early_members, early_terms, fails_mem
 use crate::element::Element;
 use crate::indexes::Indexes;
 use crate::lookups::{Lookup, looked_up, lookup_for, lookups};
-use crate::ranges::elements;
+use crate::ranges::{elements, relation_at};
 use crate::truth::truth;
 use crate::value::{cell_at, place_text, value_of};
 use bumpalo::Bump;
 use bumpalo::collections::into_bump_slice;
 use fact_tables::{Fact, Key, Label};
-use schema_model::Catalogue;
+use schema_model::{Catalogue, Relation};
 use ss_text::{NoMemory, Text};
 use std::alloc::Global;
 use view_def::{Cond, Place, Range, Term, View};
@@ -178,6 +180,23 @@ impl<'a> Source<'a> {
         Ok(found)
     }
 
+    /// The relation whose rows are the elements of the next declaration, where this is of tuples that are not looked up.
+    /// They need no list of elements.
+    fn all_rows_of(&self, valuation: &[Element<'a>], range: &'a Range) -> Option<&'a Relation>
+        requires agree { AliasesAgree (query_of self.now.view.now) valuation.now }
+        requires range { Some range.now ≡ slice_get self.now.view.now.decls.items (length valuation.now) }
+        ensures enough { IfSome result (λ r. AreEnough self.now.catalogue.now.databases (query_of self.now.view.now) valuation.now (all_rows (plain_relation r.now))) }
+        ensures agree { IfSome result (λ _. (e : Element) → AliasesAgree (query_of self.now.view.now) (valuation.now ++ e ∷ [])) }
+    {
+        let Range::Tuples(db, rel) = range else {
+            return None;
+        };
+        if lookup_for(&self.lookups, valuation.len()).is_some() {
+            return None;
+        }
+        relation_at(self.catalogue, valuation, db, rel)
+    }
+
     /// The element of the next declaration, an alias, if it has one. It needs no list of one element.
     fn aliased(
         &self,
@@ -226,6 +245,15 @@ impl<'a> Source<'a> {
             valuation.push(element)?;
             self.add_facts(alloc, indexes, valuation, facts)?;
             valuation.pop();
+            return Ok(());
+        }
+        if let Some(relation) = self.all_rows_of(valuation, range) {
+            let rows = relation.rows(alloc)?;
+            for (position, row) in rows.iter().enumerate() {
+                valuation.push(Element::of_row(relation, position, row))?;
+                self.add_facts(alloc, indexes, valuation, facts)?;
+                valuation.pop();
+            }
             return Ok(());
         }
         for element in self.candidates(alloc, indexes, valuation, range)? {
