@@ -1,8 +1,9 @@
 //! Runs of which one call fails: the first, the second, and so on, until none does.
 use crate::offices::A_TO_C;
-use crate::place::{File, failing_folders, holds, run_over, texts};
+use crate::place::{File, holds};
 use crate::row::{Want, unwanted};
-use outside::{MemFolders, MemSink, StoreFault, SureSource};
+use crate::world::{Calls, World};
+use outside::StoreFault;
 use std::alloc::Global;
 
 const SOURCE: &str = "category,dept,salFloor\nProf,cs,72000\nProf,math,65000\nAssoc,cs,60000\n";
@@ -118,55 +119,32 @@ const PRINTS: [(u8, Want); 4] = [
     (4, SHOWN),
 ];
 
-// What a run over these folders left that is not wanted.
-fn difference(
-    alloc: Global,
-    store: &mut MemFolders,
-    output: &mut MemSink,
-    want: &Want,
-) -> Result<&'static str, StoreFault> {
-    let words = texts(alloc, &["show", "AtoC"])?;
-    let mut input = SureSource::of(Vec::new(alloc));
-    let status = run_over(alloc, &words, store, &mut input, output);
-    if !holds(alloc, store, "sources/univ-A", &[("salInfo.csv", SOURCE)])? {
+// What a run left that is not wanted.
+fn difference(alloc: Global, world: &mut World, want: &Want) -> Result<&'static str, StoreFault> {
+    let status = world.run(alloc, &["show", "AtoC"])?;
+    if !holds(
+        alloc,
+        &mut world.store,
+        "sources/univ-A",
+        &[("salInfo.csv", SOURCE)],
+    )? {
         return Ok("the sources");
     }
-    unwanted(alloc, store, status, output.bytes(), want)
+    unwanted(alloc, &mut world.store, status, world.output.bytes(), want)
 }
 
-fn failing_read(alloc: Global, call: u8, want: &Want) -> Result<&'static str, StoreFault> {
-    let mut store = failing_folders(
-        alloc,
-        &FILES,
-        vec![in alloc; u64::from(call)]?,
-        Vec::new(alloc),
-    )?;
-    let mut output = MemSink::of(alloc, 4, Vec::new(alloc));
-    difference(alloc, &mut store, &mut output, want)
-}
-
-fn failing_write(alloc: Global, call: u8, want: &Want) -> Result<&'static str, StoreFault> {
-    let mut store = failing_folders(
-        alloc,
-        &FILES,
-        Vec::new(alloc),
-        vec![in alloc; u64::from(call)]?,
-    )?;
-    let mut output = MemSink::of(alloc, 4, Vec::new(alloc));
-    difference(alloc, &mut store, &mut output, want)
-}
-
-fn failing_print(alloc: Global, call: u8, want: &Want) -> Result<&'static str, StoreFault> {
-    let mut store = failing_folders(alloc, &FILES, Vec::new(alloc), Vec::new(alloc))?;
-    let mut output = MemSink::of(alloc, 4, vec![in alloc; u64::from(call)]?);
-    difference(alloc, &mut store, &mut output, want)
+fn failing(alloc: Global, calls: Calls, call: u8, want: &Want) -> Result<&'static str, StoreFault> {
+    let mut world = World::failing(alloc, &FILES, &[], 4, calls, call)?;
+    let found = difference(alloc, &mut world, want);
+    drop(world);
+    found
 }
 
 #[test]
 fn each_read_fails(rt: HostRuntime) -> Result<(), StoreFault> {
     for (call, want) in &READS {
         assert_eq!(rt;
-            failing_read(rt.alloc(), *call, want)?,
+            failing(rt.alloc(), Calls::Reads, *call, want)?,
             "nothing",
             "at {call}"
         );
@@ -178,7 +156,7 @@ fn each_read_fails(rt: HostRuntime) -> Result<(), StoreFault> {
 fn each_write_fails(rt: HostRuntime) -> Result<(), StoreFault> {
     for (call, want) in &WRITES {
         assert_eq!(rt;
-            failing_write(rt.alloc(), *call, want)?,
+            failing(rt.alloc(), Calls::Writes, *call, want)?,
             "nothing",
             "at {call}"
         );
@@ -190,7 +168,7 @@ fn each_write_fails(rt: HostRuntime) -> Result<(), StoreFault> {
 fn each_print_fails(rt: HostRuntime) -> Result<(), StoreFault> {
     for (call, want) in &PRINTS {
         assert_eq!(rt;
-            failing_print(rt.alloc(), *call, want)?,
+            failing(rt.alloc(), Calls::Prints, *call, want)?,
             "nothing",
             "at {call}"
         );

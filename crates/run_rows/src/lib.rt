@@ -34,3 +34,5 @@ mod saved;
 mod schemas;
 #[cfg(test)]
 mod sweeps;
+#[cfg(test)]
+mod world;

@@ -1,10 +1,9 @@
 //! Runs of `maintain` of which one call fails: the first, the second, and so on, until none does.
-ghost use Rattle.std.specs.Prelude.{◌<◌, All};
-
 use crate::offices::A_TO_C;
-use crate::place::{File, failing_folders, holds, run_over, texts};
+use crate::place::{File, holds};
 use crate::row::{Want, unwanted};
-use outside::{MemFolders, MemSink, MemSource, StoreFault};
+use crate::world::{Calls, World};
+use outside::StoreFault;
 use std::alloc::Global;
 
 const SOURCE: &str = "category,dept,salFloor\nProf,cs,72000\nProf,math,65000\nAssoc,cs,60000\n";
@@ -190,79 +189,56 @@ const INPUTS: [Failing; 6] = [
     (6, MORE_SOURCE, DONE),
 ];
 
-// What a run over these folders and this input left that is not wanted.
+// What a run left that is not wanted.
 fn difference(
     alloc: Global,
-    store: &mut MemFolders,
-    fails: Vec<u64>,
+    world: &mut World,
     source: &str,
     want: &Want,
-) -> Result<&'static str, StoreFault>
-    requires { All (λ k. k < 18446744073709551615) fails.items }
-{
-    let words = texts(alloc, &["maintain", "AtoC"])?;
-    let mut input = MemSource::of(texts(alloc, &LINES)?, fails);
-    let mut output = MemSink::of(alloc, 7, Vec::new(alloc));
-    let status = run_over(alloc, &words, store, &mut input, &mut output);
-    if !holds(alloc, store, "sources/univ-A", &[("salInfo.csv", source)])? {
+) -> Result<&'static str, StoreFault> {
+    let status = world.run(alloc, &["maintain", "AtoC"])?;
+    if !holds(
+        alloc,
+        &mut world.store,
+        "sources/univ-A",
+        &[("salInfo.csv", source)],
+    )? {
         return Ok("the sources");
     }
-    unwanted(alloc, store, status, output.bytes(), want)
+    unwanted(alloc, &mut world.store, status, world.output.bytes(), want)
 }
 
-fn failing_read(alloc: Global, failing: &Failing) -> Result<&'static str, StoreFault> {
+fn failing_at(alloc: Global, calls: Calls, failing: &Failing) -> Result<&'static str, StoreFault> {
     let (call, source, want) = failing;
-    let mut store = failing_folders(
-        alloc,
-        &FILES,
-        vec![in alloc; u64::from(*call)]?,
-        Vec::new(alloc),
-    )?;
-    difference(alloc, &mut store, Vec::new(alloc), source, want)
+    let mut world = World::failing(alloc, &FILES, &LINES, 7, calls, *call)?;
+    let found = difference(alloc, &mut world, source, want);
+    drop(world);
+    found
 }
 
-fn failing_write(alloc: Global, failing: &Failing) -> Result<&'static str, StoreFault> {
-    let (call, source, want) = failing;
-    let mut store = failing_folders(
-        alloc,
-        &FILES,
-        Vec::new(alloc),
-        vec![in alloc; u64::from(*call)]?,
-    )?;
-    difference(alloc, &mut store, Vec::new(alloc), source, want)
-}
-
-fn failing_input(alloc: Global, failing: &Failing) -> Result<&'static str, StoreFault> {
-    let (call, source, want) = failing;
-    let mut store = failing_folders(alloc, &FILES, Vec::new(alloc), Vec::new(alloc))?;
-    difference(
-        alloc,
-        &mut store,
-        vec![in alloc; u64::from(*call)]?,
-        source,
-        want,
-    )
-}
-
-// How a run ends of which a call that prints fails: its status, or 100 where its output is no front of the whole.
-fn failing_print(alloc: Global, call: u8) -> Result<u8, StoreFault> {
-    let words = texts(alloc, &["maintain", "AtoC"])?;
-    let mut store = failing_folders(alloc, &FILES, Vec::new(alloc), Vec::new(alloc))?;
-    let mut input = MemSource::of(texts(alloc, &LINES)?, Vec::new(alloc));
-    let mut output = MemSink::of(alloc, 7, vec![in alloc; u64::from(call)]?);
-    let status = run_over(alloc, &words, &mut store, &mut input, &mut output);
-    if ENDED.as_bytes().starts_with(output.bytes()) {
+// How a run ends: its status, or 100 where its output is no front of the whole.
+fn end_of(alloc: Global, world: &mut World) -> Result<u8, StoreFault> {
+    let status = world.run(alloc, &["maintain", "AtoC"])?;
+    if ENDED.as_bytes().starts_with(world.output.bytes()) {
         Ok(status.number())
     } else {
         Ok(100)
     }
 }
 
+// How a run ends of which a call that prints fails.
+fn failing_print(alloc: Global, call: u8) -> Result<u8, StoreFault> {
+    let mut world = World::failing(alloc, &FILES, &LINES, 7, Calls::Prints, call)?;
+    let end = end_of(alloc, &mut world);
+    drop(world);
+    end
+}
+
 #[test]
 fn each_read_fails(rt: HostRuntime) -> Result<(), StoreFault> {
     for failing in &READS {
         assert_eq!(rt;
-            failing_read(rt.alloc(), failing)?,
+            failing_at(rt.alloc(), Calls::Reads, failing)?,
             "nothing",
             "at {}",
             failing.0
@@ -275,7 +251,7 @@ fn each_read_fails(rt: HostRuntime) -> Result<(), StoreFault> {
 fn each_write_fails(rt: HostRuntime) -> Result<(), StoreFault> {
     for failing in &WRITES {
         assert_eq!(rt;
-            failing_write(rt.alloc(), failing)?,
+            failing_at(rt.alloc(), Calls::Writes, failing)?,
             "nothing",
             "at {}",
             failing.0
@@ -288,7 +264,7 @@ fn each_write_fails(rt: HostRuntime) -> Result<(), StoreFault> {
 fn each_read_of_the_input_fails(rt: HostRuntime) -> Result<(), StoreFault> {
     for failing in &INPUTS {
         assert_eq!(rt;
-            failing_input(rt.alloc(), failing)?,
+            failing_at(rt.alloc(), Calls::Input, failing)?,
             "nothing",
             "at {}",
             failing.0

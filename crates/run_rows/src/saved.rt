@@ -1,12 +1,11 @@
 //! Runs of `maintain` that save the sources: what their files and folders are afterwards.
-ghost use Rattle.std.specs.Prelude.{◌<◌, All};
-
 use crate::answered::first_difference;
 use crate::offices::{A, A_TO_B, A_TO_C, ALL, B};
-use crate::place::{File, failing_folders, run_over, texts};
+use crate::place::{File, folders, run_over, text, texts};
 use crate::row::{Row, Want};
+use crate::world::{Calls, World};
 use outside::{Folders, StoreFault, SureSink, SureSource};
-use ss_text::Text;
+use ss_text::{NoMemory, Text};
 use std::alloc::Global;
 
 // A row comes, an attribute gets another name and keeps its place, and a database another name.
@@ -98,30 +97,26 @@ fn databases_after(
     lines: &str,
 ) -> Result<Vec<Text>, StoreFault> {
     let words = texts(alloc, words)?;
-    let mut store = failing_folders(alloc, files, Vec::new(alloc), Vec::new(alloc))?;
+    let sources = text(alloc, "sources")?;
     let mut input = SureSource::of(texts(alloc, &[lines])?);
     let mut output = SureSink::of(alloc, 5);
+    let mut store = folders(alloc, files)?;
     let _ = run_over(alloc, &words, &mut store, &mut input, &mut output);
-    let sources = Text::of(alloc, b"sources")?;
     store.subfolders(alloc, &sources)
 }
 
 // The status of a run of which one call that writes fails.
 fn status_at(
     alloc: Global,
-    call: u64,
+    call: u8,
     words: &[&str],
     files: &[File],
-    lines: &str,
-) -> Result<u8, StoreFault>
-    requires { call < 18446744073709551615 }
-{
-    let words = texts(alloc, words)?;
-    let mut store = failing_folders(alloc, files, Vec::new(alloc), vec![in alloc; call]?)?;
-    let mut input = SureSource::of(texts(alloc, &[lines])?);
-    let mut output = SureSink::of(alloc, 5);
-    let status = run_over(alloc, &words, &mut store, &mut input, &mut output);
-    Ok(status.number())
+    line: &str,
+) -> Result<u8, NoMemory> {
+    let mut world = World::failing(alloc, files, &[line], 5, Calls::Writes, call)?;
+    let status = world.run(alloc, words);
+    drop(world);
+    Ok(status?.number())
 }
 
 #[test]

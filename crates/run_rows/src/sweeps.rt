@@ -1,11 +1,10 @@
 //! Sweeps: of a run the first call of one kind fails, then the second, and so on, until the run ends as it does where
 //! none fails. What it prints before is a front of what it prints then, and a second run over the same folders makes
 //! good what it left.
-ghost use Rattle.std.specs.Prelude.{◌<◌, All};
-
 use crate::offices::{A, A_TO_B, A_TO_C, B, B_TO_A};
-use crate::place::{File, failing_folders, run_over, texts};
-use outside::{MemFolders, MemSink, MemSource, StoreFault, SureSink, SureSource};
+use crate::place::{File, run_over, texts};
+use crate::world::{Calls, World};
+use outside::{MemFolders, StoreFault, SureSink, SureSource};
 use ss_top::Status;
 use std::alloc::Global;
 
@@ -102,15 +101,6 @@ const RUNS: [Swept; 7] = [
     },
 ];
 
-// Which calls fail: those that read the folders or change them, those that read the input, and those that print.
-#[derive(Clone, Copy)]
-enum Calls {
-    Reads,
-    Writes,
-    Input,
-    Prints,
-}
-
 const KINDS: [Calls; 4] = [Calls::Reads, Calls::Writes, Calls::Input, Calls::Prints];
 
 // How a run ended: as it does where no call fails, stopped by one and made good, or otherwise.
@@ -146,60 +136,28 @@ fn made_good(alloc: Global, run: &Swept, store: &mut MemFolders) -> Result<End, 
     }
 }
 
-// Runs with calls that fail, at most one of each kind.
-fn end_of(
-    alloc: Global,
-    run: &Swept,
-    store: &mut MemFolders,
-    input: &mut MemSource,
-    output: &mut MemSink,
-) -> Result<End, StoreFault> {
-    let words = texts(alloc, run.words)?;
-    let status = run_over(alloc, &words, store, input, output);
+// Runs where one call fails.
+fn end_of(alloc: Global, run: &Swept, world: &mut World) -> Result<End, StoreFault> {
+    let status = world.run(alloc, run.words)?;
     let printed = run.printed.as_bytes();
-    if status.number() == run.status && output.bytes() == printed {
+    if status.number() == run.status && world.output.bytes() == printed {
         return Ok(End::Done);
     }
     if status != Status::ReadFault && status != Status::WriteFault {
         return Ok(End::Unwanted("the status"));
     }
-    if !printed.starts_with(output.bytes()) {
+    if !printed.starts_with(world.output.bytes()) {
         return Ok(End::Unwanted("the output"));
     }
-    made_good(alloc, run, store)
+    made_good(alloc, run, &mut world.store)
 }
 
 // Runs with the call of this number failing.
 fn failing(alloc: Global, run: &Swept, calls: Calls, call: u8) -> Result<End, StoreFault> {
-    let fails = vec![in alloc; u64::from(call)]?;
-    let none = Vec::new(alloc);
-    let pieces = texts(alloc, run.pieces)?;
-    match calls {
-        Calls::Reads => {
-            let mut store = failing_folders(alloc, run.files, fails, none)?;
-            let mut input = MemSource::of(pieces, Vec::new(alloc));
-            let mut output = MemSink::of(alloc, 9, Vec::new(alloc));
-            end_of(alloc, run, &mut store, &mut input, &mut output)
-        }
-        Calls::Writes => {
-            let mut store = failing_folders(alloc, run.files, none, fails)?;
-            let mut input = MemSource::of(pieces, Vec::new(alloc));
-            let mut output = MemSink::of(alloc, 9, Vec::new(alloc));
-            end_of(alloc, run, &mut store, &mut input, &mut output)
-        }
-        Calls::Input => {
-            let mut store = failing_folders(alloc, run.files, none, Vec::new(alloc))?;
-            let mut input = MemSource::of(pieces, fails);
-            let mut output = MemSink::of(alloc, 9, Vec::new(alloc));
-            end_of(alloc, run, &mut store, &mut input, &mut output)
-        }
-        Calls::Prints => {
-            let mut store = failing_folders(alloc, run.files, none, Vec::new(alloc))?;
-            let mut input = MemSource::of(pieces, Vec::new(alloc));
-            let mut output = MemSink::of(alloc, 9, fails);
-            end_of(alloc, run, &mut store, &mut input, &mut output)
-        }
-    }
+    let mut world = World::failing(alloc, run.files, run.pieces, 9, calls, call)?;
+    let end = end_of(alloc, run, &mut world);
+    drop(world);
+    end
 }
 
 // The first call at which what is left is not what is wanted.
