@@ -241,5 +241,5 @@ fn relation_file(alloc: Global, rel: &Text) -> Result<Text, NoMemory>
 {
     let mut name = Vec::from_slice(alloc, rel.as_slice())?;
     name.extend_from_slice(b".csv")?;
-    Ok(Text::from(name))
+    Text::of_vec(name)
 }

@@ -79,7 +79,7 @@ pub(crate) fn text_of(writer: Writer<Vec<u8>>) -> Result<Text, NoMemory>
     ensures { IfOk result (λ text. text ≡ written writer) }
 {
     match writer.into_inner() {
-        Ok(bytes) => Ok(Text::from(bytes)),
+        Ok(bytes) => Text::of_vec(bytes),
         Err(_) => Err(NoMemory),
     }
 }

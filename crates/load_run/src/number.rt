@@ -48,5 +48,5 @@ pub(crate) fn number_behind(alloc: Global, front: &[u8], number: u128) -> Result
     let mut buffer = Buffer::new();
     let mut bytes = Vec::from_slice(alloc, front)?;
     bytes.extend_from_slice(buffer.format(number).as_bytes())?;
-    Ok(Text::from(bytes))
+    Text::of_vec(bytes)
 }

@@ -52,7 +52,7 @@ fn ten_lines(alloc: Global, ten: u32) -> Result<Text, NoMemory>
 {
     let mut bytes = Vec::new(alloc);
     push_ten(&mut bytes, ten)?;
-    Ok(Text::from(bytes))
+    Text::of_vec(bytes)
 }
 
 // All lines, ten for each read.

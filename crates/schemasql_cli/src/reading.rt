@@ -1,8 +1,8 @@
 //! What a file holds.
-ghost use Rattle.std.specs.Prelude.{◌≤◌, length, IfOk, IfSome};
+ghost use Rattle.std.specs.Prelude.{◌≡◌, ◌≤◌, length, IfOk, IfSome};
 
 use crate::paths::{file_path, is_missing};
-use ss_text::Text;
+use ss_text::{NoMemory, Text};
 use std::fs::{self, File, Metadata, OpenFile};
 use std::io::{Error, ErrorKind, Read};
 use std::rt::Files;
@@ -59,7 +59,7 @@ fn contents<R: Files + AllocGlobal>(rt: &R, file: R::File) -> Result<Text, Error
     if bytes.len() as u64 >= TOO_LONG {
         return Err(Error::from(ErrorKind::FileTooLarge));
     }
-    Ok(Text::from(bytes))
+    text_of(bytes)
 }
 
 // The first bytes of an open file, at most so many.
@@ -71,7 +71,17 @@ fn first_bytes<R: Files + AllocGlobal>(rt: &R, file: R::File, most: usize) -> Re
     let mut front = file.take(most as u64);
     front.read_to_end(&mut bytes)?;
     bytes.truncate(most);
-    Ok(Text::from(bytes))
+    text_of(bytes)
+}
+
+// The text with these bytes.
+fn text_of(bytes: Vec<u8>) -> Result<Text, Error>
+    ensures { IfOk result (λ text. text ≡ bytes.items) }
+{
+    match Text::of_vec(bytes) {
+        Ok(text) => Ok(text),
+        Err(NoMemory) => Err(Error::from(ErrorKind::OutOfMemory)),
+    }
 }
 
 // The length of a regular file that may be read.

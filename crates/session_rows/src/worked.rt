@@ -140,7 +140,7 @@ fn script_text(alloc: Global, script: &Script) -> Result<Text, NoMemory> {
     for row in &rows {
         put_row(&mut bytes, row)?;
     }
-    Ok(Text::from(bytes))
+    Text::of_vec(bytes)
 }
 
 // What a change answers.

@@ -4,3 +4,4 @@ pub mod Places
 pub mod Label
 pub mod Whole
 pub mod Keys
+mod Held

@@ -9,6 +9,7 @@ mod label;
 mod memory;
 mod number;
 mod row;
+mod short;
 mod steps;
 mod text;
 

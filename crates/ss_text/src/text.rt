@@ -8,28 +8,34 @@ ghost use Rattle.std.specs.Cmp.Lexicographic.{slice_cmp, nat_list_eq_equiv, nat_
 ghost use Rattle.std.specs.Cmp.Rules.{hashing};
 
 use crate::NoMemory;
-use smallvec::SmallVec;
+use crate::short::{SHORT, Short};
 use std::alloc::Global;
 use std::cmp::Ordering;
 use std::hash::{Hash, Hasher};
 use std::marker::Model;
 
-// Most cells are this short, and need no allocation of their own.
-const SHORT: usize = 16;
-
 /// A byte string, which contracts see as the list of its bytes. Equality, order and hash are those of
 /// the bytes, a prefix being less.
 #[derive(Clone, Debug, Drop)]
 pub struct Text {
-    bytes: SmallVec<u8, SHORT>,
+    alloc: Global,
+    held: Held,
+}
+
+// The vector is boxed, so that a text takes 24 bytes: most texts are short, and there are many.
+#[derive(Clone, Debug, Drop)]
+enum Held {
+    Few(Short),
+    Many(Box<Vec<u8>>),
 }
 
 impl Model for Text {
     ghost use Rattle.std.specs.Prelude.{List, ℕ};
+    ghost use Rattle.ss_text.specs.Held.{held_bytes};
 
     ghost Value = { List ℕ };
 
-    ghost view = { λ t. t.bytes.items };
+    ghost view = { λ t. held_bytes t.held };
 }
 
 impl Text {
@@ -38,7 +44,8 @@ impl Text {
         ensures { result ≡ [] }
     {
         Text {
-            bytes: SmallVec::new(alloc),
+            alloc,
+            held: Held::Few(Short::empty()),
         }
     }
 
@@ -46,33 +53,42 @@ impl Text {
     pub fn of(alloc: Global, bytes: &[u8]) -> Result<Text, NoMemory>
         ensures { IfOk result (λ text. text ≡ bytes.now) }
     {
-        Ok(Text {
-            bytes: SmallVec::from_slice(alloc, bytes)?,
-        })
+        let held = if bytes.len() <= SHORT {
+            Held::Few(Short::of(bytes))
+        } else {
+            Held::Many(Box::new(alloc, Vec::from_slice(alloc, bytes)?)?)
+        };
+        Ok(Text { alloc, held })
+    }
+
+    /// The text with the bytes of a vector, which are not copied where they are many.
+    pub fn of_vec(bytes: Vec<u8>) -> Result<Text, NoMemory>
+        ensures { IfOk result (λ text. text ≡ bytes.items) }
+    {
+        let alloc = *bytes.allocator();
+        let held = if bytes.len() <= SHORT {
+            Held::Few(Short::of(&bytes))
+        } else {
+            Held::Many(Box::new(alloc, bytes)?)
+        };
+        Ok(Text { alloc, held })
     }
 
     /// Its bytes.
     pub fn as_slice(&self) -> &[u8]
         ensures { result.now ≡ self.now }
     {
-        self.bytes.as_slice()
+        match &self.held {
+            Held::Few(bytes) => bytes.as_slice(),
+            Held::Many(bytes) => bytes.as_slice(),
+        }
     }
 
     /// An equal text.
     pub fn copy(&self) -> Result<Text, NoMemory>
         ensures { IfOk result (λ text. text ≡ self.now) }
     {
-        Text::of(*self.bytes.allocator(), self.as_slice())
-    }
-}
-
-impl From<Vec<u8>> for Text {
-    ghost from_gives = { λ bytes text. text ≡ bytes.items };
-
-    fn from(bytes: Vec<u8>) -> Text {
-        Text {
-            bytes: SmallVec::from_vec(bytes),
-        }
+        Text::of(self.alloc, self.as_slice())
     }
 }
 

@@ -28,7 +28,7 @@ fn rows_text(alloc: Global, rows: &[Row]) -> Result<Text, NoMemory> {
     for row in rows {
         put_row(&mut bytes, row)?;
     }
-    Ok(Text::from(bytes))
+    Text::of_vec(bytes)
 }
 
 /// The lines of a script.

@@ -40,7 +40,7 @@ pub(crate) fn into_text(writer: Writer<Vec<u8>>) -> Result<Text, NoMemory>
     ensures { (ended : List ℕ) → IsWithin ended [] writer → IfOk result (λ text. text ≡ ended) }
 {
     match writer.into_inner() {
-        Ok(bytes) => Ok(Text::from(bytes)),
+        Ok(bytes) => Text::of_vec(bytes),
         Err(_) => Err(NoMemory),
     }
 }

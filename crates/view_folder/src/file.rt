@@ -26,7 +26,7 @@ pub(crate) fn file_name(alloc: Global, label: &Text) -> Result<Text, NoMemory>
 {
     let mut name = Vec::from_slice(alloc, label.as_slice())?;
     name.extend_from_slice(b".csv")?;
-    Ok(Text::from(name))
+    Text::of_vec(name)
 }
 
 /// The folder of a view's database.
