@@ -16,6 +16,9 @@ PROGRAM = HERE.parent / "crates" / "engine_bench" / "out" / "engine_bench"
 FEW = 1_000
 MANY = 999_000
 
+# So many changes come first, by which a relation is linked: its second delete links it.
+FIRST = 10
+
 
 def program():
     """The program that is measured: the first argument, or the one that the kit builds."""
@@ -30,11 +33,11 @@ def least(word, kept, changes, count):
 
 
 def time_of_change(word, kept, changes, count):
-    """The seconds of one change behind the first two, which are those of a run with all changes less those of a run with
-    two, by the number of the others: a relation is linked once, at the first."""
-    begun = least(word, kept, 2, count(kept, 2))
+    """The seconds of one change behind the first ones, which are those of a run with all changes less those of a run with
+    the first, by the number of the others."""
+    begun = least(word, kept, FIRST, count(kept, FIRST))
     changed = least(word, kept, changes, count(kept, changes))
-    each = (changed.seconds - begun.seconds) / (changes - 2)
+    each = (changed.seconds - begun.seconds) / (changes - FIRST)
     report(f"{word}, {kept} rows, {changes} changes", changed, f"; one change {each * 1e6:.2f} us")
     return each
 

@@ -18,6 +18,9 @@ FEW, MANY = 1_000, 999_960
 COLUMNS = 8
 JOINED_FEW, JOINED_MANY = 1_000, 100_000
 
+# So many changes come first, by which the relation is linked: its second delete links it.
+FIRST = 10
+
 
 def tall(rows):
     """A header, and so many rows of a key, one of eight values and a number, in no order."""
@@ -99,15 +102,15 @@ def ended(words, root, given=None):
 
 
 def time_of_change(name, rows, count):
-    """The seconds of one change behind the first two, which are those of a run with all changes less those of a run with
-    two, by the number of the others: both link the rows of the relation once, and save it and the view at the end. With a
-    run without changes, and a run of `show`."""
+    """The seconds of one change behind the first ones, which are those of a run with all changes less those of a run with
+    the first, by the number of the others: both link the rows of the relation once, and save it and the view at the end.
+    With a run without changes, and a run of `show`."""
     view, sources, row, _ = VIEWS[name]
     with folder() as root:
         for relation, lines in sources(rows).items():
             write(root, f"sources/g/{relation}.csv", lines)
         write(root, "defs/V.ssql", view)
-        first = write(root, "first", in_turn(rows, 2, row))
+        first = write(root, "first", in_turn(rows, FIRST, row))
         given = write(root, "changes", in_turn(rows, count, row))
         shown = ended([program(), "show", "V"], root)
         words = [program(), "maintain", "V"]
@@ -116,11 +119,11 @@ def time_of_change(name, rows, count):
         changed = ended(words, root, given)
         if name == "values to columns":
             grouped = ended(words, root, write(root, "groups", in_groups(rows, count, row)))
-            each = (grouped.seconds - begun.seconds) / (count - 2)
+            each = (grouped.seconds - begun.seconds) / (count - FIRST)
             report(f"maintain, {name}, {rows} rows, {count} changes in groups of ten", grouped, f"; one change {each * 1e6:.2f} us")
-    each = (changed.seconds - begun.seconds) / (count - 2)
+    each = (changed.seconds - begun.seconds) / (count - FIRST)
     once = begun.seconds - opened.seconds
-    report(f"maintain, {name}, {rows} rows, {count} changes", changed, f"; one change {each * 1e6:.2f} us, the first two and the last sync {once:.2f} s")
+    report(f"maintain, {name}, {rows} rows, {count} changes", changed, f"; one change {each * 1e6:.2f} us, the first {FIRST} and the last sync {once:.2f} s")
     return each, opened, shown
 
 
@@ -165,9 +168,9 @@ def time_in_sqlite(rows, count):
                     yield f"delete from r where k = '{key}' and d = '{column}' and v = '1';\n"
 
         words = ["sqlite3", ":memory:"]
-        begun = least_of_sqlite(words, root, write(root, "begun.sql", [*head, *statements(2), "commit;\n"]))
+        begun = least_of_sqlite(words, root, write(root, "begun.sql", [*head, *statements(FIRST), "commit;\n"]))
         changed = least_of_sqlite(words, root, write(root, "changed.sql", [*head, *statements(count), "commit;\n"]))
-    each = (changed.seconds - begun.seconds) / (count - 2)
+    each = (changed.seconds - begun.seconds) / (count - FIRST)
     report(f"sqlite3, triggers, {rows} rows, {count} changes", changed, f"; one change {each * 1e6:.2f} us")
     return each
 
