@@ -1,14 +1,13 @@
 -- Texts compare as their fronts do.
-use Rattle.std.proofs.Common.{◌≡◌, ◌+◌, ◌*◌, ◌<◌, ◌≤◌, ◌%◌, ◌-◌, ◌∙◌, ◌⊎◌, inl, inr, ℕ, zero, suc, [], ◌∷◌, length, drop, take, get_or, refl, Bool, true, false, sym, ap, subst, arith}
+use Rattle.std.proofs.Common.{◌≡◌, ◌+◌, ◌*◌, ◌<◌, ◌≤◌, ◌%◌, ◌∙◌, ◌⊎◌, inl, inr, ℕ, zero, suc, [], ◌∷◌, length, drop, take, get_or, refl, Bool, true, false, sym, ap, subst, arith}
 use Rattle.std.specs.declared.cmp.Ordering.{Ordering}
 use Rattle.std.specs.declared.cmp.Ordering.TheVariants.{Less, Equal, Greater}
 use Rattle.std.specs.Ordering.{nat_cmp, ordering_then, ordering_reverse}
 use Rattle.std.specs.Cmp.{nat_cmp_is}
 use Rattle.std.specs.Cmp.Lexicographic.{nat_list_cmp_total}
 use Rattle.std.proofs.lemmas.Bool.{cases_order, ltb-true, ltb-false}
-use Rattle.std.proofs.lemmas.List.{take_all}
 use Rattle.ss_text.specs.Texts.{Text, Row, text_cmp, row_cmp}
-use Rattle.fact_tables.specs.Front.{with_bytes, front_of, is_whole, AreDigits, first_of, next_of, holds_first}
+use Rattle.fact_tables.specs.Front.{with_bytes, front_of, is_whole, AreDigits, first_of, next_of, holds_first, shortened, BeginsWith}
 
 less_is : (x y : ℕ) → x < y → nat_cmp x y ≡ Less
 less_is x y lt = sym (nat_cmp_is x y Less lt)
@@ -182,12 +181,11 @@ rows_by_next (s ∷ ss) (t ∷ ts) hj hk nj nk e r is differs = by_whole (is_who
 -- where the fronts hold their first texts, rows compare as what is behind these
 pub behind_fronts : (j k : Row) → AreDigits 7 (first_of j) → AreDigits 7 (first_of k) → AreDigits 7 (next_of j) → AreDigits 7 (next_of k) → 0 < length j → 0 < length k
     → front_of 7 (first_of j) ≡ front_of 7 (first_of k) → front_of 7 (next_of j) ≡ front_of 7 (next_of k) → holds_first (front_of 7 (first_of j)) (front_of 7 (next_of j)) ≡ true
-    → row_cmp (take (length j - 1) (drop 1 j)) (take (length k - 1) (drop 1 k)) ≡ row_cmp j k
+    → row_cmp (drop 1 j) (drop 1 k) ≡ row_cmp j k
 behind_fronts [] k hj hk nj nk some others e next holds = absurd (omega (arith, some))
 behind_fronts (s ∷ ss) [] hj hk nj nk some others e next holds = absurd (omega (arith, others))
 behind_fronts (s ∷ ss) (t ∷ ts) hj hk nj nk some others e next holds =
-    rw (take_all (length (s ∷ ss) - 1) ss (omega arith), take_all (length (t ∷ ts) - 1) ts (omega arith))
-    (sym (ap (λ o. ordering_then o (row_cmp ss ts)) (by_whole (is_whole 7 (front_of 7 s)) refl)))
+    sym (ap (λ o. ordering_then o (row_cmp ss ts)) (by_whole (is_whole 7 (front_of 7 s)) refl))
   where
     by_whole : (b : Bool) → is_whole 7 (front_of 7 s) ≡ b → text_cmp s t ≡ Equal
     by_whole true whole = whole_same 7 (omega arith) s t hj hk e (ltb-true (front_of 7 s % 256) 8 whole)
@@ -197,3 +195,28 @@ behind_fronts (s ∷ ss) (t ∷ ts) hj hk nj nk some others e next holds =
         let same : front_of 7 (drop 7 s) ≡ front_of 7 (drop 7 t) = rw (next_long s ss long, next_long t ts also) at next in
         sym (behind_same 7 (omega arith) s t hj hk e (ltb-false (front_of 7 s % 256) 8 long))
         ∙ whole_same 7 (omega arith) (drop 7 s) (drop 7 t) (rw (next_long s ss long) at nj) (rw (next_long t ts also) at nk) same (ltb-true (front_of 7 (drop 7 s) % 256) 8 whole)
+
+-- texts that begin alike compare as what is behind that
+behind_beginning : (p s t : Text) → take (length p) s ≡ p → take (length p) t ≡ p → text_cmp (drop (length p) s) (drop (length p) t) ≡ text_cmp s t
+behind_beginning [] s t hs ht = refl
+behind_beginning (b ∷ p) [] t hs ht = absurd (cc)
+behind_beginning (b ∷ p) (a ∷ s) [] hs ht = absurd (cc)
+behind_beginning (b ∷ p) (a ∷ s) (c ∷ t) hs ht =
+    behind_beginning p s t (ap (drop 1) hs) (ap (drop 1) ht)
+    ∙ sym (ap (λ o. ordering_then o (text_cmp s t)) (equal_is a c (ap (λ xs. get_or xs 0 0) hs ∙ sym (ap (λ xs. get_or xs 0 0) ht))))
+
+-- and so do rows whose first texts do
+pub rows_behind : (p : Text) (j k : Row) → BeginsWith p j → BeginsWith p k → row_cmp (shortened (length p) j) (shortened (length p) k) ≡ row_cmp j k
+rows_behind p [] [] hj hk = refl
+rows_behind p [] (t ∷ ts) hj hk = refl
+rows_behind p (s ∷ ss) [] hj hk = refl
+rows_behind p (s ∷ ss) (t ∷ ts) hj hk = ap (λ o. ordering_then o (row_cmp ss ts)) (behind_beginning p s t hj hk)
+
+-- a shortened row has as many texts, of which all but the first are the same
+pub shortened_len : (n : ℕ) (j : Row) → length (shortened n j) ≡ length j
+shortened_len n [] = refl
+shortened_len n (s ∷ ss) = refl
+
+pub shortened_rest : (n : ℕ) (j : Row) → drop 1 (shortened n j) ≡ drop 1 j
+shortened_rest n [] = refl
+shortened_rest n (s ∷ ss) = refl

@@ -4,4 +4,5 @@ pub mod ShortLemmas
 pub mod ValueLemmas
 pub mod TableRows
 pub mod OrderLemmas
+pub mod OrderedValues
 pub mod ColumnLemmas

@@ -1,11 +1,11 @@
 -- The bytes of a text that its front holds whole.
-use Rattle.std.proofs.Common.{◌≡◌, ◌+◌, ◌*◌, ◌/◌, ◌%◌, ◌^◌, ◌<◌, ◌≤◌, ◌∙◌, ℕ, zero, suc, List, [], ◌∷◌, ◌++◌, length, drop, take, get_or, refl, false, sym, ap, arith}
+use Rattle.std.proofs.Common.{◌≡◌, ◌+◌, ◌*◌, ◌/◌, ◌%◌, ◌^◌, ◌<◌, ◌≤◌, ◌∙◌, ℕ, zero, suc, List, [], ◌∷◌, ◌++◌, length, drop, take, get_or, refl, true, false, sym, ap, arith}
 use Rattle.std.specs.Prelude.{min, slice_get, Some}
 use Rattle.std.specs.Int.{w64, to_be_bytes}
 use Rattle.std.proofs.lemmas.Bool.{ltb-false}
 use native.Mathlib.Nat.{div-div-eq-div-mul, pow-suc}
 use Rattle.ss_text.specs.Texts.{Text, Row}
-use Rattle.fact_tables.specs.Front.{with_bytes, front_of, is_whole, AreDigits, first_of, next_of}
+use Rattle.fact_tables.specs.Front.{with_bytes, front_of, is_whole, AreDigits, first_of, next_of, shortened}
 
 -- the first n bytes, 0 for each that is missing
 padded : ℕ → Text → List ℕ
@@ -94,3 +94,23 @@ module _ (row : Row) (h : AreDigits 7 (first_of row)) (some : 0 < length row) wh
   both_bytes next long whole =
       ap (λ xs. Some (take 7 (to_be_bytes w64 (front_of 7 (first_of row))) ++ xs)) (short_bytes (next_of row) next whole ∙ rest_is row long)
       ∙ ap Some (seven_bytes (first_of row) h (ltb-false (front_of 7 (first_of row) % 256) 8 long)) ∙ first_is row some
+
+-- the second text of a row, by the next front
+second_bytes : (row : Row) → 1 < length row → AreDigits 7 (next_of row) → is_whole 7 (front_of 7 (first_of row)) ≡ true → front_of 7 (next_of row) % 256 < 8
+    → Some (take (front_of 7 (next_of row) % 256) (to_be_bytes w64 (front_of 7 (next_of row)))) ≡ slice_get row 1
+second_bytes [] some next held whole = absurd (omega (arith, some))
+second_bytes (s ∷ []) some next held whole = absurd (omega (arith, some))
+second_bytes (s ∷ t ∷ ts) some next held whole =
+    let is : next_of (s ∷ t ∷ ts) ≡ t = rw held refl in
+    ap Some (short_bytes (next_of (s ∷ t ∷ ts)) next whole ∙ is)
+
+-- also where the front is of what stands behind a beginning
+pub second_behind : (n : ℕ) (row : Row) → 1 < length row → AreDigits 7 (next_of (shortened n row)) → is_whole 7 (front_of 7 (first_of (shortened n row))) ≡ true → front_of 7 (next_of (shortened n row)) % 256 < 8
+    → Some (take (front_of 7 (next_of (shortened n row)) % 256) (to_be_bytes w64 (front_of 7 (next_of (shortened n row))))) ≡ slice_get row 1
+second_behind n [] some next held whole = absurd (omega (arith, some))
+second_behind n (s ∷ ts) some next held whole = second_bytes (drop n s ∷ ts) some next held whole
+
+-- and where the beginning is empty
+pub shortened_by_none : (beginning : Text) (row : Row) → beginning ≡ [] → shortened (length beginning) row ≡ row
+shortened_by_none beginning [] h = refl
+shortened_by_none beginning (s ∷ ts) h = rw h refl

@@ -1,5 +1,5 @@
 -- The front of a text: a number by which most texts compare.
-use Rattle.std.specs.Prelude.{ℕ, zero, suc, ◌+◌, ◌*◌, ◌%◌, ◌<◌, nat_lt, Bool, ◌||◌, if◌then◌else◌, [], ◌∷◌, length, drop, min, slice_index_or}
+use Rattle.std.specs.Prelude.{ℕ, zero, suc, ◌≡◌, ◌+◌, ◌*◌, ◌%◌, ◌<◌, nat_lt, Bool, ◌||◌, if◌then◌else◌, [], ◌∷◌, length, drop, take, min, slice_index_or}
 use Rattle.ss_text.specs.Texts.{Text, Row}
 
 -- a number with these bytes behind it as digits, 0 for each that is missing
@@ -33,3 +33,12 @@ next_of (t ∷ ts) = if is_whole 7 (front_of 7 t) then first_of ts else drop 7 t
 -- whether the fronts of a row have all bytes of its first text
 abbrev pub holds_first : ℕ → ℕ → Bool
 holds_first front next = is_whole 7 front || is_whole 7 next
+
+-- a row without so many of the first bytes of its first text
+abbrev pub shortened : ℕ → Row → Row
+shortened n [] = []
+shortened n (t ∷ ts) = drop n t ∷ ts
+
+-- whether the first text of a row begins with this one
+abbrev pub BeginsWith : Text → Row → Type 0
+BeginsWith beginning row = take (length beginning) (first_of row) ≡ beginning

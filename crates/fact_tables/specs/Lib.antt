@@ -1,3 +1,4 @@
 pub mod Borrowed
 pub mod Cells
 pub mod Front
+pub mod Held

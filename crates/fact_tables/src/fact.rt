@@ -104,12 +104,22 @@ impl<'a> Fact<'a> {
     pub(crate) fn copy_key(&self, alloc: Global) -> Result<Row, NoMemory>
         ensures { IfOk result (λ key. key ≡ self.now.key) }
     {
-        let labels = self.key.labels();
-        let mut cells = Vec::with_capacity(alloc, labels.len())?;
-        for label in labels {
-            cells.push(label.text().copy()?)?;
+        self.key.values().copy(alloc)
+    }
+
+    /// Compares from now on by what stands behind this beginning of the first value of its key, if that begins so.
+    pub(crate) fn stand_behind(&mut self, beginning: &'a Text)
+        ensures { self.new ≡ self.old }
+    {
+        self.key.stand_behind(beginning);
+    }
+
+    /// The bytes of the first value of its key.
+    pub(crate) fn first(&self) -> &'a [u8] {
+        match self.key.values().at(0) {
+            Some(first) => first.as_slice(),
+            None => &[],
         }
-        Ok(Row::of(cells))
     }
 
     /// Whether it has the key of another.

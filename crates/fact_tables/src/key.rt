@@ -1,63 +1,95 @@
 //! The key of a fact.
-ghost use Rattle.std.specs.Prelude.{◌≡◌, refl, Some, IfSome, slice_get};
+ghost use Rattle.std.specs.Prelude.{◌≡◌, [], drop, refl, Some, IsTrue, IfSome, slice_get};
 ghost use Rattle.std.specs.Ordering.{eq_by_cmp, as_partial_cmp};
 ghost use Rattle.std.specs.Cmp.{partial_equiv_from_equiv, partial_order_from_agreeing_total};
 ghost use Rattle.std.specs.Cmp.Lexicographic.{lists_equiv, lists_total, lists_ties, nat_list_eq_equiv, nat_list_cmp_total, texts_ties};
 ghost use Rattle.ss_text.specs.Texts.{text_cmp, row_cmp, row_eq};
-ghost use Rattle.fact_tables.specs.Front.{front_of, AreDigits, first_of, next_of, holds_first};
+ghost use Rattle.fact_tables.specs.Front.{front_of, AreDigits, first_of, next_of, holds_first, shortened, BeginsWith};
 
 use crate::front::front_of;
-use crate::label::{Label, is_whole};
+use crate::label::is_whole;
 use crate::short::ShortFirst;
+use crate::values::Values;
+use ss_text::{NoMemory, Row, Text};
+use std::alloc::Global;
 use std::cmp::Ordering;
 use std::marker::Model;
 
 /// The values of the constant columns, which contracts see as a row; equality and order are those of the row. Two
 /// fronts stand beside them, so that most comparisons read no value: that of the first value, and that of what is
 /// next, which is the second value where the first front holds all of the first one, and else the rest of that.
+/// Where the first values of many keys begin alike, the fronts are those of what stands behind that beginning.
 #[derive(Drop)]
 pub struct Key<'a> {
+    beginning: &'a Text,
     front: u64,
     next: u64,
-    labels: &'a [Label<'a>],
+    values: Values<'a>,
 }
 
 impl<'a> Model for Key<'a> {
-    ghost use Rattle.std.specs.Prelude.{◌≡◌};
+    ghost use Rattle.std.specs.Prelude.{◌≡◌, length, take};
     ghost use Rattle.ss_text.specs.Texts.{Row};
-    ghost use Rattle.fact_tables.specs.Front.{front_of, AreDigits, first_of, next_of};
+    ghost use Rattle.fact_tables.specs.Front.{front_of, AreDigits, first_of, next_of, shortened, BeginsWith};
 
     ghost Value = { Row };
 
-    ghost view = { λ k. k.labels.now };
+    ghost view = { λ k. k.values };
 
-    ghost invariant = { λ k. record {
-      front : k.front ≡ front_of 7 (first_of k.labels.now);
-      next : k.next ≡ front_of 7 (next_of k.labels.now);
-      digits : AreDigits 7 (first_of k.labels.now);
-      next_digits : AreDigits 7 (next_of k.labels.now);
+    ghost invariant = { λ k. let row = shortened (length k.beginning.now) k.values in record {
+      begins : BeginsWith k.beginning.now k.values;
+      front : k.front ≡ front_of 7 (first_of row);
+      next : k.next ≡ front_of 7 (next_of row);
+      digits : AreDigits 7 (first_of row);
+      next_digits : AreDigits 7 (next_of row);
     } };
 }
 
 impl<'a> Key<'a> {
-    /// The key with these values.
-    pub fn of(labels: &'a [Label<'a>]) -> Key<'a>
-        ensures { result ≡ labels.now }
+    /// The key with these values. The text is empty.
+    pub fn of(values: Values<'a>, empty: &'a Text) -> Key<'a>
+        requires { empty.now ≡ [] }
+        ensures { result ≡ values.entry }
     {
         Key {
-            front: first_front(labels),
-            next: next_front(labels),
-            labels,
+            beginning: empty,
+            front: front_of(first_behind(&values, 0)),
+            next: front_of(next_behind(&values, 0)),
+            values,
         }
     }
 
-    /// The bytes of its first value, where there is one and the fronts hold them all. No value is read.
-    pub(crate) fn first(&self) -> Option<ShortFirst>
+    /// Compares from now on by what stands behind this beginning, if its first value begins so.
+    pub(crate) fn stand_behind(&mut self, beginning: &'a Text)
+        ensures { self.new ≡ self.old }
+    {
+        let skipped = beginning.as_slice().len();
+        if begins_with(&self.values, beginning) {
+            self.front = front_of(first_behind(&self.values, skipped));
+            self.next = front_of(next_behind(&self.values, skipped));
+            self.beginning = beginning;
+        }
+    }
+
+    /// The bytes of the value at a place, from 0, where the fronts hold them all. It is not read.
+    pub(crate) fn short(&self, place: usize) -> Option<ShortFirst>
+        ensures { IfSome result (λ short. Some short ≡ slice_get self.now place) }
+    {
+        match place {
+            0 => self.short_first(),
+            1 => self.short_second(),
+            _ => self.values.short(place),
+        }
+    }
+
+    // The bytes of the first value, where the fronts hold them all.
+    fn short_first(&self) -> Option<ShortFirst>
         ensures { IfSome result (λ first. Some first ≡ slice_get self.now 0) }
     {
-        if self.labels.is_empty() {
-            None
-        } else if is_whole(self.front) {
+        if !self.beginning.as_slice().is_empty() || self.values.count() == 0 {
+            return None;
+        }
+        if is_whole(self.front) {
             Some(ShortFirst::of(self.front))
         } else if is_whole(self.next) {
             Some(ShortFirst::of_both(self.front, self.next))
@@ -66,11 +98,35 @@ impl<'a> Key<'a> {
         }
     }
 
+    // The bytes of the second value, where the next front holds them all.
+    fn short_second(&self) -> Option<ShortFirst>
+        ensures { IfSome result (λ second. Some second ≡ slice_get self.now 1) }
+    {
+        if self.values.count() < 2 || !is_whole(self.front) {
+            return None;
+        }
+        if is_whole(self.next) {
+            Some(ShortFirst::of(self.next))
+        } else {
+            None
+        }
+    }
+
     /// Its values.
-    pub(crate) fn labels(&self) -> &'a [Label<'a>]
+    pub(crate) fn values(&self) -> &Values<'a>
         ensures { result.now ≡ self.now }
     {
-        self.labels
+        &self.values
+    }
+}
+
+// Whether the first value begins with this text.
+fn begins_with(values: &Values<'_>, beginning: &Text) -> bool
+    ensures { IsTrue result → BeginsWith beginning.now values.now }
+{
+    match values.at(0) {
+        Some(first) => first.as_slice().starts_with(beginning.as_slice()),
+        None => false,
     }
 }
 
@@ -81,52 +137,43 @@ fn holds_first(front: u64, next: u64) -> bool
     is_whole(front) || is_whole(next)
 }
 
-// The order of rows with these fronts: where they hold the first value, that one is not read.
-fn order_behind(front: u64, next: u64, labels: &[Label<'_>], others: &[Label<'_>]) -> Ordering
-    requires front { front ≡ front_of 7 (first_of labels.now) }
-    requires same { front ≡ front_of 7 (first_of others.now) }
-    requires next { next ≡ front_of 7 (next_of labels.now) }
-    requires next_same { next ≡ front_of 7 (next_of others.now) }
-    requires digits { AreDigits 7 (first_of labels.now) }
-    requires others { AreDigits 7 (first_of others.now) }
-    requires next_digits { AreDigits 7 (next_of labels.now) }
-    requires next_others { AreDigits 7 (next_of others.now) }
-    ensures { result ≡ row_cmp labels.now others.now }
+// The bytes behind so many first ones.
+fn behind(bytes: &[u8], skipped: usize) -> &[u8]
+    ensures { result.now ≡ drop skipped bytes.now }
 {
-    if holds_first(front, next)
-        && let [_, rest @ ..] = labels
-        && let [_, rest_of_others @ ..] = others
-    {
-        rest.cmp(rest_of_others)
+    &bytes[skipped.min(bytes.len())..]
+}
+
+// The bytes of the first value behind so many, or none.
+fn first_behind<'a>(values: &Values<'a>, skipped: usize) -> &'a [u8]
+    ensures { result.now ≡ first_of (shortened skipped values.now) }
+{
+    match values.at(0) {
+        Some(first) => behind(first.as_slice(), skipped),
+        None => &[],
+    }
+}
+
+// The bytes of the second value, or none.
+fn second<'a>(values: &Values<'a>) -> &'a [u8]
+    ensures { result.now ≡ first_of (drop 1 values.now) }
+{
+    match values.at(1) {
+        Some(second) => second.as_slice(),
+        None => &[],
+    }
+}
+
+// The bytes next to the front of the first value behind so many.
+fn next_behind<'a>(values: &Values<'a>, skipped: usize) -> &'a [u8]
+    ensures { result.now ≡ next_of (shortened skipped values.now) }
+{
+    let first = first_behind(values, skipped);
+    if is_whole(front_of(first)) {
+        second(values)
     } else {
-        labels.cmp(others)
+        behind(first, 7)
     }
-}
-
-// The front of the first value, or of an empty text.
-fn first_front(labels: &[Label<'_>]) -> u64
-    ensures front { result ≡ front_of 7 (first_of labels.now) }
-    ensures digits { AreDigits 7 (first_of labels.now) }
-{
-    match labels {
-        [first, ..] => first.front(),
-        [] => 0,
-    }
-}
-
-// The front of what is next.
-fn next_front(labels: &[Label<'_>]) -> u64
-    ensures front { result ≡ front_of 7 (next_of labels.now) }
-    ensures digits { AreDigits 7 (next_of labels.now) }
-{
-    let [first, others @ ..] = labels else {
-        return 0;
-    };
-    if is_whole(first.front()) {
-        return first_front(others);
-    }
-    let bytes = first.text().as_slice();
-    front_of(&bytes[bytes.len().min(7)..])
 }
 
 impl PartialEq for Key<'_> {
@@ -162,10 +209,20 @@ impl Ord for Key<'_> {
 
     ghost matches_eq = { lists_ties text_cmp texts_ties };
 
+    // Where the fronts are the same and hold the first values, those are not read.
     fn cmp(&self, other: &Self) -> Ordering {
+        if self.beginning != other.beginning {
+            return self.values.order(&other.values);
+        }
         match self.front.cmp(&other.front) {
             Ordering::Equal => match self.next.cmp(&other.next) {
-                Ordering::Equal => order_behind(self.front, self.next, self.labels, other.labels),
+                Ordering::Equal
+                    if holds_first(self.front, self.next)
+                        && self.values.count() > 0
+                        && other.values.count() > 0 => {
+                    self.values.order_behind_first(&other.values)
+                }
+                Ordering::Equal => self.values.order(&other.values),
                 differs => differs,
             },
             differs => differs,

@@ -5,6 +5,7 @@
 //! read without tables. It knows nothing of where facts come from.
 #![tactic(auto)]
 
+mod beginning;
 mod fact;
 mod front;
 mod key;
@@ -16,7 +17,9 @@ mod rows;
 mod short;
 mod table_facts;
 mod tables;
+mod values;
 
+pub use beginning::share_beginning;
 pub use fact::Fact;
 pub use key::Key;
 pub use label::Label;
@@ -25,3 +28,4 @@ pub use ordered::{OrderedFacts, order_facts};
 pub use rows::{FactRow, Rows};
 pub use short::{Short, ShortFirst};
 pub use table_facts::TableFacts;
+pub use values::Values;

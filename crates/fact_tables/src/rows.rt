@@ -89,18 +89,29 @@ impl<'f, 'a> FactRow<'f, 'a> {
         }
     }
 
-    /// Its key.
-    pub fn key(&self) -> &'a [Label<'a>]
-        ensures { result.now ≡ self.now.0 }
+    /// How many texts its key has.
+    pub fn key_len(&self) -> usize
+        ensures { result ≡ length self.now.0 }
     {
-        self.key.labels()
+        self.key.values().count()
     }
 
-    /// The bytes of the first text of its key, where it is short. That text is then not read.
-    pub fn first(&self) -> Option<ShortFirst>
-        ensures { IfSome result (λ first. Some first ≡ slice_get self.now.0 0) }
+    /// The bytes of the text of its key at a place, from 0.
+    pub fn key_text(&self, place: usize) -> &'a [u8]
+        requires { place < length self.now.0 }
+        ensures { result.now ≡ slice_index_or self.now.0 place [] }
     {
-        self.key.first()
+        match self.key.values().at(place) {
+            Some(value) => value.as_slice(),
+            None => &[],
+        }
+    }
+
+    /// The bytes of the text of its key at a place, where it is short. That text is then not read.
+    pub fn short(&self, place: usize) -> Option<ShortFirst>
+        ensures { IfSome result (λ short. Some short ≡ slice_get self.now.0 place) }
+    {
+        self.key.short(place)
     }
 
     /// How many cells it has.

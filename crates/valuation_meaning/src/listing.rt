@@ -24,7 +24,7 @@ use crate::truth::truth;
 use crate::value::{cell_at, place_text, value_of};
 use bumpalo::Bump;
 use bumpalo::collections::into_bump_slice;
-use fact_tables::{Fact, Key, Label};
+use fact_tables::{Fact, Key, Label, Values};
 use schema_model::{Catalogue, Relation};
 use ss_text::{NoMemory, Text};
 use std::alloc::Global;
@@ -38,8 +38,33 @@ fn text_of<'a>(valuation: &[Element<'a>], place: &'a Place, empty: &'a Text) -> 
     place_text(valuation, place).unwrap_or(empty)
 }
 
-/// The values of terms, where each of them is defined.
+/// The values of terms, where each of them is defined. One or two need no room in the arena.
 fn values_of<'a>(
+    arena: &'a Bump<Global>,
+    valuation: &[Element<'a>],
+    terms: &'a [Term],
+) -> Result<Option<Values<'a>>, NoMemory>
+    ensures { IfOk result (λ ts. ts
+        ≡ (if are_defined (value_of valuation.now) terms.now then Some (values_of (value_of valuation.now) terms.now) else None)) }
+{
+    match terms {
+        [term] => match value_of(valuation, term) {
+            Some(value) => Ok(Some(Values::one(value))),
+            None => Ok(None),
+        },
+        [first, second] => match (value_of(valuation, first), value_of(valuation, second)) {
+            (Some(first), Some(second)) => Ok(Some(Values::two(first, second))),
+            _ => Ok(None),
+        },
+        terms => match labels_of(arena, valuation, terms)? {
+            Some(labels) => Ok(Some(Values::many(labels))),
+            None => Ok(None),
+        },
+    }
+}
+
+/// The values of terms as labels, where each of them is defined.
+fn labels_of<'a>(
     arena: &'a Bump<Global>,
     valuation: &[Element<'a>],
     terms: &'a [Term],
@@ -111,7 +136,7 @@ fn fact_of<'a>(
         return Ok(None);
     };
     let label = Label::of(text_of(valuation, &view.label, empty));
-    Ok(Some(Fact::of(label, Key::of(key), cell)))
+    Ok(Some(Fact::of(label, Key::of(key, empty), cell)))
 }
 
 /// The declaration at a place.
@@ -249,6 +274,7 @@ impl<'a> Source<'a> {
         }
         if let Some(relation) = self.all_rows_of(valuation, range) {
             let rows = relation.rows(alloc)?;
+            facts.reserve(rows.len())?;
             for (position, row) in rows.iter().enumerate() {
                 valuation.push(Element::of_row(relation, position, row))?;
                 self.add_facts(alloc, indexes, valuation, facts)?;

@@ -85,10 +85,8 @@ module _ (ended : List ℕ) (fields : Row) where
   all_put w texts i all h = subst (λ (fs : Row). IsWithin ended fs w) (ap (λ (ts : Row). fields ++ ts) (take_all i texts all)) h
 
 -- a record: its constant part up to a place, its dynamic part, and the rest
-pub spliced_parts : (spot split : ℕ) (constant dynamic : Row) → split ≡ min spot (length constant) → (take split constant ++ dynamic) ++ take (length constant - split) (drop split constant) ≡ spliced (Some spot) constant dynamic
-spliced_parts spot split constant dynamic is =
-    ap (λ (rest : Row). (take split constant ++ dynamic) ++ rest) (take_all (length constant - split) (drop split constant) (omega (arith, length-drop split constant)))
-    ∙ by_size (ltb spot (length constant)) refl
+pub spliced_split : (spot split : ℕ) (constant dynamic : Row) → split ≡ min spot (length constant) → (take split constant ++ dynamic) ++ drop split constant ≡ spliced (Some spot) constant dynamic
+spliced_split spot split constant dynamic is = by_size (ltb spot (length constant)) refl
   where
     by_size : (b : Bool) → ltb spot (length constant) ≡ b → (take split constant ++ dynamic) ++ drop split constant ≡ spliced (Some spot) constant dynamic
     by_size true lt =
@@ -98,6 +96,11 @@ spliced_parts spot split constant dynamic is =
         let all : length constant ≤ split = omega (arith, is, ltb-false spot (length constant) ge) in
         let past : length constant ≤ spot = omega (arith, is, ltb-false spot (length constant) ge) in
         rw (take_all split constant all, take_all spot constant past, drop_all split constant all, drop_all spot constant past) refl
+
+pub spliced_parts : (spot split : ℕ) (constant dynamic : Row) → split ≡ min spot (length constant) → (take split constant ++ dynamic) ++ take (length constant - split) (drop split constant) ≡ spliced (Some spot) constant dynamic
+spliced_parts spot split constant dynamic is =
+    ap (λ (rest : Row). (take split constant ++ dynamic) ++ rest) (take_all (length constant - split) (drop split constant) (omega (arith, length-drop split constant)))
+    ∙ spliced_split spot split constant dynamic is
 
 -- the records of rows, the first of which is written
 module _ (spot : Option ℕ) (so_far all : List ℕ) where
@@ -134,17 +137,30 @@ module _ (ts : TablesValue) (label : Text) (i : ℕ) (p : Text × TableValue) (l
 pub no_table : (ts : TablesValue) (label : Text) (i : ℕ) → length ts ≤ i → table_of (drop i ts) label ≡ table_of ts label → None ≡ table_of ts label
 no_table ts label i past left = sym (ap (λ (rest : TablesValue). table_of rest label) (drop_all i ts past)) ∙ left
 
--- so many first texts of a key, the first of them by itself
-pub key_parts : (fields row : Row) (count : ℕ) (first : Text) → Some first ≡ slice_get row 0 → 0 < length (take count row)
-    → (fields ++ first ∷ []) ++ take (length (take count row) - 1) (drop 1 (take count row)) ≡ fields ++ take count row
-key_parts fields [] count first is some = absurd (cc)
-key_parts fields (t ∷ ts) zero first is some = absurd (omega (arith, some))
-key_parts fields (t ∷ ts) (suc n) first is some =
-    let same : first ≡ t = cc in
-    append_assoc fields (first ∷ []) _
-    ∙ ap (λ (rest : Row). fields ++ first ∷ rest) (take_all (length (t ∷ take n ts) - 1) (take n ts) (omega arith))
-    ∙ ap (λ (x : Text). fields ++ x ∷ take n ts) same
+-- no text of a row lies between a place and itself
+none_between : (n : ℕ) (row : Row) → drop n (take n row) ≡ []
+none_between zero row = refl
+none_between (suc n) [] = refl
+none_between (suc n) (t ∷ ts) = none_between n ts
 
-pub no_key : (ended : List ℕ) (fields labels : Row) (w : Writer (Vec ℕ)) → length labels < 1 → IsWithin ended fields w → IsWithin ended (fields ++ labels) w
-no_key ended fields [] w none h = none_put ended fields w h
-no_key ended fields (l ∷ ls) w none h = absurd (omega (arith, none))
+first_texts : (n : ℕ) (row : Row) → n < length row → take (suc n) row ≡ take n row ++ get_or row n [] ∷ []
+first_texts n [] within = absurd (omega (arith, within))
+first_texts zero (t ∷ ts) within = refl
+first_texts (suc n) (t ∷ ts) within = ap (λ (r : Row). t ∷ r) (first_texts n ts (omega (arith, within)))
+
+-- the texts from one place up to another, and one more
+one_more_between : (from n : ℕ) (row : Row) → from ≤ n → n < length row → drop from (take (suc n) row) ≡ drop from (take n row) ++ get_or row n [] ∷ []
+one_more_between zero n row ordered within = first_texts n row within
+one_more_between (suc from) zero row ordered within = absurd (omega (arith, ordered))
+one_more_between (suc from) (suc n) [] ordered within = absurd (omega (arith, within))
+one_more_between (suc from) (suc n) (t ∷ ts) ordered within = one_more_between from n ts (omega (arith, ordered)) (omega (arith, within))
+
+pub none_of_key : (ended : List ℕ) (fields row : Row) (n : ℕ) (w : Writer (Vec ℕ)) → IsWithin ended fields w → IsWithin ended (fields ++ drop n (take n row)) w
+none_of_key ended fields row n w h = rw (none_between n row) (none_put ended fields w h)
+
+pub more_of_key : (ended : List ℕ) (fields row : Row) (from n : ℕ) (w : Writer (Vec ℕ)) → from ≤ n → n < length row
+    → IsWithin ended ((fields ++ drop from (take n row)) ++ get_or row n [] ∷ []) w → IsWithin ended (fields ++ drop from (take (n + 1) row)) w
+more_of_key ended fields row from n w ordered within h =
+    let next : suc n ≡ n + 1 = omega arith in
+    subst (λ fs. IsWithin ended fs w)
+    (append_assoc fields (drop from (take n row)) _ ∙ ap (λ (r : Row). fields ++ r) (sym (one_more_between from n row ordered within)) ∙ ap (λ k. fields ++ drop from (take k row)) next) h

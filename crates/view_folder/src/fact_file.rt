@@ -1,5 +1,5 @@
 //! The file of a table whose facts are there.
-ghost use Rattle.std.specs.Prelude.{◌≡◌, ◌≢◌, ◌∷◌, ◌++◌, [], ℕ, List, IfOk, OnOk, ◌≤◌, length, take, option_map, option_copied};
+ghost use Rattle.std.specs.Prelude.{◌≡◌, ◌≢◌, ◌∷◌, ◌++◌, [], ℕ, List, IfOk, OnOk, ◌≤◌, ◌<◌, length, take, drop, slice_index_or, option_map, option_copied};
 ghost use Rattle.std.specs.List.{AllByRecursion};
 ghost use Rattle.ss_text.specs.Texts.{Row};
 ghost use Rattle.flow_law.specs.Tables.{table_of};
@@ -94,36 +94,48 @@ fn put_row(
     ensures { (ended : List ℕ) → IsWithin ended [] writer.old
         → OnOk result (IsWithin (ended ++ record_text (spliced spot row.now.0 row.now.1)) [] writer.new) }
 {
-    let len = row.key().len();
+    let len = row.key_len();
     let Some(spot) = spot else {
-        put_key(writer, row, len)?;
+        put_key(writer, row, 0, len)?;
         return end_record(writer);
     };
     let split = spot.min(len);
-    put_key(writer, row, split)?;
+    put_key(writer, row, 0, split)?;
     put_cells(writer, row)?;
-    put_labels(writer, &row.key()[split..])?;
+    put_key(writer, row, split, len)?;
     end_record(writer)
 }
 
-// Writes a field for each of so many first texts of the key of a row. A short first one is not read.
+// Writes a field for each text of the key of a row from one place up to another.
 fn put_key(
     writer: &mut Writer<Vec<u8>>,
     row: &FactRow<'_, '_>,
-    count: usize,
+    from: usize,
+    to: usize,
 ) -> Result<(), NoMemory>
-    requires { count ≤ length row.now.0 }
-    ensures { (ended : List ℕ) (fields : Row) → IsWithin ended fields writer.old → OnOk result (IsWithin ended (fields ++ take count row.now.0) writer.new) }
+    requires within { to ≤ length row.now.0 }
+    requires in_order { from ≤ to }
+    ensures { (ended : List ℕ) (fields : Row) → IsWithin ended fields writer.old → OnOk result (IsWithin ended (fields ++ drop from (take to row.now.0)) writer.new) }
 {
-    let labels = &row.key()[..count];
-    let Some(first) = row.first() else {
-        return put_labels(writer, labels);
-    };
-    let [_, others @ ..] = labels else {
-        return Ok(());
-    };
-    put_field(writer, first.as_slice())?;
-    put_labels(writer, others)
+    for place in from..to {
+        put_key_text(writer, row, place)?;
+    }
+    Ok(())
+}
+
+// Writes a field for a text of the key of a row. A short one is not read.
+fn put_key_text(
+    writer: &mut Writer<Vec<u8>>,
+    row: &FactRow<'_, '_>,
+    place: usize,
+) -> Result<(), NoMemory>
+    requires { place < length row.now.0 }
+    ensures { (ended : List ℕ) (fields : Row) → IsWithin ended fields writer.old → OnOk result (IsWithin ended (fields ++ slice_index_or row.now.0 place [] ∷ []) writer.new) }
+{
+    match row.short(place) {
+        Some(short) => put_field(writer, short.as_slice()),
+        None => put_field(writer, row.key_text(place)),
+    }
 }
 
 // Writes a field for each text.

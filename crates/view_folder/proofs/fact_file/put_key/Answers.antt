@@ -1,18 +1,18 @@
-use Rattle.std.proofs.Common.{take, subst}
-use Rattle.std.specs.Prelude.{OnOk}
+use Rattle.std.proofs.Common.{◌≡◌, ◌++◌, take, drop, subst, arith}
 use Rattle.view_folder.specs.Fields.{IsWithin}
-use Rattle.view_folder.proofs.FieldLemmas.{key_parts, no_key}
+use Rattle.view_folder.proofs.FieldLemmas.{none_of_key, more_of_key}
 use Rattle.view_folder.proofs.fact_file.put_key.Goals as goal
 
-pub returns-in_default : goal.returns-in_default
-returns-in_default c = λ ended fields h. rw c.key.ensures at (c.put_labels.ensures ended fields h)
+pub loop-place-init : goal.loop-place-init
+loop-place-init c = λ ended fields h. none_of_key ended fields c.args.row.now.0 c.args.from c.args.writer.now h
 
-pub returns-in_default-labels : goal.returns-in_default-labels
-returns-in_default-labels c = λ ended fields h. no_key ended fields (take c.args.count c.args.row.now.0) c.args.writer.now (rw c.key.ensures at c.in_default-labels.len_below) h
+pub loop-place-preserved : goal.loop-place-preserved
+loop-place-preserved c = λ ended fields h.
+    let key = c.args.row.now.0 in
+    let place = c.loop-place.place in
+    more_of_key ended fields key c.args.from place c.put_key_text.new.writer (omega (arith, c.loop-place.auto.place)) (omega (arith, c.loop-place-test.true, c.requires.within)) (c.in_ok-put_key_text.ensures ended (fields ++ drop c.args.from (take place key)) (c.loop-place.invariant ended fields h))
 
 pub returns : goal.returns
 returns c = λ ended fields h.
-    let put = c.in_ok-put_field.ensures ended fields h in
-    let rest = rw (c.as_slice.ensures, c.key.ensures) at (c.put_labels-2.ensures ended _ put) in
-    subst (λ fs. OnOk c.put_labels-2.result (IsWithin ended fs c.put_labels-2.new.writer))
-    (key_parts fields c.args.row.now.0 c.args.count c.in-Some.first c.in-Some.ensures (rw c.key.ensures at c.in-len1-up.len_at_least)) rest
+    let end : c.loop-place.place ≡ c.args.to = omega (arith, c.requires.in_order, c.loop-place-test.false, c.loop-place.auto.place) in
+    subst (λ n. IsWithin ended (fields ++ drop c.args.from (take n c.args.row.now.0)) c.loop-place.writer) end (c.loop-place.invariant ended fields h)
