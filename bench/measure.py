@@ -34,8 +34,12 @@ def write(root, path, lines):
     return target
 
 
+# So many bytes and lines at the end of an output are kept: what this process holds counts in what a run is said to need.
+LAST_BYTES, LAST_LINES = 4_000_000, 100
+
+
 class Run(NamedTuple):
-    """A run that ended: its seconds, those of all processors together, the megabytes at their most, the status, and the output's lines."""
+    """A run that ended: its seconds, those of all processors together, the megabytes at their most, the status, and the output's last lines."""
 
     seconds: float
     processors: float
@@ -57,8 +61,9 @@ def run(words, root, given=None):
         _, status, usage = os.wait4(child.pid, 0)
         seconds = time.perf_counter() - begun
         child.returncode = os.waitstatus_to_exitcode(status)
-        output.seek(0)
-        lines = output.read().decode(errors="replace").splitlines()
+        output.seek(0, os.SEEK_END)
+        output.seek(max(output.tell() - LAST_BYTES, 0))
+        lines = output.read().decode(errors="replace").splitlines()[-LAST_LINES:]
     return Run(seconds, usage.ru_utime + usage.ru_stime, usage.ru_maxrss / 1024, child.returncode, lines)
 
 
