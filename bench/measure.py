@@ -71,6 +71,11 @@ def report(name, ended, more=""):
     print(f"{name}: {ended.seconds:.2f} s, {ended.processors:.2f} s of processors, {ended.megabytes:.0f} MB{more}", flush=True)
 
 
+def least(runs):
+    """The one of the least time: other work on the machine makes a run longer, and none shorter."""
+    return min(runs, key=lambda ended: ended.seconds)
+
+
 def wanted(ended, status, last):
     """Stops where a run did not end as it should, since its time then says nothing."""
     if ended.status != status or ended.lines[-1:] != [last]:

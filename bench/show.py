@@ -8,7 +8,7 @@ usage: bench/show.py [PROGRAM]
 import shutil
 import sys
 
-from measure import folder, program, report, run, wanted, write
+from measure import folder, least, program, report, run, wanted, write
 
 ROWS = 1_000_000
 COLUMNS = 8
@@ -17,6 +17,9 @@ WIDE_COLUMNS = 5
 
 # What stands before the number of a key: keys of at most 7 bytes, of at most 10, and of more than 15 that begin alike.
 SHORT, MIDDLE, LONG = "", "key-", "department-of-"
+
+# Each figure is of the run of the least time of so many.
+RUNS = 3
 
 # The seconds that a program in C++ took for each view with the shortest keys, written by hand for it, on another machine:
 # the bound to come near.
@@ -44,7 +47,7 @@ def compare(name, what, shown, words, source, root):
     if not shutil.which("mlr"):
         print("mlr is not installed")
         return
-    other = run(["mlr", "--icsv", "--ocsv", *words, str(source)], root)
+    other = least(run(["mlr", "--icsv", "--ocsv", *words, str(source)], root) for _ in range(RUNS))
     if other.status != 0:
         sys.exit(f"mlr {what} ended with status {other.status}")
     wall = shown.seconds / other.seconds
@@ -54,8 +57,12 @@ def compare(name, what, shown, words, source, root):
 
 
 def show(root, name, what, synced):
-    """A run of `show`."""
-    shown = wanted(run([program(), "show", name], root), 0, f"synced\t{synced}")
+    """The run of `show` of the least time, each of which writes all files."""
+    runs = []
+    for _ in range(RUNS):
+        shutil.rmtree(f"{root}/views", ignore_errors=True)
+        runs.append(wanted(run([program(), "show", name], root), 0, f"synced\t{synced}"))
+    shown = least(runs)
     bound = f"; by hand in C++, on another machine, {BY_HAND[name]:.2f} s" if name in BY_HAND else ""
     report(f"show, {what}", shown, bound)
     return shown
@@ -74,7 +81,7 @@ def main():
                 compare("show", "cut, uniq and sort", shown, "cut -o -f k,d then uniq -a then sort -f k -f d".split(), source, root)
             shown = show(root, "C", f"values to columns, {keys}", 1)
             compare("show", "reshape -s", shown, ["reshape", "-s", "d,v"], source, root)
-            verified = wanted(run([program(), "verify", "C"], root), 0, "same\t1")
+            verified = least(wanted(run([program(), "verify", "C"], root), 0, "same\t1") for _ in range(RUNS))
             report("verify", verified, f"; {verified.seconds / shown.seconds:.2f} of the time of show")
             shown = show(root, "S", f"values to tables, {keys}", COLUMNS)
             compare("show", "split", shown, ["split", "-g", "d", "then", "nothing"], source, root)
