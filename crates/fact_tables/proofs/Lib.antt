@@ -1,5 +1,5 @@
 pub mod FactLemmas
-pub mod FrontLemmas
+pub mod NextLemmas
 pub mod ShortLemmas
 pub mod ValueLemmas
 pub mod TableRows

@@ -1,4 +1,4 @@
 pub mod Borrowed
 pub mod Cells
-pub mod Front
 pub mod Held
+pub mod Next

@@ -104,7 +104,7 @@ impl<'a> Fact<'a> {
     pub(crate) fn copy_key(&self, alloc: Global) -> Result<Row, NoMemory>
         ensures { IfOk result (λ key. key ≡ self.now.key) }
     {
-        self.key.values().copy(alloc)
+        self.key.copy(alloc)
     }
 
     /// Compares from now on by what stands behind this beginning of the first value of its key, if that begins so.

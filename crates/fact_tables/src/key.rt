@@ -1,19 +1,19 @@
 //! The key of a fact.
-ghost use Rattle.std.specs.Prelude.{◌≡◌, [], drop, refl, Some, IsTrue, IfSome, slice_get};
+ghost use Rattle.std.specs.Prelude.{◌≡◌, ◌<◌, [], length, drop, refl, Some, IsTrue, IfOk, IfSome, slice_get};
 ghost use Rattle.std.specs.Ordering.{eq_by_cmp, as_partial_cmp};
 ghost use Rattle.std.specs.Cmp.{partial_equiv_from_equiv, partial_order_from_agreeing_total};
 ghost use Rattle.std.specs.Cmp.Lexicographic.{lists_equiv, lists_total, lists_ties, nat_list_eq_equiv, nat_list_cmp_total, texts_ties};
 ghost use Rattle.ss_text.specs.Texts.{text_cmp, row_cmp, row_eq};
-ghost use Rattle.fact_tables.specs.Front.{front_of, AreDigits, first_of, next_of, holds_first, shortened, BeginsWith};
+ghost use Rattle.text_fronts.specs.Front.{front_of, AreDigits, first_of};
+ghost use Rattle.fact_tables.specs.Next.{next_of, holds_first, shortened, BeginsWith};
 
-use crate::front::front_of;
-use crate::label::is_whole;
 use crate::short::ShortFirst;
 use crate::values::Values;
 use ss_text::{NoMemory, Row, Text};
 use std::alloc::Global;
 use std::cmp::Ordering;
 use std::marker::Model;
+use text_fronts::{front_of, is_whole};
 
 /// The values of the constant columns, which contracts see as a row; equality and order are those of the row. Two
 /// fronts stand beside them, so that most comparisons read no value: that of the first value, and that of what is
@@ -30,7 +30,8 @@ pub struct Key<'a> {
 impl<'a> Model for Key<'a> {
     ghost use Rattle.std.specs.Prelude.{◌≡◌, length, take};
     ghost use Rattle.ss_text.specs.Texts.{Row};
-    ghost use Rattle.fact_tables.specs.Front.{front_of, AreDigits, first_of, next_of, shortened, BeginsWith};
+    ghost use Rattle.text_fronts.specs.Front.{front_of, AreDigits, first_of};
+    ghost use Rattle.fact_tables.specs.Next.{next_of, shortened, BeginsWith};
 
     ghost Value = { Row };
 
@@ -109,6 +110,32 @@ impl<'a> Key<'a> {
             Some(ShortFirst::of(self.next))
         } else {
             None
+        }
+    }
+
+    /// A copy of its values. Short ones are not read.
+    pub(crate) fn copy(&self, alloc: Global) -> Result<Row, NoMemory>
+        ensures { IfOk result (λ row. row ≡ self.now) }
+    {
+        let count = self.values.count();
+        let mut cells = Vec::with_capacity(alloc, count)?;
+        for place in 0..count {
+            cells.push(self.copy_at(alloc, place)?)?;
+        }
+        Ok(Row::of(cells))
+    }
+
+    // A copy of the value at a place.
+    fn copy_at(&self, alloc: Global, place: usize) -> Result<Text, NoMemory>
+        requires { place < length self.now }
+        ensures { IfOk result (λ value. Some value ≡ slice_get self.now place) }
+    {
+        if let Some(short) = self.short(place) {
+            return Text::of(alloc, short.as_slice());
+        }
+        match self.values.at(place) {
+            Some(value) => value.copy(),
+            None => Ok(Text::empty(alloc)),
         }
     }
 

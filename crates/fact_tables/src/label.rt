@@ -3,13 +3,13 @@ ghost use Rattle.std.specs.Prelude.{◌≡◌, refl, Some, bytes_eq, IfSome};
 ghost use Rattle.std.specs.Ordering.{nat_cmp};
 ghost use Rattle.std.specs.Cmp.{partial_equiv_from_equiv};
 ghost use Rattle.std.specs.Cmp.Lexicographic.{slice_cmp, nat_list_eq_equiv, nat_list_cmp_total, texts_ties, texts_po};
-ghost use Rattle.fact_tables.specs.Front.{front_of, AreDigits, is_whole};
+ghost use Rattle.text_fronts.specs.Front.{front_of, AreDigits};
 
-use crate::front::front_of;
 use crate::short::Short;
 use ss_text::Text;
 use std::cmp::Ordering;
 use std::marker::Model;
+use text_fronts::{front_of, is_whole};
 
 /// A text, which contracts see as its bytes; equality and order are those of the text. Its front stands beside it,
 /// so that most comparisons read no text.
@@ -21,7 +21,7 @@ pub struct Label<'a> {
 
 impl<'a> Model for Label<'a> {
     ghost use Rattle.std.specs.Prelude.{◌≡◌, List, ℕ};
-    ghost use Rattle.fact_tables.specs.Front.{front_of, AreDigits};
+    ghost use Rattle.text_fronts.specs.Front.{front_of, AreDigits};
 
     ghost Value = { List ℕ };
 
@@ -76,13 +76,6 @@ impl<'a> Label<'a> {
     {
         self.text
     }
-}
-
-/// Whether a front holds all of its text.
-pub(crate) fn is_whole(front: u64) -> bool
-    ensures { result ≡ is_whole 7 front }
-{
-    front % 256 < 8
 }
 
 impl PartialEq for Label<'_> {

@@ -6,7 +6,6 @@
 
 mod beginning;
 mod fact;
-mod front;
 mod key;
 mod label;
 mod ordered;

@@ -1,5 +1,5 @@
 //! The rows of a table, one after another.
-ghost use Rattle.std.specs.Prelude.{◌≡◌, ◌<◌, ◌∷◌, [], length, slice_get, slice_index_or, Some, IfSome, IfNone};
+ghost use Rattle.std.specs.Prelude.{◌≡◌, ◌<◌, ◌∷◌, [], length, slice_get, slice_index_or, Some, IfOk, IfSome, IfNone};
 ghost use Rattle.std.specs.List.Sorted.{IsStrictlySortedBy};
 ghost use Rattle.flow_law.specs.FactOrder.{by_cell, by_key};
 ghost use Rattle.fact_tables.specs.Cells.{cells_for, rows_for};
@@ -8,8 +8,9 @@ use crate::fact::{Fact, fact_at, facts_from, key_count};
 use crate::key::Key;
 use crate::label::Label;
 use crate::short::ShortFirst;
-use crate::tables::value;
-use ss_text::Text;
+use crate::tables::{cells, value};
+use ss_text::{NoMemory, Row, Text};
+use std::alloc::Global;
 use std::marker::Model;
 
 /// The rows that are left of a table, which contracts see as the list of their keys with the cells.
@@ -87,6 +88,20 @@ impl<'f, 'a> FactRow<'f, 'a> {
             key,
             facts,
         }
+    }
+
+    /// A copy of its key.
+    pub fn copy_key(&self, alloc: Global) -> Result<Row, NoMemory>
+        ensures { IfOk result (λ key. key ≡ self.now.0) }
+    {
+        self.key.copy(alloc)
+    }
+
+    /// Copies of its cells.
+    pub fn copy_cells(&self, alloc: Global) -> Result<Vec<Text>, NoMemory>
+        ensures { IfOk result (λ cells. cells.items ≡ self.now.1) }
+    {
+        cells(alloc, self.columns, self.facts)
     }
 
     /// How many texts its key has.

@@ -8,7 +8,7 @@ ghost use Rattle.flow_law.specs.Labelled.{BearLabel, label_tables};
 use crate::fact::{Fact, fact_at, facts_from, label_count};
 use crate::label::Label;
 use crate::rows::Rows;
-use crate::tables::columns;
+use crate::tables::{columns, copies};
 use flow_law::Shape;
 use ss_text::{NoMemory, Text};
 use std::alloc::Global;
@@ -56,6 +56,14 @@ impl<'f, 'a> TableFacts<'f, 'a> {
         ensures { IfOk result (λ columns. columns.items ≡ self.now.1.columns) }
     {
         columns(alloc, self.facts)
+    }
+
+    /// Copies of the names of these columns.
+    pub fn copy_columns(&self, alloc: Global, columns: &[Label<'a>]) -> Result<Vec<Text>, NoMemory>
+        requires { columns.now ≡ self.now.1.columns }
+        ensures { IfOk result (λ names. names.items ≡ self.now.1.columns) }
+    {
+        copies(alloc, columns)
     }
 
     /// The rows, which have a cell for each of these columns, the table's.

@@ -50,7 +50,7 @@ pub(crate) fn columns<'a>(alloc: Global, facts: &[Fact<'a>]) -> Result<Vec<Label
 }
 
 /// Copies of the texts of labels.
-fn copies(alloc: Global, labels: &[Label<'_>]) -> Result<Vec<Text>, NoMemory>
+pub(crate) fn copies(alloc: Global, labels: &[Label<'_>]) -> Result<Vec<Text>, NoMemory>
     ensures { IfOk result (λ texts. texts.items ≡ labels.now) }
 {
     let mut texts = Vec::with_capacity(alloc, labels.len())?;
@@ -70,7 +70,11 @@ pub(crate) fn value<'a>(facts: &[Fact<'a>], column: &Label<'_>) -> Option<&'a Te
 }
 
 /// The cells of a row whose facts these are, one for each column.
-fn cells(alloc: Global, columns: &[Label<'_>], facts: &[Fact<'_>]) -> Result<Vec<Text>, NoMemory>
+pub(crate) fn cells(
+    alloc: Global,
+    columns: &[Label<'_>],
+    facts: &[Fact<'_>],
+) -> Result<Vec<Text>, NoMemory>
     requires { IsStrictlySortedBy by_cell facts.now }
     ensures { IfOk result (λ cells. cells.items ≡ cells_for columns.now facts.now) }
 {

@@ -1,13 +1,13 @@
 //! The values of a key.
-ghost use Rattle.std.specs.Prelude.{◌≡◌, ◌∷◌, [], drop, length, slice_get, Some, option_copied, IfOk, IfSome};
+ghost use Rattle.std.specs.Prelude.{◌≡◌, ◌∷◌, [], drop, length, slice_get, Some, option_copied, IfSome};
 ghost use Rattle.ss_text.specs.Texts.{row_cmp};
 
-use crate::label::{Label, is_whole};
+use crate::label::Label;
 use crate::short::ShortFirst;
-use ss_text::{NoMemory, Row, Text};
-use std::alloc::Global;
+use ss_text::Text;
 use std::cmp::Ordering;
 use std::marker::Model;
+use text_fronts::is_whole;
 
 /// The values of the constant columns, which contracts see as a row. One or two stand in place, so that no list of
 /// them need be made.
@@ -98,19 +98,6 @@ impl<'a> Values<'a> {
             Some(label) => short_of(label),
             None => None,
         }
-    }
-
-    /// A copy of them.
-    pub(crate) fn copy(&self, alloc: Global) -> Result<Row, NoMemory>
-        ensures { IfOk result (λ row. row ≡ self.now) }
-    {
-        let mut cells = Vec::with_capacity(alloc, self.count())?;
-        for place in 0..self.count() {
-            if let Some(value) = self.at(place) {
-                cells.push(value.copy()?)?;
-            }
-        }
-        Ok(Row::of(cells))
     }
 
     // Its values behind the first two.

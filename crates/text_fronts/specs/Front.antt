@@ -1,5 +1,5 @@
 -- The front of a text: a number by which most texts compare.
-use Rattle.std.specs.Prelude.{ℕ, zero, suc, ◌≡◌, ◌+◌, ◌*◌, ◌%◌, ◌<◌, nat_lt, Bool, ◌||◌, if◌then◌else◌, [], ◌∷◌, length, drop, take, min, slice_index_or}
+use Rattle.std.specs.Prelude.{ℕ, zero, suc, ◌+◌, ◌*◌, ◌%◌, ◌<◌, nat_lt, Bool, [], ◌∷◌, length, drop, min, slice_index_or}
 use Rattle.ss_text.specs.Texts.{Text, Row}
 
 -- a number with these bytes behind it as digits, 0 for each that is missing
@@ -24,21 +24,3 @@ AreDigits (suc n) t = (slice_index_or t 0 0 < 256) × AreDigits n (drop 1 t)
 abbrev pub first_of : Row → Text
 first_of [] = []
 first_of (t ∷ ts) = t
-
--- what is next to the front of the first text: the second text, where that front has all bytes, and else those that are left
-abbrev pub next_of : Row → Text
-next_of [] = []
-next_of (t ∷ ts) = if is_whole 7 (front_of 7 t) then first_of ts else drop 7 t
-
--- whether the fronts of a row have all bytes of its first text
-abbrev pub holds_first : ℕ → ℕ → Bool
-holds_first front next = is_whole 7 front || is_whole 7 next
-
--- a row without so many of the first bytes of its first text
-abbrev pub shortened : ℕ → Row → Row
-shortened n [] = []
-shortened n (t ∷ ts) = drop n t ∷ ts
-
--- whether the first text of a row begins with this one
-abbrev pub BeginsWith : Text → Row → Type 0
-BeginsWith beginning row = take (length beginning) (first_of row) ≡ beginning

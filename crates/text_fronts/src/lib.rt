@@ -1,11 +1,18 @@
 //! The front of a text: a number by which most texts compare.
+//!
+//! Its contract: a front is that of the definition, by which texts and rows compare as their fronts do where these
+//! differ. It knows nothing of keys, of facts or of tables.
+#![tactic(auto)]
+
 ghost use Rattle.std.specs.Prelude.{◌≡◌, slice_index_or};
-ghost use Rattle.fact_tables.specs.Front.{front_of, AreDigits};
+ghost use Rattle.text_fronts.specs.Front.{front_of, first_of, AreDigits, is_whole};
+
+use ss_text::Row;
 
 /// The first seven bytes of a text as the digits of a number, 0 for each that is missing, and behind them its
 /// length, where it is at most 7. Texts compare as their fronts do; where two fronts are the same, the texts are
 /// the same too if they are that short.
-pub(crate) fn front_of(bytes: &[u8]) -> u64
+pub fn front_of(bytes: &[u8]) -> u64
     ensures front { result ≡ front_of 7 bytes.now }
     ensures digits { AreDigits 7 bytes.now }
 {
@@ -19,6 +26,24 @@ pub(crate) fn front_of(bytes: &[u8]) -> u64
         byte_at(bytes, 6),
         bytes.len().min(8) as u8,
     ])
+}
+
+/// The front of the first text of a row, or of an empty text. Rows compare as these do, where they differ.
+pub fn first_front(row: &Row) -> u64
+    ensures front { result ≡ front_of 7 (first_of row.now) }
+    ensures digits { AreDigits 7 (first_of row.now) }
+{
+    match row.cells() {
+        [first, ..] => front_of(first.as_slice()),
+        [] => front_of(&[]),
+    }
+}
+
+/// Whether a front holds all of its text.
+pub fn is_whole(front: u64) -> bool
+    ensures { result ≡ is_whole 7 front }
+{
+    front % 256 < 8
 }
 
 // The byte at a place, or 0.
