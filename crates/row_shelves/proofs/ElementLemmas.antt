@@ -1,5 +1,5 @@
 -- Elements that change one by one, and facts on each of them.
-use Rattle.std.proofs.Common.{◌≡◌, ◌≢◌, ◌<◌, ◌≤◌, ◌+◌, ◌++◌, ◌∷◌, [], ℕ, List, refl, sym, ◌∙◌, ap, subst, zero, suc, map, take, drop, length, get_or, set, arith, length-set, get_or-set_other}
+use Rattle.std.proofs.Common.{◌≡◌, ◌≢◌, ◌<◌, ◌+◌, ◌++◌, ◌∷◌, [], ℕ, List, refl, sym, ◌∙◌, ap, zero, suc, map, take, drop, length, get_or, set, arith, length-set, get_or-set_other}
 use Rattle.std.specs.List.{All, AllWithin, AllByRecursion}
 use Rattle.std.proofs.lemmas.List.{map-set, get_or-map, length-map, length-append, length-take, length-drop, take_at}
 use Rattle.std.proofs.lemmas.List.Edits.{map_over_more}

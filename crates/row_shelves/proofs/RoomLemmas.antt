@@ -1,9 +1,9 @@
 -- Shelves of which one changes.
-use Rattle.std.proofs.Common.{◌≡◌, ◌<◌, ◌≤◌, ◌+◌, ◌∷◌, [], ℕ, Vec, List, refl, sym, ◌∙◌, ap, subst, zero, suc, length, take, drop, get_or, set, arith}
+use Rattle.std.proofs.Common.{◌≡◌, ◌<◌, ◌≤◌, ◌∷◌, [], ℕ, Vec, List, refl, zero, suc, length, take, drop, get_or, set, arith}
 use Rattle.std.specs.Prelude.{insert, remove}
 use Rattle.std.specs.List.{AllByRecursion}
 use Rattle.row_shelves.specs.Stocks.{Stock}
-use Rattle.row_shelves.specs.Shelves.{on_shelf, IsShelf, IsFilled, HasRoom}
+use Rattle.row_shelves.specs.Shelves.{on_shelf, IsShelf}
 
 pub all_weaker : {X : Type 0} (P Q : X → Type 0) → ((x : X) → P x → Q x) → (xs : List X) → AllByRecursion P xs → AllByRecursion Q xs
 all_weaker P Q step [] h = tt

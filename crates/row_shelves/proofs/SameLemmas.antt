@@ -8,7 +8,7 @@ use Rattle.std.specs.List.Sorted.{IsStrictlySortedBy}
 use Rattle.ss_text.specs.Texts.{Row, row_cmp}
 use Rattle.ss_text.specs.Keys.{IsPlaceOf, IsPlaceFor}
 use Rattle.row_shelves.specs.Stocks.{Stock, stock_key, has_key}
-use Rattle.row_shelves.specs.Shelves.{joined, on_shelf, all_rows, place_of, AreShelves, IsShelf}
+use Rattle.row_shelves.specs.Shelves.{joined, all_rows, place_of, AreShelves}
 use Rattle.row_shelves.specs.declared.spot.Spot.{Spot}
 
 module _ {S A : Type 0} (rows : S → List A) where

@@ -1,14 +1,12 @@
 -- Shelves that are seen as others.
-use Rattle.std.proofs.Common.{◌≡◌, ◌<◌, ◌≤◌, ◌∷◌, ◌++◌, [], ℕ, Vec, List, refl, sym, ◌∙◌, ap, subst, length, map, arith}
+use Rattle.std.proofs.Common.{◌≡◌, ◌<◌, ◌≤◌, ◌∷◌, ◌++◌, [], ℕ, Vec, List, refl, sym, ◌∙◌, ap, subst, length, map}
 use Rattle.std.specs.List.{AllByRecursion}
-use Rattle.std.specs.List.Sorted.{IsStrictlySortedBy}
-use Rattle.std.specs.Vec.{vec_len, vec_capacity}
 use Rattle.std.proofs.lemmas.List.{length-map, map-append}
-use Rattle.ss_text.specs.Texts.{Row, row_cmp}
+use Rattle.ss_text.specs.Texts.{Row}
 use Rattle.ss_text.proofs.KeyLemmas.{row_order, keys_seen}
 use Rattle.flow_law.specs.Tables.{key_of}
 use Rattle.row_shelves.specs.Stocks.{Stock, stock_key, row_of, rows_of}
-use Rattle.row_shelves.specs.Shelves.{joined, on_shelf, all_rows, AreShelves, IsShelf, seen_shelf, shelf_changed, same_shelf}
+use Rattle.row_shelves.specs.Shelves.{joined, all_rows, AreShelves, IsShelf, seen_shelf, shelf_changed, same_shelf}
 
 -- what a shelf is by its rows, their number and the room
 record IsSeen {A : Type 0} (t : List A × ℕ × ℕ) : Type 0 where

@@ -1,26 +1,36 @@
 //! A row of a table.
 ghost use Rattle.std.specs.Prelude.{◌≡◌, ◌<◌, ◌≤◌, [], length, replicate, OnOk};
 ghost use Rattle.std.specs.Vec.{vec_capacity};
+ghost use Rattle.ss_text.specs.Texts.{row_cmp};
 ghost use Rattle.flow_law.specs.Lines.{with_empty_cell, with_cell_at, without_cell};
 ghost use Rattle.row_shelves.specs.Stocks.{stock, changed};
 
+use crate::sought::SoughtKey;
 use ss_text::{NoMemory, Row, Text};
+use std::cmp::Ordering;
 use std::marker::Model;
+use text_fronts::first_front;
 
-/// A key, and a cell for each dynamic column. Contracts see how many cells there is room for beside them.
+/// A key, and a cell for each dynamic column. Contracts see how many cells there is room for beside them. The front of
+/// the key's first text stands beside it, so that a search reads few keys.
 #[derive(Debug, Drop)]
 pub struct KeptRow {
+    front: u64,
     key: Row,
     cells: Vec<Text>,
 }
 
 impl Model for KeptRow {
+    ghost use Rattle.std.specs.Prelude.{◌≡◌};
     ghost use Rattle.std.specs.Vec.{vec_capacity};
+    ghost use Rattle.text_fronts.specs.Front.{front_of, first_of, AreDigits};
     ghost use Rattle.row_shelves.specs.Stocks.{Stock, stock};
 
     ghost Value = { Stock };
 
     ghost view = { λ r. stock r.key r.cells.items (vec_capacity r.cells) };
+
+    ghost invariant = { λ r. record { front : r.front ≡ front_of 7 (first_of r.key); digits : AreDigits 7 (first_of r.key) } };
 }
 
 impl KeptRow {
@@ -28,7 +38,11 @@ impl KeptRow {
     pub(crate) fn of(key: Row, cells: Vec<Text>) -> KeptRow
         ensures { result ≡ stock key cells.items (vec_capacity cells) }
     {
-        KeptRow { key, cells }
+        KeptRow {
+            front: first_front(&key),
+            key,
+            cells,
+        }
     }
 
     /// A row of so many empty cells, for which there is room.
@@ -38,7 +52,7 @@ impl KeptRow {
         ensures { result ≡ stock key (replicate count []) (vec_capacity cells) }
     {
         fill(&mut cells, count);
-        KeptRow { key, cells }
+        KeptRow::of(key, cells)
     }
 
     /// The constant columns' values, in header order.
@@ -46,6 +60,16 @@ impl KeptRow {
         ensures { result.now ≡ self.now.key }
     {
         &self.key
+    }
+
+    /// How its key stands to one that is sought. Where their fronts differ it is not read.
+    pub(crate) fn cmp_key(&self, sought: &SoughtKey<'_>) -> Ordering
+        ensures { result ≡ row_cmp self.now.key sought.now }
+    {
+        match self.front.cmp(&sought.front) {
+            Ordering::Equal => self.key.cmp(sought.key),
+            differs => differs,
+        }
     }
 
     /// The cells, one for each column.

@@ -13,6 +13,7 @@ mod put;
 mod room;
 mod rows;
 mod shelf;
+mod sought;
 mod spot;
 
 pub use kept_row::KeptRow;

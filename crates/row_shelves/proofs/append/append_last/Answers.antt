@@ -1,5 +1,5 @@
-use Rattle.std.proofs.Common.{◌∙◌, ◌-◌, ◌++◌, ◌∷◌, [], ap, sym, arith}
-use Rattle.row_shelves.specs.Shelves.{on_shelf, IsShelf}
+use Rattle.std.proofs.Common.{◌∙◌, ◌-◌, ◌++◌, ◌∷◌, [], ap, arith}
+use Rattle.row_shelves.specs.Shelves.{on_shelf}
 use Rattle.row_shelves.proofs.SameLemmas.{last_pushed}
 use Rattle.row_shelves.proofs.append.append_last.Goals as goal
 

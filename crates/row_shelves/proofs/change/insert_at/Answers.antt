@@ -1,7 +1,7 @@
 use Rattle.std.proofs.Common.{ap, ◌∙◌}
 use Rattle.std.specs.Prelude.{insert}
-use Rattle.row_shelves.specs.Shelves.{on_shelf}
-use Rattle.row_shelves.proofs.ShelfLemmas.{inserting, changed_on_shelf}
+use Rattle.row_shelves.specs.Shelves.{on_shelf, IsShelf}
+use Rattle.row_shelves.proofs.ShelfLemmas.{inserting, changed_on_shelf, all_set_behind}
 use Rattle.row_shelves.proofs.change.insert_at.Goals as goal
 
 pub returns-clause-rows : goal.returns-clause-rows
@@ -10,3 +10,6 @@ returns-clause-rows c =
     let spot = c.args.spot in
     changed_on_shelf on_shelf (inserting c.args.row) c.args.shelves.now.items spot.shelf spot.place shelf c.insert.new.self c.requires.there (c.requires.at.place shelf c.requires.there)
     (c.in-Ok.ensures.items ∙ ap (λ s. insert (on_shelf s) spot.place c.args.row) c.index_mut-shelf.ensures.value)
+
+pub returns-clause-behind : goal.returns-clause-behind
+returns-clause-behind c = all_set_behind IsShelf c.args.shelves.now.items c.args.spot.shelf c.insert.new.self c.requires.shelves

@@ -1,4 +1,4 @@
-use Rattle.std.proofs.Common.{◌<◌, ◌≤◌, ◌∙◌, ap, sym, subst, length, set, arith, length-set}
+use Rattle.std.proofs.Common.{◌<◌, ◌∙◌, ap, sym, subst, length, set, arith, length-set}
 use Rattle.std.proofs.lemmas.List.Elements.{AllWithin-more_set}
 use Rattle.std.specs.List.{All}
 use Rattle.row_shelves.specs.Stocks.{row_of, rows_of, Has}

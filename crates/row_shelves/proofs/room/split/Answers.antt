@@ -1,4 +1,4 @@
-use Rattle.std.proofs.Common.{ap, sym, ◌∙◌, ◌++◌, append-nil, ◌+◌, ◌≡◌, ◌<◌, ◌≤◌, suc, length, arith}
+use Rattle.std.proofs.Common.{ap, sym, ◌∙◌, ◌++◌, append-nil, ◌+◌, ◌≡◌, ◌≤◌, suc, length, arith}
 use Rattle.row_shelves.specs.Shelves.{on_shelf, IsShelf}
 use Rattle.row_shelves.proofs.ShelfLemmas.{cut_in_two}
 use Rattle.row_shelves.proofs.RoomLemmas.{all_cut, is_shelf}

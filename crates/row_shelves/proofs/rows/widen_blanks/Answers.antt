@@ -1,4 +1,4 @@
-use Rattle.std.proofs.Common.{◌<◌, ◌≤◌, sym, subst, length, get_or, set, arith, length-set}
+use Rattle.std.proofs.Common.{◌<◌, sym, subst, length, get_or, set, arith, length-set}
 use Rattle.std.specs.List.{All}
 use Rattle.std.proofs.lemmas.List.Elements.{AllWithin-more_set}
 use Rattle.row_shelves.specs.Blanks.{IsBlank}

@@ -1,0 +1,37 @@
+//! A key that is sought among many.
+ghost use Rattle.std.specs.Prelude.{◌≡◌};
+
+use ss_text::Row;
+use std::marker::Model;
+use text_fronts::first_front;
+
+/// A key, which contracts see as its row, with the front of its first text.
+#[derive(Drop)]
+pub(crate) struct SoughtKey<'k> {
+    pub(crate) front: u64,
+    pub(crate) key: &'k Row,
+}
+
+impl<'k> Model for SoughtKey<'k> {
+    ghost use Rattle.std.specs.Prelude.{◌≡◌};
+    ghost use Rattle.ss_text.specs.Texts.{Row};
+    ghost use Rattle.text_fronts.specs.Front.{front_of, first_of, AreDigits};
+
+    ghost Value = { Row };
+
+    ghost view = { λ s. s.key.now };
+
+    ghost invariant = { λ s. record { front : s.front ≡ front_of 7 (first_of s.key.now); digits : AreDigits 7 (first_of s.key.now) } };
+}
+
+impl<'k> SoughtKey<'k> {
+    /// This key.
+    pub(crate) fn of(key: &'k Row) -> SoughtKey<'k>
+        ensures { result ≡ key.now }
+    {
+        SoughtKey {
+            front: first_front(key),
+            key,
+        }
+    }
+}
