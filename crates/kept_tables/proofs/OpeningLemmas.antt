@@ -1,30 +1,26 @@
 -- Tables that are read from the first row to the last.
-use Rattle.std.proofs.Common.{◌≡◌, ◌<◌, ◌+◌, ◌∷◌, ◌++◌, [], ℕ, List, refl, ap, zero, suc, length, map, take, sym}
+use Rattle.std.proofs.Common.{◌≡◌, ◌∷◌, ◌++◌, [], List, refl, ap, map}
 use Rattle.std.specs.List.{AllByRecursion}
 use Rattle.std.specs.List.Sorted.{IsStrictlySortedBy}
 use Rattle.std.specs.declared.cmp.Ordering.TheVariants.{Less}
-use Rattle.std.proofs.lemmas.List.{take_more}
 use Rattle.ss_text.specs.Texts.{Row, row_cmp}
-use Rattle.flow_law.specs.Tables.{TableValue, TablesValue, key_of, row_at, labels_of}
-use Rattle.flow_law.specs.InOrder.{IsTable, AreTables}
+use Rattle.flow_law.specs.Tables.{TablesValue, key_of, labels_of}
+use Rattle.flow_law.specs.InOrder.{AreTables}
 use Rattle.kept_tables.specs.Slots.{slot_label, tables_in, full_slot, IsSlot, AreSlots}
 
-all_taken : (P : Row → Type 0) (rs : List (Row × Row)) (n : ℕ) → AllByRecursion P (map key_of rs) → AllByRecursion P (map key_of (take n rs))
-all_taken P rs zero h = tt
-all_taken P [] (suc n) h = tt
-all_taken P (r ∷ rs) (suc n) h = (h.0, all_taken P rs n h.1)
+all_first : (P : Row → Type 0) (ks : List (Row × Row)) (r : Row × Row) (rs : List (Row × Row)) → AllByRecursion P (map key_of (ks ++ r ∷ rs)) → AllByRecursion P (map key_of (ks ++ r ∷ []))
+all_first P [] r rs h = (h.0, tt)
+all_first P (k ∷ ks) r rs h = (h.0, all_first P ks r rs h.1)
 
-taken_ascend : (rs : List (Row × Row)) (n : ℕ) → IsStrictlySortedBy row_cmp (map key_of rs) → IsStrictlySortedBy row_cmp (map key_of (take n rs))
+first_ascend : (ks : List (Row × Row)) (r : Row × Row) (rs : List (Row × Row)) → IsStrictlySortedBy row_cmp (map key_of (ks ++ r ∷ rs)) → IsStrictlySortedBy row_cmp (map key_of (ks ++ r ∷ []))
 unfolding IsStrictlySortedBy
-taken_ascend rs zero h = tt
-taken_ascend [] (suc n) h = tt
-taken_ascend (r ∷ rs) (suc n) h = (all_taken (λ k. row_cmp (key_of r) k ≡ Less) rs n h.0, taken_ascend rs n h.1)
+first_ascend [] r rs h = (tt, tt)
+first_ascend (k ∷ ks) r rs h = (all_first (λ j. row_cmp (key_of k) j ≡ Less) ks r rs h.0, first_ascend ks r rs h.1)
 
 -- the next row stands behind those before it
-pub next_row : (t : TableValue) (n : ℕ) (rs : List (Row × Row)) (key cells : Row) → IsTable t → n < length t.rows → rs ≡ take n t.rows → key ≡ (row_at n t).0 → cells ≡ (row_at n t).1
-    → IsStrictlySortedBy row_cmp (map key_of (rs ++ (key, cells) ∷ []))
-next_row t n rs key cells h lt before k c =
-    rw (before, k, c, sym (take_more t.rows n ([], []) lt)) (taken_ascend t.rows (n + 1) h.keys)
+pub next_row : (all before left after : List (Row × Row)) (r s : Row × Row) → IsStrictlySortedBy row_cmp (map key_of all) → before ++ left ≡ all → left ≡ r ∷ after → s ≡ r
+    → IsStrictlySortedBy row_cmp (map key_of (before ++ s ∷ []))
+next_row all before left after r s h cut next same = rw same (first_ascend before r after (rw (← next, cut) h))
 
 -- the tables of full slots
 pub tables_full : (ts : TablesValue) → tables_in (map full_slot ts) ≡ ts

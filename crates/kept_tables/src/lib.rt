@@ -2,7 +2,7 @@
 //!
 //! Its contract: `KeptTable::expect` takes all memory for what a line adds and leaves the table, and `make` gives exactly the
 //! table of the line's meaning, without memory. `KeptTables` keeps the law of `Kept` for lists of lines, each of which fits
-//! those before it. It knows nothing of facts, of views or of files.
+//! those before it. It begins with the tables that facts in order give. It knows nothing of views or of files.
 #![tactic(auto)]
 
 mod copies;

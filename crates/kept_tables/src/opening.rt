@@ -1,53 +1,57 @@
 //! Tables that are kept from now on.
-ghost use Rattle.std.specs.Prelude.{◌≡◌, IfOk};
-ghost use Rattle.flow_law.specs.InOrder.{IsTable};
+ghost use Rattle.std.specs.Prelude.{◌≡◌, map, IfOk};
+ghost use Rattle.std.specs.List.Sorted.{IsStrictlySortedBy};
+ghost use Rattle.ss_text.specs.Texts.{row_cmp};
+ghost use Rattle.flow_law.specs.Tables.{key_of};
+ghost use Rattle.flow_law.specs.InOrder.{IsTable, AreTables};
 ghost use Rattle.row_shelves.specs.Values.{rows_value};
 ghost use Rattle.kept_tables.specs.Kept.{kept_table};
 ghost use Rattle.kept_tables.specs.Slots.{tables_in, AreSlots};
 
 use crate::KeptTable;
-use crate::copies::texts;
 use crate::slot::Slot;
-use flow_law::{Table, Tables};
+use fact_tables::{Rows, TableFacts};
 use row_shelves::RowShelves;
 use ss_text::NoMemory;
 use std::alloc::Global;
 
-// The rows of a table.
-fn rows_of(alloc: Global, table: &Table) -> Result<RowShelves, NoMemory>
-    requires { IsTable table.now }
-    ensures { IfOk result (λ rows. rows ≡ rows_value table.now.rows 0 0) }
+// Rows that are kept.
+fn kept_rows(alloc: Global, rows: Rows<'_, '_>) -> Result<RowShelves, NoMemory>
+    requires { IsStrictlySortedBy row_cmp (map key_of rows) }
+    ensures { IfOk result (λ kept. kept ≡ rows_value rows.entry 0 0) }
 {
-    let mut rows = RowShelves::new(alloc);
-    for place in 0..table.count() {
-        let key = table.key(place).copy()?;
-        let cells = texts(alloc, table.cells(place))?;
-        rows.push(alloc, key, cells)?;
+    let mut rows = rows;
+    let mut kept = RowShelves::new(alloc);
+    while let Some(row) = rows.take_next() {
+        let key = row.copy_key(alloc)?;
+        let cells = row.copy_cells(alloc)?;
+        kept.push(alloc, key, cells)?;
     }
-    Ok(rows)
+    Ok(kept)
 }
 
-fn kept(alloc: Global, table: &Table) -> Result<KeptTable, NoMemory>
-    requires { IsTable table.now }
-    ensures { IfOk result (λ kept. kept ≡ kept_table table.now 0 0) }
+// The table of facts, which is kept.
+fn kept(alloc: Global, facts: &TableFacts<'_, '_>) -> Result<KeptTable, NoMemory>
+    requires { IsTable facts.now.1 }
+    ensures { IfOk result (λ kept. kept ≡ kept_table facts.now.1 0 0) }
 {
-    let rows = rows_of(alloc, table)?;
-    let columns = texts(alloc, table.columns())?;
-    let kept = KeptTable::of(columns, rows)?;
+    let columns = facts.columns(alloc)?;
+    let names = facts.copy_columns(alloc, &columns)?;
+    let rows = kept_rows(alloc, facts.rows(&columns))?;
+    let kept = KeptTable::of(names, rows)?;
     Ok(kept)
 }
 
 /// A slot for each table, in the same order.
-pub(crate) fn slots_of(alloc: Global, tables: &Tables) -> Result<Vec<Slot>, NoMemory>
+pub(crate) fn slots_of(alloc: Global, tables: &[TableFacts<'_, '_>]) -> Result<Vec<Slot>, NoMemory>
+    requires { AreTables tables.now }
     ensures order { IfOk result (λ slots. AreSlots slots.items) }
     ensures tables { IfOk result (λ slots. tables_in slots.items ≡ tables.now) }
 {
-    let count = tables.count();
-    let mut slots = Vec::with_capacity(alloc, count)?;
-    for place in 0..count {
-        let label = tables.label(place).copy()?;
-        let table = kept(alloc, tables.table(place))?;
-        slots.push(Slot::full(label, table))?;
+    let mut slots = Vec::with_capacity(alloc, tables.len())?;
+    for facts in tables {
+        let table = kept(alloc, facts)?;
+        slots.push(Slot::full(facts.label().copy()?, table))?;
     }
     Ok(slots)
 }

@@ -6,6 +6,7 @@ ghost use Rattle.std.specs.List.Sorted.{IsStrictlySortedBy};
 ghost use Rattle.ss_text.specs.Texts.{text_cmp};
 ghost use Rattle.flow_law.specs.declared.line.TableLine.{TableLine as Line};
 ghost use Rattle.flow_law.specs.Tables.{labels_of, table_of};
+ghost use Rattle.flow_law.specs.InOrder.{AreTables};
 ghost use Rattle.flow_law.specs.Lines.{fit_lines, after_lines};
 ghost use Rattle.kept_tables.specs.Kept.{KeptTableValue};
 ghost use Rattle.kept_tables.specs.Slots.{tables_in};
@@ -18,7 +19,8 @@ use crate::making::make_all;
 use crate::opening::slots_of;
 use crate::room::{expect_all, forget};
 use crate::slot::{Slot, find};
-use flow_law::{TableLine, Tables};
+use fact_tables::TableFacts;
+use flow_law::TableLine;
 use ss_text::{NoMemory, Text};
 use std::alloc::Global;
 use std::marker::Model;
@@ -69,8 +71,9 @@ impl KeptTables {
         }
     }
 
-    /// These tables.
-    pub fn of(alloc: Global, tables: &Tables) -> Result<KeptTables, NoMemory>
+    /// The tables of these facts, in their order.
+    pub fn of(alloc: Global, tables: &[TableFacts<'_, '_>]) -> Result<KeptTables, NoMemory>
+        requires { AreTables tables.now }
         ensures { IfOk result (λ kept. kept ≡ kept_tables tables.now None) }
     {
         let slots = slots_of(alloc, tables)?;

@@ -11,15 +11,16 @@ ghost use Rattle.view_engine.specs.declared.moved.EngineMove.{EngineMove as Move
 ghost use Rattle.view_engine.specs.Engines.{EngineMoves};
 ghost use Rattle.view_session.specs.Upkeeps.{view_of, IsKept, KeptAs, WaitsFor, TakesTo, IsReadyFor, IsReadyUpkeep};
 
+use bumpalo::Bump;
 use flow_law::TableLine;
 use kept_tables::{KeptTables, LinesReady};
 use operator_law::Kept;
 use schema_model::Catalogue;
-use ss_text::{NoMemory, Steps};
+use ss_text::{NoMemory, Steps, Text};
 use std::alloc::Global;
 use std::mem;
 use std::sync::ledger::Ledger;
-use valuation_meaning::{EvalFault, evaluate};
+use valuation_meaning::{EvalFault, ordered_facts, shape_of};
 use view_def::View;
 use view_engine::{Engine, EngineMove, EngineReady};
 
@@ -72,16 +73,18 @@ impl Drop for UpkeepReady {
     }
 }
 
-// The tables of a view over a catalogue, or the fault for which it is refused.
+// The tables of a view over a catalogue, or the fault for which it is refused. They are made of the facts at once.
 fn tables_over(alloc: Global, catalogue: &Catalogue, view: &View) -> Result<KeptTables, EvalFault>
     ensures tables { IfOk result (λ tables. tables ≡ kept_tables (meaning catalogue.now.databases (query_of view.now)) None) }
     ensures allowed { OnOk result (refusal catalogue.now.databases (query_of view.now) ≡ None) }
     ensures refused { IfErr result (λ fault. IsRefusal (refusal catalogue.now.databases (query_of view.now)) fault) }
 {
-    let tables = evaluate(alloc, catalogue, view)?;
-    let kept = KeptTables::of(alloc, &tables);
-    drop(tables);
-    Ok(kept?)
+    let empty = Text::empty(alloc);
+    let arena = Bump::new(alloc);
+    let shape = shape_of(view)?;
+    let facts = ordered_facts(alloc, &arena, catalogue, view, &shape, &empty)?;
+    let tables = facts.by_table(alloc)?;
+    Ok(KeptTables::of(alloc, &tables)?)
 }
 
 // The tables of a view over a catalogue, over which it is not refused.

@@ -7,11 +7,11 @@ use Rattle.kept_tables.proofs.opening.slots_of.Goals as goal
 pub returns-clause-order : goal.returns-clause-order
 returns-clause-order c =
     let tables = c.args.tables.now in
-    let all : c.loop-place.slots.items ≡ map full_slot tables = c.loop-place.invariant ∙ ap (map full_slot) (take_all c.loop-place.place tables (omega arith)) in
-    rw all (slots_full tables c.count-count.ensures.in_order)
+    let all : c.loop-facts.slots.items ≡ map full_slot tables = c.loop-facts.invariant ∙ ap (map full_slot) (take_all c.loop-facts.facts-index tables (omega arith)) in
+    rw all (slots_full tables c.requires)
 
 pub returns-clause-tables : goal.returns-clause-tables
 returns-clause-tables c =
     let tables = c.args.tables.now in
-    let all : c.loop-place.slots.items ≡ map full_slot tables = c.loop-place.invariant ∙ ap (map full_slot) (take_all c.loop-place.place tables (omega arith)) in
+    let all : c.loop-facts.slots.items ≡ map full_slot tables = c.loop-facts.invariant ∙ ap (map full_slot) (take_all c.loop-facts.facts-index tables (omega arith)) in
     rw all (tables_full tables)
