@@ -1,5 +1,5 @@
 -- The order of rows, text by text.
-use Rattle.std.proofs.Common.{◌≡◌, ◌<◌, ℕ, zero, suc, [], ◌∷◌, ◌++◌, length, take, drop, refl, ap, arith}
+use Rattle.std.proofs.Common.{◌≡◌, ◌<◌, ◌≤◌, ◌+◌, ◌∙◌, ℕ, zero, suc, [], ◌∷◌, ◌++◌, length, take, drop, refl, sym, ap, arith}
 use Rattle.std.specs.Prelude.{Some, None, slice_get}
 use Rattle.std.specs.Ordering.{ordering_then}
 use Rattle.std.specs.declared.cmp.Ordering.{Ordering}
@@ -37,6 +37,19 @@ pub decided : (r o p : Ordering) → r ≡ o → (r ≡ Equal → ⊥) → r ≡
 decided r Less p e differs = e
 decided r Equal p e differs = absurd (differs e)
 decided r Greater p e differs = e
+
+-- and where they are the same, only what is behind them does
+pub same_there : (j k : Row) (n : ℕ) (s t : Text) → Some s ≡ slice_get j n → Some t ≡ slice_get k n → text_cmp s t ≡ Equal
+    → row_cmp (drop (n + 1) j) (drop (n + 1) k) ≡ row_cmp (drop n j) (drop n k)
+same_there j k n s t hj hk e =
+    let next : n + 1 ≡ suc n = omega arith in
+    ap (λ m. row_cmp (drop m j) (drop m k)) next ∙ sym (both_there j k n s t hj hk ∙ ap (λ o. ordering_then o (row_cmp (drop (suc n) j) (drop (suc n) k))) e)
+
+pub beyond : (j : Row) (n : ℕ) → length j ≤ n → None ≡ slice_get j n
+beyond [] zero h = refl
+beyond [] (suc n) h = refl
+beyond (a ∷ j) zero h = absurd (omega (arith, h))
+beyond (a ∷ j) (suc n) h = beyond j n (omega (arith, h))
 
 -- so many of the first texts, and one more
 pub one_more : (j : Row) (n : ℕ) (t : Text) → Some t ≡ slice_get j n → take n j ++ t ∷ [] ≡ take (suc n) j

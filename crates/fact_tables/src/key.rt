@@ -147,6 +147,13 @@ impl<'a> Key<'a> {
     }
 }
 
+// Whether two beginnings are the same. Most are empty, which is seen without a comparison.
+fn are_alike(beginning: &Text, other: &Text) -> bool
+    ensures { IsTrue result → other.now ≡ beginning.now }
+{
+    (beginning.as_slice().is_empty() && other.as_slice().is_empty()) || beginning == other
+}
+
 // Whether the first value begins with this text.
 fn begins_with(values: &Values<'_>, beginning: &Text) -> bool
     ensures { IsTrue result → BeginsWith beginning.now values.now }
@@ -238,18 +245,16 @@ impl Ord for Key<'_> {
 
     // Where the fronts are the same and hold the first values, those are not read.
     fn cmp(&self, other: &Self) -> Ordering {
-        if self.beginning != other.beginning {
-            return self.values.order(&other.values);
+        if !are_alike(self.beginning, other.beginning) {
+            return self.values.order_from(&other.values, 0);
         }
         match self.front.cmp(&other.front) {
             Ordering::Equal => match self.next.cmp(&other.next) {
                 Ordering::Equal
                     if holds_first(self.front, self.next)
                         && self.values.count() > 0
-                        && other.values.count() > 0 => {
-                    self.values.order_behind_first(&other.values)
-                }
-                Ordering::Equal => self.values.order(&other.values),
+                        && other.values.count() > 0 => { self.values.order_from(&other.values, 1) }
+                Ordering::Equal => self.values.order_from(&other.values, 0),
                 differs => differs,
             },
             differs => differs,

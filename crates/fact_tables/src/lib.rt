@@ -14,6 +14,7 @@ mod rows;
 mod short;
 mod table_facts;
 mod tables;
+mod three;
 mod values;
 
 pub use beginning::share_beginning;
@@ -24,4 +25,5 @@ pub use ordered::{OrderedFacts, order_facts};
 pub use rows::{FactRow, Rows};
 pub use short::{Short, ShortFirst};
 pub use table_facts::TableFacts;
+pub use three::Three;
 pub use values::Values;

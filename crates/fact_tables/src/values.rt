@@ -4,13 +4,14 @@ ghost use Rattle.ss_text.specs.Texts.{row_cmp};
 
 use crate::label::Label;
 use crate::short::ShortFirst;
+use crate::three::Three;
 use ss_text::Text;
 use std::cmp::Ordering;
 use std::marker::Model;
-use text_fronts::is_whole;
+use text_fronts::{front_of, is_whole};
 
 /// The values of the constant columns, which contracts see as a row. One or two stand in place, so that no list of
-/// them need be made.
+/// them need be made. Beside three stands the front of the third, so that a short one is not read.
 #[derive(Drop)]
 pub struct Values<'a> {
     held: Held<'a>,
@@ -20,16 +21,19 @@ pub struct Values<'a> {
 enum Held<'a> {
     One(&'a Text),
     Two(&'a Text, &'a Text),
+    Three(&'a Three<'a>, u64),
     Many(&'a [Label<'a>]),
 }
 
 impl<'a> Model for Values<'a> {
     ghost use Rattle.ss_text.specs.Texts.{Row};
-    ghost use Rattle.fact_tables.specs.Held.{held_values};
+    ghost use Rattle.fact_tables.specs.Held.{held_values, HasFront};
 
     ghost Value = { Row };
 
     ghost view = { λ v. held_values v.held };
+
+    ghost invariant = { λ v. HasFront v.held };
 }
 
 impl<'a> Values<'a> {
@@ -51,6 +55,15 @@ impl<'a> Values<'a> {
         }
     }
 
+    /// Three values.
+    pub fn three(values: &'a Three<'a>) -> Values<'a>
+        ensures { result ≡ values.now }
+    {
+        Values {
+            held: Held::Three(values, front_of(values.third().as_slice())),
+        }
+    }
+
     /// These values.
     pub fn many(labels: &'a [Label<'a>]) -> Values<'a>
         ensures { result ≡ labels.now }
@@ -67,6 +80,7 @@ impl<'a> Values<'a> {
         match &self.held {
             Held::One(_) => 1,
             Held::Two(_, _) => 2,
+            Held::Three(_, _) => 3,
             Held::Many(labels) => labels.len(),
         }
     }
@@ -79,6 +93,7 @@ impl<'a> Values<'a> {
             (Held::One(value), 0) => Some(*value),
             (Held::Two(first, _), 0) => Some(*first),
             (Held::Two(_, second), 1) => Some(*second),
+            (Held::Three(values, _), place) => values.at(place),
             (Held::Many(labels), place) => match labels.get(place) {
                 Some(label) => Some(label.text()),
                 None => None,
@@ -91,52 +106,34 @@ impl<'a> Values<'a> {
     pub(crate) fn short(&self, place: usize) -> Option<ShortFirst>
         ensures { IfSome result (λ short. Some short ≡ slice_get self.now place) }
     {
-        let Held::Many(labels) = &self.held else {
-            return None;
-        };
-        match labels.get(place) {
-            Some(label) => short_of(label),
-            None => None,
-        }
-    }
-
-    // Its values behind the first two.
-    fn rest(&self) -> &'a [Label<'a>]
-        ensures { result.now ≡ drop 2 self.now }
-    {
-        match &self.held {
-            Held::Many([_, _, rest @ ..]) => rest,
-            _ => &[],
-        }
-    }
-
-    /// The order of the values behind the first.
-    pub(crate) fn order_behind_first(&self, others: &Values<'_>) -> Ordering
-        ensures { result ≡ row_cmp (drop 1 self.now) (drop 1 others.now) }
-    {
-        match (self.at(1), others.at(1)) {
-            (Some(value), Some(other)) => match value.cmp(other) {
-                Ordering::Equal => self.rest().cmp(others.rest()),
-                differs => differs,
+        match (&self.held, place) {
+            (Held::Three(_, front), 2) if is_whole(*front) => Some(ShortFirst::of(*front)),
+            (Held::Many(labels), place) => match labels.get(place) {
+                Some(label) => short_of(label),
+                None => None,
             },
-            (None, None) => Ordering::Equal,
-            (None, Some(_)) => Ordering::Less,
-            (Some(_), None) => Ordering::Greater,
+            _ => None,
         }
     }
 
-    /// The order of the values.
-    pub(crate) fn order(&self, others: &Values<'_>) -> Ordering
-        ensures { result ≡ row_cmp self.now others.now }
+    /// The order of the values from a place on.
+    pub(crate) fn order_from(&self, others: &Values<'_>, from: usize) -> Ordering
+        ensures { result ≡ row_cmp (drop from self.now) (drop from others.now) }
     {
-        match (self.at(0), others.at(0)) {
-            (Some(value), Some(other)) => match value.cmp(other) {
-                Ordering::Equal => self.order_behind_first(others),
-                differs => differs,
-            },
-            (None, None) => Ordering::Equal,
-            (None, Some(_)) => Ordering::Less,
-            (Some(_), None) => Ordering::Greater,
+        let count = self.count();
+        let mut place = from;
+        while place < count {
+            let (Some(value), Some(other)) = (self.at(place), others.at(place)) else {
+                return Ordering::Greater;
+            };
+            match value.cmp(other) {
+                Ordering::Equal => place += 1,
+                differs => return differs,
+            }
+        }
+        match others.at(place) {
+            Some(_) => Ordering::Less,
+            None => Ordering::Equal,
         }
     }
 }

@@ -24,7 +24,7 @@ use crate::truth::truth;
 use crate::value::{cell_at, place_text, value_of};
 use bumpalo::Bump;
 use bumpalo::collections::into_bump_slice;
-use fact_tables::{Fact, Key, Label, Values};
+use fact_tables::{Fact, Key, Label, Three, Values};
 use schema_model::{Catalogue, Relation};
 use ss_text::{NoMemory, Text};
 use std::alloc::Global;
@@ -38,7 +38,7 @@ fn text_of<'a>(valuation: &[Element<'a>], place: &'a Place, empty: &'a Text) -> 
     place_text(valuation, place).unwrap_or(empty)
 }
 
-/// The values of terms, where each of them is defined. One or two need no room in the arena.
+/// The values of terms, where each of them is defined. One or two need no room in the arena, and three little.
 fn values_of<'a>(
     arena: &'a Bump<Global>,
     valuation: &[Element<'a>],
@@ -54,6 +54,17 @@ fn values_of<'a>(
         },
         [first, second] => match (value_of(valuation, first), value_of(valuation, second)) {
             (Some(first), Some(second)) => Ok(Some(Values::two(first, second))),
+            _ => Ok(None),
+        },
+        [first, second, third] => match (
+            value_of(valuation, first),
+            value_of(valuation, second),
+            value_of(valuation, third),
+        ) {
+            (Some(first), Some(second), Some(third)) => {
+                let three = arena.try_alloc(Three::of(first, second, third))?;
+                Ok(Some(Values::three(three)))
+            }
             _ => Ok(None),
         },
         terms => match labels_of(arena, valuation, terms)? {

@@ -20,7 +20,7 @@ returns-in-Equal-cmp c =
     let some : 0 < length a.values = search rules in
     let others : 0 < length b.values = search rules in
     rw (← c.self.view_is, ← c.other.view_is)
-    (c.order_behind_first.ensures ∙ rw (shortened_rest n a.values, shortened_rest n b.values) at
+    (c.order_from-in-Equal-cmp.ensures ∙ rw (shortened_rest n a.values, shortened_rest n b.values) at
     (behind_fronts j k c.self.invariant.digits (rw same at c.other.invariant.digits) c.self.invariant.next_digits (rw same at c.other.invariant.next_digits)
     (rw (shortened_len n a.values) some) (rw (shortened_len n b.values) others) fronts nexts holds)
     ∙ rows_behind a.beginning.now a.values b.values c.self.invariant.begins (rw same at c.other.invariant.begins))
