@@ -5,13 +5,13 @@ the wide table; what it takes to open, beside `show`; and `load` of few and of m
 
 usage: bench/maintain.py [PROGRAM [CHANGES]]
 
-There are 100,000 changes where no other number is given.
+There are 400,000 changes where no other number is given.
 """
 
 import shutil
 import sys
 
-from measure import folder, program, report, run, wanted, write
+from measure import folder, least, program, report, run, write
 
 # Fewer than the most rows that sources may have, since rows come.
 FEW, MANY = 1_000, 999_960
@@ -92,39 +92,64 @@ VIEWS = {
 }
 
 
+# So many times each run is made, in turn with the others.
+ROUNDS = 3
+
+
 def ended(words, root, given=None):
-    """Of three runs of the program, each of which ended with a sync, the one of the least time."""
-    runs = [run(words, root, given) for _ in range(3)]
-    for done in runs:
-        if done.status != 0 or not done.lines[-1:] or not done.lines[-1].startswith("synced\t"):
-            sys.exit(f"ended with status {done.status} and {done.lines[-1:]}")
-    return min(runs, key=lambda done: done.seconds)
+    """A run of the program, which ended with a sync."""
+    done = run(words, root, given)
+    if done.status != 0 or not done.lines[-1:] or not done.lines[-1].startswith("synced\t"):
+        sys.exit(f"ended with status {done.status} and {done.lines[-1:]}")
+    return done
 
 
-def time_of_change(name, rows, count):
-    """The seconds of one change behind the first ones, which are those of a run with all changes less those of a run with
-    the first, by the number of the others: both link the rows of the relation once, and save it and the view at the end.
-    With a run without changes, and a run of `show`."""
+def prepared(root, name, rows, count):
+    """Writes the sources and the definition of a view and its changes into a folder, and gives the runs over them: each by
+    what it measures, with its words and its input."""
     view, sources, row, _ = VIEWS[name]
-    with folder() as root:
-        for relation, lines in sources(rows).items():
-            write(root, f"sources/g/{relation}.csv", lines)
-        write(root, "defs/V.ssql", view)
-        first = write(root, "first", in_turn(rows, FIRST, row))
-        given = write(root, "changes", in_turn(rows, count, row))
-        shown = ended([program(), "show", "V"], root)
-        words = [program(), "maintain", "V"]
-        opened = ended(words, root)
-        begun = ended(words, root, first)
-        changed = ended(words, root, given)
-        if name == "values to columns":
-            grouped = ended(words, root, write(root, "groups", in_groups(rows, count, row)))
-            each = (grouped.seconds - begun.seconds) / (count - FIRST)
-            report(f"maintain, {name}, {rows} rows, {count} changes in groups of ten", grouped, f"; one change {each * 1e6:.2f} us")
+    for relation, lines in sources(rows).items():
+        write(root, f"sources/g/{relation}.csv", lines)
+    write(root, "defs/V.ssql", view)
+    words = [program(), "maintain", "V"]
+    runs = {
+        "shown": ([program(), "show", "V"], None),
+        "opened": (words, None),
+        "begun": (words, write(root, "first", in_turn(rows, FIRST, row))),
+        "changed": (words, write(root, "changes", in_turn(rows, count, row))),
+    }
+    if name == "values to columns":
+        runs["grouped"] = (words, write(root, "groups", in_groups(rows, count, row)))
+    return runs
+
+
+def times_of_change(name, count):
+    """The least of several runs over few and over many rows, by the number of these and by what they measure."""
+    few, many = VIEWS[name][3]
+    with folder() as small, folder() as large:
+        cases = {}
+        for rows, root in ((few, small), (many, large)):
+            for what, (words, given) in prepared(root, name, rows, count).items():
+                cases[rows, what] = (words, root, given)
+        made = {case: [] for case in cases}
+        for _ in range(ROUNDS):
+            for case, (words, root, given) in cases.items():
+                made[case].append(ended(words, root, given))
+    return {case: least(runs) for case, runs in made.items()}
+
+
+def each_change(name, rows, count, runs):
+    """The seconds of one change behind the first ones, which are those of a run with all changes less those of a run with
+    the first, by the number of the others: both link the rows of the relation once, and save it and the view at the end."""
+    opened, begun, changed = (runs[rows, what] for what in ("opened", "begun", "changed"))
+    if (rows, "grouped") in runs:
+        grouped = runs[rows, "grouped"]
+        each = (grouped.seconds - begun.seconds) / (count - FIRST)
+        report(f"maintain, {name}, {rows} rows, {count} changes in groups of ten", grouped, f"; one change {each * 1e6:.2f} us")
     each = (changed.seconds - begun.seconds) / (count - FIRST)
     once = begun.seconds - opened.seconds
     report(f"maintain, {name}, {rows} rows, {count} changes", changed, f"; one change {each * 1e6:.2f} us, the first {FIRST} and the last sync {once:.2f} s")
-    return each, opened, shown
+    return each
 
 
 def least_of_sqlite(words, root, given):
@@ -185,12 +210,13 @@ def load(count):
 
 
 def main():
-    count = int(sys.argv[2]) if len(sys.argv) > 2 else 100_000
+    count = int(sys.argv[2]) if len(sys.argv) > 2 else 400_000
     for name, (_, _, _, (fewer, more)) in VIEWS.items():
-        few, _, _ = time_of_change(name, fewer, count)
-        many, opened, shown = time_of_change(name, more, count)
+        runs = times_of_change(name, count)
+        few, many = (each_change(name, rows, count, runs) for rows in (fewer, more))
+        opened, shown = runs[more, "opened"], runs[more, "shown"]
         print(f"{name}: a change over {more // fewer} times as many rows takes {many / few:.2f} times as long")
-        print(f"{name}: opening takes {opened.seconds / shown.seconds:.2f} of the time of show, {opened.megabytes / shown.megabytes:.2f} of its memory")
+        print(f"{name}: opening takes {opened.seconds / shown.seconds:.2f} of the time of show, {opened.megabytes / shown.megabytes:.2f} of its memory", flush=True)
         if name == "values to columns":
             other = time_in_sqlite(more, count)
             if other:
