@@ -38,7 +38,7 @@ fn take(alloc: Global, rows: &mut RowShelves, number: usize) -> Result<(), NoMem
 fn written(alloc: Global, rows: &RowShelves) -> Result<Vec<u8>, NoMemory> {
     let mut out = Vec::new(alloc);
     for shelf in rows.shelves() {
-        for row in shelf {
+        for row in shelf.rows() {
             for cell in row.key().cells() {
                 out.extend_from_slice(cell.as_slice())?;
             }

@@ -10,7 +10,7 @@ ghost use Rattle.row_shelves.specs.Shelves.{all_rows};
 ghost use Rattle.kept_tables.specs.Kept.{kept_table, kept_after, kept_for, HasFor};
 
 use flow_law::TableLine;
-use row_shelves::{KeptRow, RowShelves};
+use row_shelves::{RowShelf, RowShelves};
 use ss_text::{NoMemory, Row, Text};
 use std::alloc::Global;
 use std::marker::Model;
@@ -84,7 +84,7 @@ impl KeptTable {
     }
 
     /// The rows in ascending order of their keys, shelf by shelf.
-    pub fn shelves(&self) -> &[Vec<KeptRow>]
+    pub fn shelves(&self) -> &[RowShelf]
         ensures rows { rows_of (all_rows result.now) ≡ self.now.table.rows }
         ensures in_order { IsTable self.now.table }
     {

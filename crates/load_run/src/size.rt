@@ -8,7 +8,7 @@ ghost use Rattle.load_run.specs.Runs.{size_of, size_in};
 use crate::summary::Size;
 use flow_law::Shape;
 use kept_tables::KeptTable;
-use row_shelves::KeptRow;
+use row_shelves::RowShelf;
 use ss_text::{NoMemory, Text};
 use std::alloc::Global;
 use view_folder::kept_text;
@@ -45,13 +45,13 @@ fn size_in(alloc: Global, table: &KeptTable, shape: &Shape) -> Result<Size, NoMe
 
 // How many rows stand on shelves.
 #[tactic(auto, using(crate::proofs::ShelfLemmas::shelf_more))]
-fn row_count(shelves: &[Vec<KeptRow>]) -> Result<usize, NoMemory>
+fn row_count(shelves: &[RowShelf]) -> Result<usize, NoMemory>
     ensures { IfOk result (λ count. count ≡ length (all_rows shelves.now)) }
 {
     let mut count: usize = 0;
     for shelf in shelves {
         // More rows than can be counted are no memory.
-        let Some(more) = count.checked_add(shelf.len()) else {
+        let Some(more) = count.checked_add(shelf.rows().len()) else {
             return Err(NoMemory);
         };
         count = more;

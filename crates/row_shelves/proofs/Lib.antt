@@ -1,4 +1,5 @@
 pub mod ShelfLemmas
+pub mod FirstLemmas
 pub mod SameLemmas
 pub mod RoomLemmas
 pub mod ElementLemmas

@@ -1,4 +1,5 @@
 pub mod Stocks
+pub mod Fronts
 pub mod Shelves
 pub mod Blanks
 pub mod Stocked

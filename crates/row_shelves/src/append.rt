@@ -3,15 +3,14 @@ ghost use Rattle.std.specs.Prelude.{◌≡◌, ◌<◌, ◌∷◌, ◌++◌, ◌
 ghost use Rattle.std.specs.List.{AllByRecursion};
 ghost use Rattle.row_shelves.specs.Shelves.{all_rows, IsShelf, OpenAt};
 
-use crate::KeptRow;
-use crate::blank::FULL;
+use crate::{KeptRow, RowShelf};
 use ss_text::NoMemory;
 use std::alloc::Global;
 
 /// Adds a row behind all others: on the last shelf, or on a new one where the row would fill the last.
 pub(crate) fn append(
     alloc: Global,
-    shelves: &mut Vec<Vec<KeptRow>>,
+    shelves: &mut Vec<RowShelf>,
     row: KeptRow,
 ) -> Result<(), NoMemory>
     requires { AllByRecursion IsShelf shelves.old.items }
@@ -28,7 +27,7 @@ pub(crate) fn append(
 }
 
 // Whether the last shelf has room for more than one row.
-fn ends_open(shelves: &[Vec<KeptRow>]) -> bool
+fn ends_open(shelves: &[RowShelf]) -> bool
     ensures some { IsTrue result → 0 < length shelves.now }
     ensures room { IsTrue result → OpenAt shelves.now (length shelves.now - 1) }
 {
@@ -41,7 +40,7 @@ fn ends_open(shelves: &[Vec<KeptRow>]) -> bool
     rows < capacity && rows + 1 < capacity
 }
 
-fn append_last(shelves: &mut Vec<Vec<KeptRow>>, row: KeptRow)
+fn append_last(shelves: &mut Vec<RowShelf>, row: KeptRow)
     requires shelves { AllByRecursion IsShelf shelves.old.items }
     requires there { 0 < length shelves.old.items }
     requires room { OpenAt shelves.old.items (length shelves.old.items - 1) }
@@ -50,22 +49,18 @@ fn append_last(shelves: &mut Vec<Vec<KeptRow>>, row: KeptRow)
 {
     let last = shelves.len() - 1;
     let shelf = &mut shelves[last];
-    shelf.push_reserved(row);
+    shelf.push(row);
 }
 
-fn append_shelf(
-    alloc: Global,
-    shelves: &mut Vec<Vec<KeptRow>>,
-    row: KeptRow,
-) -> Result<(), NoMemory>
+fn append_shelf(alloc: Global, shelves: &mut Vec<RowShelf>, row: KeptRow) -> Result<(), NoMemory>
     requires { AllByRecursion IsShelf shelves.old.items }
     ensures ok { OnOk result (all_rows shelves.new.items ≡ all_rows shelves.old.items ++ row ∷ []) }
     ensures err { OnErr result (all_rows shelves.new.items ≡ all_rows shelves.old.items) }
     ensures shelves { AllByRecursion IsShelf shelves.new.items }
 {
     shelves.reserve(1)?;
-    let mut shelf = Vec::with_capacity(alloc, FULL)?;
-    shelf.push_reserved(row);
+    let mut shelf = RowShelf::new(alloc)?;
+    shelf.push(row);
     shelves.push_reserved(shelf);
     Ok(())
 }

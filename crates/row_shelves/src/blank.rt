@@ -3,17 +3,14 @@ ghost use Rattle.std.specs.Prelude.{◌≡◌, ◌≤◌, IfOk, OnOk};
 ghost use Rattle.std.specs.Vec.{vec_capacity};
 ghost use Rattle.row_shelves.specs.Blanks.{IsBlank};
 
-use crate::KeptRow;
+use crate::RowShelf;
 use ss_text::{NoMemory, Text};
 use std::alloc::Global;
-
-/// How many rows a shelf has room for at least.
-pub(crate) const FULL: usize = 64;
 
 /// An empty shelf, and room for the cells of a row.
 #[derive(Debug, Drop)]
 pub(crate) struct Blank {
-    pub(crate) shelf: Vec<KeptRow>,
+    pub(crate) shelf: RowShelf,
     pub(crate) cells: Vec<Text>,
 }
 
@@ -23,7 +20,7 @@ impl Blank {
         ensures { IfOk result (IsBlank bound) }
     {
         let cells = Vec::with_capacity(alloc, bound)?;
-        let shelf = Vec::with_capacity(alloc, FULL)?;
+        let shelf = RowShelf::new(alloc)?;
         Ok(Blank { shelf, cells })
     }
 

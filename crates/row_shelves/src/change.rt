@@ -7,12 +7,12 @@ ghost use Rattle.flow_law.specs.Lines.{with_cell_at};
 ghost use Rattle.row_shelves.specs.Stocks.{changed};
 ghost use Rattle.row_shelves.specs.Shelves.{all_rows, place_of, IsOn, IsAt, IsShelf, FilledAt, RoomAt, HasCellAt};
 
-use crate::KeptRow;
 use crate::spot::Spot;
+use crate::{KeptRow, RowShelf};
 use ss_text::Text;
 
 /// Puts a row at a spot, which may leave its shelf full.
-pub(crate) fn insert_at(shelves: &mut Vec<Vec<KeptRow>>, spot: Spot, row: KeptRow)
+pub(crate) fn insert_at(shelves: &mut Vec<RowShelf>, spot: Spot, row: KeptRow)
     requires there { spot.shelf < length shelves.old.items }
     requires at { IsAt shelves.old.items spot }
     requires shelves { AllByRecursion IsShelf shelves.old.items }
@@ -24,13 +24,11 @@ pub(crate) fn insert_at(shelves: &mut Vec<Vec<KeptRow>>, spot: Spot, row: KeptRo
     ensures capacity { vec_capacity shelves.new ≡ vec_capacity shelves.old }
 {
     let shelf = &mut shelves[spot.shelf];
-    let Ok(()) = shelf.insert(spot.place, row) else {
-        unreachable!()
-    };
+    shelf.insert(spot.place, row);
 }
 
 // Takes the row at a spot out, which may leave its shelf empty.
-fn take_row(shelves: &mut Vec<Vec<KeptRow>>, spot: Spot)
+fn take_row(shelves: &mut Vec<RowShelf>, spot: Spot)
     requires on { IsOn shelves.old.items spot }
     requires shelves { AllByRecursion IsShelf shelves.old.items }
     ensures rows { all_rows shelves.new.items ≡ remove (all_rows shelves.old.items) (place_of shelves.old.items spot) }
@@ -45,7 +43,7 @@ fn take_row(shelves: &mut Vec<Vec<KeptRow>>, spot: Spot)
 }
 
 // Takes a shelf away if it is empty.
-fn drop_empty(shelves: &mut Vec<Vec<KeptRow>>, place: usize)
+fn drop_empty(shelves: &mut Vec<RowShelf>, place: usize)
     requires there { place < length shelves.old.items }
     requires before { AllByRecursion IsShelf (take place shelves.old.items) }
     requires here { RoomAt shelves.old.items place }
@@ -62,7 +60,7 @@ fn drop_empty(shelves: &mut Vec<Vec<KeptRow>>, place: usize)
 }
 
 /// Takes the row at a spot out.
-pub(crate) fn remove_at(shelves: &mut Vec<Vec<KeptRow>>, spot: Spot)
+pub(crate) fn remove_at(shelves: &mut Vec<RowShelf>, spot: Spot)
     requires on { IsOn shelves.old.items spot }
     requires shelves { AllByRecursion IsShelf shelves.old.items }
     ensures rows { all_rows shelves.new.items ≡ remove (all_rows shelves.old.items) (place_of shelves.old.items spot) }
@@ -75,7 +73,7 @@ pub(crate) fn remove_at(shelves: &mut Vec<Vec<KeptRow>>, spot: Spot)
 }
 
 /// Gives a cell of the row at a spot another value.
-pub(crate) fn set_cell_at(shelves: &mut Vec<Vec<KeptRow>>, spot: Spot, column: usize, value: Text)
+pub(crate) fn set_cell_at(shelves: &mut Vec<RowShelf>, spot: Spot, column: usize, value: Text)
     requires on { IsOn shelves.old.items spot }
     requires cell { HasCellAt shelves.old.items spot column }
     requires shelves { AllByRecursion IsShelf shelves.old.items }
@@ -84,6 +82,6 @@ pub(crate) fn set_cell_at(shelves: &mut Vec<Vec<KeptRow>>, spot: Spot, column: u
     ensures count { vec_len shelves.new ≡ vec_len shelves.old }
     ensures capacity { vec_capacity shelves.new ≡ vec_capacity shelves.old }
 {
-    let row = &mut shelves[spot.shelf][spot.place];
-    row.set_cell(column, value);
+    let shelf = &mut shelves[spot.shelf];
+    shelf.set_cell(spot.place, column, value);
 }

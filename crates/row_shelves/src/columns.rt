@@ -6,25 +6,11 @@ ghost use Rattle.flow_law.specs.Lines.{with_empty_cell, without_cell};
 ghost use Rattle.row_shelves.specs.Stocks.{rows_of, changed, Has, HasSpace, HasCell};
 ghost use Rattle.row_shelves.specs.Shelves.{all_rows, AreShelves, seen_shelf, shelf_changed, same_shelf, on_shelf};
 
-use crate::KeptRow;
+use crate::RowShelf;
 use ss_text::NoMemory;
 
-// Takes the memory for so many cells of each row of a shelf.
-fn widen_rows(shelf: &mut Vec<KeptRow>, bound: usize) -> Result<(), NoMemory>
-    ensures same { rows_of shelf.new.items ≡ rows_of shelf.old.items }
-    ensures count { vec_len shelf.new ≡ vec_len shelf.old }
-    ensures capacity { vec_capacity shelf.new ≡ vec_capacity shelf.old }
-    ensures grows { (n : ℕ) → All (Has n) shelf.old.items → All (Has n) shelf.new.items }
-    ensures room { OnOk result (All (Has bound) shelf.new.items) }
-{
-    for row in shelf.iter_mut() {
-        row.make_room(bound)?;
-    }
-    Ok(())
-}
-
-// And of each row of all shelves.
-fn widen_each(shelves: &mut Vec<Vec<KeptRow>>, bound: usize) -> Result<(), NoMemory>
+// Takes the memory for so many cells of each row, shelf by shelf.
+fn widen_each(shelves: &mut Vec<RowShelf>, bound: usize) -> Result<(), NoMemory>
     ensures same { map same_shelf shelves.new.items ≡ map same_shelf shelves.old.items }
     ensures grows { (n : ℕ) → All (λ s. All (Has n) (on_shelf s)) shelves.old.items → All (λ s. All (Has n) (on_shelf s)) shelves.new.items }
     ensures room { OnOk result (All (λ s. All (Has bound) (on_shelf s)) shelves.new.items) }
@@ -32,13 +18,13 @@ fn widen_each(shelves: &mut Vec<Vec<KeptRow>>, bound: usize) -> Result<(), NoMem
     ensures capacity { vec_capacity shelves.new ≡ vec_capacity shelves.old }
 {
     for shelf in shelves.iter_mut() {
-        widen_rows(shelf, bound)?;
+        shelf.widen(bound)?;
     }
     Ok(())
 }
 
 /// Takes the memory for so many cells of each row.
-pub(crate) fn widen(shelves: &mut Vec<Vec<KeptRow>>, bound: usize) -> Result<(), NoMemory>
+pub(crate) fn widen(shelves: &mut Vec<RowShelf>, bound: usize) -> Result<(), NoMemory>
     requires { AreShelves shelves.old.items }
     ensures rows { rows_of (all_rows shelves.new.items) ≡ rows_of (all_rows shelves.old.items) }
     ensures shelves { AreShelves shelves.new.items }
@@ -51,31 +37,19 @@ pub(crate) fn widen(shelves: &mut Vec<Vec<KeptRow>>, bound: usize) -> Result<(),
     Ok(())
 }
 
-// Puts an empty cell into each row of a shelf, at this place.
-fn insert_cells(shelf: &mut Vec<KeptRow>, place: usize)
-    requires { All (HasSpace place) shelf.old.items }
-    ensures rows { shelf.new.items ≡ map (changed (with_empty_cell place)) shelf.old.items }
-    ensures count { vec_len shelf.new ≡ vec_len shelf.old }
-    ensures capacity { vec_capacity shelf.new ≡ vec_capacity shelf.old }
-{
-    for row in shelf.iter_mut() {
-        row.insert_cell(place);
-    }
-}
-
-fn insert_each(shelves: &mut Vec<Vec<KeptRow>>, place: usize)
+fn insert_each(shelves: &mut Vec<RowShelf>, place: usize)
     requires { All (λ s. All (HasSpace place) (on_shelf s)) shelves.old.items }
     ensures seen { map seen_shelf shelves.new.items ≡ map (shelf_changed (changed (with_empty_cell place))) (map seen_shelf shelves.old.items) }
     ensures count { vec_len shelves.new ≡ vec_len shelves.old }
     ensures capacity { vec_capacity shelves.new ≡ vec_capacity shelves.old }
 {
     for shelf in shelves.iter_mut() {
-        insert_cells(shelf, place);
+        shelf.insert_cells(place);
     }
 }
 
 /// Puts an empty cell into each row, at this place, for which there is room.
-pub(crate) fn insert_column(shelves: &mut Vec<Vec<KeptRow>>, place: usize)
+pub(crate) fn insert_column(shelves: &mut Vec<RowShelf>, place: usize)
     requires shelves { AreShelves shelves.old.items }
     requires space { AllByRecursion (HasSpace place) (all_rows shelves.old.items) }
     ensures rows { all_rows shelves.new.items ≡ map (changed (with_empty_cell place)) (all_rows shelves.old.items) }
@@ -86,31 +60,19 @@ pub(crate) fn insert_column(shelves: &mut Vec<Vec<KeptRow>>, place: usize)
     insert_each(shelves, place);
 }
 
-// Takes the cell at this place out of each row of a shelf.
-fn remove_cells(shelf: &mut Vec<KeptRow>, place: usize)
-    requires { All (HasCell place) shelf.old.items }
-    ensures rows { shelf.new.items ≡ map (changed (without_cell place)) shelf.old.items }
-    ensures count { vec_len shelf.new ≡ vec_len shelf.old }
-    ensures capacity { vec_capacity shelf.new ≡ vec_capacity shelf.old }
-{
-    for row in shelf.iter_mut() {
-        row.remove_cell(place);
-    }
-}
-
-fn remove_each(shelves: &mut Vec<Vec<KeptRow>>, place: usize)
+fn remove_each(shelves: &mut Vec<RowShelf>, place: usize)
     requires { All (λ s. All (HasCell place) (on_shelf s)) shelves.old.items }
     ensures seen { map seen_shelf shelves.new.items ≡ map (shelf_changed (changed (without_cell place))) (map seen_shelf shelves.old.items) }
     ensures count { vec_len shelves.new ≡ vec_len shelves.old }
     ensures capacity { vec_capacity shelves.new ≡ vec_capacity shelves.old }
 {
     for shelf in shelves.iter_mut() {
-        remove_cells(shelf, place);
+        shelf.remove_cells(place);
     }
 }
 
 /// Takes the cell at this place out of each row.
-pub(crate) fn remove_column(shelves: &mut Vec<Vec<KeptRow>>, place: usize)
+pub(crate) fn remove_column(shelves: &mut Vec<RowShelf>, place: usize)
     requires shelves { AreShelves shelves.old.items }
     requires cells { AllByRecursion (HasCell place) (all_rows shelves.old.items) }
     ensures rows { all_rows shelves.new.items ≡ map (changed (without_cell place)) (all_rows shelves.old.items) }

@@ -4,6 +4,7 @@ ghost use Rattle.std.specs.Vec.{vec_capacity};
 ghost use Rattle.ss_text.specs.Texts.{row_cmp};
 ghost use Rattle.flow_law.specs.Lines.{with_empty_cell, with_cell_at, without_cell};
 ghost use Rattle.row_shelves.specs.Stocks.{stock, changed};
+ghost use Rattle.row_shelves.specs.Fronts.{IsFrontOf};
 
 use crate::sought::SoughtKey;
 use ss_text::{NoMemory, Row, Text};
@@ -21,16 +22,15 @@ pub struct KeptRow {
 }
 
 impl Model for KeptRow {
-    ghost use Rattle.std.specs.Prelude.{◌≡◌};
     ghost use Rattle.std.specs.Vec.{vec_capacity};
-    ghost use Rattle.text_fronts.specs.Front.{front_of, first_of, AreDigits};
     ghost use Rattle.row_shelves.specs.Stocks.{Stock, stock};
+    ghost use Rattle.row_shelves.specs.Fronts.{IsFrontOf};
 
     ghost Value = { Stock };
 
     ghost view = { λ r. stock r.key r.cells.items (vec_capacity r.cells) };
 
-    ghost invariant = { λ r. record { front : r.front ≡ front_of 7 (first_of r.key); digits : AreDigits 7 (first_of r.key) } };
+    ghost invariant = { λ r. IsFrontOf r.front r.key };
 }
 
 impl KeptRow {
@@ -53,6 +53,13 @@ impl KeptRow {
     {
         fill(&mut cells, count);
         KeptRow::of(key, cells)
+    }
+
+    /// The front of its key.
+    pub(crate) fn front(&self) -> u64
+        ensures { IsFrontOf result self.now.key }
+    {
+        self.front
     }
 
     /// The constant columns' values, in header order.

@@ -6,15 +6,18 @@
 
 mod append;
 mod blank;
+mod cells;
 mod change;
 mod columns;
+mod find;
 mod kept_row;
 mod put;
 mod room;
+mod row_shelf;
 mod rows;
-mod shelf;
 mod sought;
 mod spot;
 
 pub use kept_row::KeptRow;
+pub use row_shelf::RowShelf;
 pub use rows::RowShelves;

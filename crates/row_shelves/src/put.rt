@@ -10,14 +10,14 @@ ghost use Rattle.row_shelves.specs.Stocks.{Stock, by_stock, has_key, changed};
 ghost use Rattle.row_shelves.specs.Shelves.{all_rows, AreShelves};
 ghost use Rattle.row_shelves.specs.Blanks.{IsNewShelf};
 
-use crate::KeptRow;
 use crate::change::{insert_at, remove_at, set_cell_at};
+use crate::find::find;
 use crate::room::cut_full;
-use crate::shelf::find;
+use crate::{KeptRow, RowShelf};
 use ss_text::{Row, Text};
 
 /// Puts a row in its place whose key no row has. The new shelf is taken where there is none, or where one gets full.
-pub(crate) fn put(shelves: &mut Vec<Vec<KeptRow>>, row: KeptRow, new: Vec<KeptRow>)
+pub(crate) fn put(shelves: &mut Vec<RowShelf>, row: KeptRow, new: RowShelf)
     requires shelves { AreShelves shelves.old.items }
     requires absent { has_key row.key (all_rows shelves.old.items) ≡ false }
     requires room { vec_len shelves.old < vec_capacity shelves.old }
@@ -35,7 +35,7 @@ pub(crate) fn put(shelves: &mut Vec<Vec<KeptRow>>, row: KeptRow, new: Vec<KeptRo
     put_on(shelves, row, new);
 }
 
-fn put_first(shelves: &mut Vec<Vec<KeptRow>>, row: KeptRow, mut new: Vec<KeptRow>)
+fn put_first(shelves: &mut Vec<RowShelf>, row: KeptRow, mut new: RowShelf)
     requires none { vec_len shelves.old ≡ 0 }
     requires room { vec_len shelves.old < vec_capacity shelves.old }
     requires new { IsNewShelf new }
@@ -44,11 +44,11 @@ fn put_first(shelves: &mut Vec<Vec<KeptRow>>, row: KeptRow, mut new: Vec<KeptRow
     ensures count { vec_len shelves.new ≡ vec_len shelves.old + 1 }
     ensures capacity { vec_capacity shelves.new ≡ vec_capacity shelves.old }
 {
-    new.push_reserved(row);
+    new.push(row);
     shelves.push_reserved(new);
 }
 
-fn put_on(shelves: &mut Vec<Vec<KeptRow>>, row: KeptRow, new: Vec<KeptRow>)
+fn put_on(shelves: &mut Vec<RowShelf>, row: KeptRow, new: RowShelf)
     requires shelves { AreShelves shelves.old.items }
     requires some { 0 < length shelves.old.items }
     requires absent { has_key row.key (all_rows shelves.old.items) ≡ false }
@@ -67,7 +67,7 @@ fn put_on(shelves: &mut Vec<Vec<KeptRow>>, row: KeptRow, new: Vec<KeptRow>)
 }
 
 /// Takes the row of a key out.
-pub(crate) fn take_key(shelves: &mut Vec<Vec<KeptRow>>, key: &Row)
+pub(crate) fn take_key(shelves: &mut Vec<RowShelf>, key: &Row)
     requires shelves { AreShelves shelves.old.items }
     requires there { IsTrue (has_key key.now (all_rows shelves.old.items)) }
     ensures rows { all_rows shelves.new.items ≡ filter (λ (r : Stock). not (row_eq key.now r.key)) (all_rows shelves.old.items) }
@@ -82,7 +82,7 @@ pub(crate) fn take_key(shelves: &mut Vec<Vec<KeptRow>>, key: &Row)
 }
 
 /// Gives a cell of the row of a key another value.
-pub(crate) fn set_key(shelves: &mut Vec<Vec<KeptRow>>, key: &Row, column: usize, value: Text)
+pub(crate) fn set_key(shelves: &mut Vec<RowShelf>, key: &Row, column: usize, value: Text)
     requires shelves { AreShelves shelves.old.items }
     requires there { IsTrue (has_key key.now (all_rows shelves.old.items)) }
     requires cells { AllByRecursion (λ (r : Stock). column < length r.cells) (all_rows shelves.old.items) }

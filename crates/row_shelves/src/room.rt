@@ -5,11 +5,11 @@ ghost use Rattle.std.specs.List.{AllByRecursion};
 ghost use Rattle.row_shelves.specs.Shelves.{all_rows, FilledAt, LongAt, IsShelf};
 ghost use Rattle.row_shelves.specs.Blanks.{IsNewShelf};
 
-use crate::KeptRow;
-use crate::blank::FULL;
+use crate::RowShelf;
+use crate::row_shelf::FULL;
 
 // Moves the last row of a shelf to the front of another.
-fn move_last(shelf: &mut Vec<KeptRow>, tail: &mut Vec<KeptRow>)
+fn move_last(shelf: &mut RowShelf, tail: &mut RowShelf)
     requires some { 0 < vec_len shelf.old }
     requires room { vec_len tail.old < vec_capacity tail.old }
     ensures both { shelf.new.items ++ tail.new.items ≡ shelf.old.items ++ tail.old.items }
@@ -21,13 +21,11 @@ fn move_last(shelf: &mut Vec<KeptRow>, tail: &mut Vec<KeptRow>)
     let Some(row) = shelf.pop() else {
         unreachable!()
     };
-    let Ok(()) = tail.insert(0, row) else {
-        unreachable!()
-    };
+    tail.insert(0, row);
 }
 
 // Moves so many last rows of a shelf to the front of another, in their order.
-fn move_lasts(shelf: &mut Vec<KeptRow>, tail: &mut Vec<KeptRow>, count: usize)
+fn move_lasts(shelf: &mut RowShelf, tail: &mut RowShelf, count: usize)
     requires some { count ≤ vec_len shelf.old }
     requires room { vec_len tail.old + count ≤ vec_capacity tail.old }
     ensures both { shelf.new.items ++ tail.new.items ≡ shelf.old.items ++ tail.old.items }
@@ -42,7 +40,7 @@ fn move_lasts(shelf: &mut Vec<KeptRow>, tail: &mut Vec<KeptRow>, count: usize)
 }
 
 // Cuts a long shelf in two: half of what a shelf has room for goes to the new one.
-fn split(shelves: &mut Vec<Vec<KeptRow>>, place: usize, mut tail: Vec<KeptRow>)
+fn split(shelves: &mut Vec<RowShelf>, place: usize, mut tail: RowShelf)
     requires there { place < length shelves.old.items }
     requires long { LongAt shelves.old.items place }
     requires before { AllByRecursion IsShelf (take place shelves.old.items) }
@@ -62,7 +60,7 @@ fn split(shelves: &mut Vec<Vec<KeptRow>>, place: usize, mut tail: Vec<KeptRow>)
 }
 
 /// Cuts a shelf in two if it is full.
-pub(crate) fn cut_full(shelves: &mut Vec<Vec<KeptRow>>, place: usize, tail: Vec<KeptRow>)
+pub(crate) fn cut_full(shelves: &mut Vec<RowShelf>, place: usize, tail: RowShelf)
     requires there { place < length shelves.old.items }
     requires before { AllByRecursion IsShelf (take place shelves.old.items) }
     requires here { FilledAt shelves.old.items place }

@@ -13,12 +13,12 @@ ghost use Rattle.row_shelves.specs.Shelves.{all_rows};
 ghost use Rattle.row_shelves.specs.Blanks.{IsBlank};
 ghost use Rattle.row_shelves.specs.Values.{rows_value, has_row_key};
 
-use crate::KeptRow;
 use crate::append::append;
 use crate::blank::Blank;
 use crate::columns::{insert_column, remove_column, widen};
+use crate::find::has;
 use crate::put::{put, set_key, take_key};
-use crate::shelf::has;
+use crate::{KeptRow, RowShelf};
 use ss_text::{NoMemory, Row, Text};
 use std::alloc::Global;
 use std::marker::Model;
@@ -27,7 +27,7 @@ use std::marker::Model;
 /// many cells each of all these has room.
 #[derive(Debug, Drop)]
 pub struct RowShelves {
-    shelves: Vec<Vec<KeptRow>>,
+    shelves: Vec<RowShelf>,
     blanks: Vec<Blank>,
     bound: usize,
 }
@@ -174,7 +174,7 @@ impl RowShelves {
     }
 
     /// Its rows in ascending order, shelf by shelf.
-    pub fn shelves(&self) -> &[Vec<KeptRow>]
+    pub fn shelves(&self) -> &[RowShelf]
         ensures { rows_of (all_rows result.now) ≡ self.now.rows }
     {
         &self.shelves

@@ -13,15 +13,14 @@ pub(crate) struct SoughtKey<'k> {
 }
 
 impl<'k> Model for SoughtKey<'k> {
-    ghost use Rattle.std.specs.Prelude.{◌≡◌};
     ghost use Rattle.ss_text.specs.Texts.{Row};
-    ghost use Rattle.text_fronts.specs.Front.{front_of, first_of, AreDigits};
+    ghost use Rattle.row_shelves.specs.Fronts.{IsFrontOf};
 
     ghost Value = { Row };
 
     ghost view = { λ s. s.key.now };
 
-    ghost invariant = { λ s. record { front : s.front ≡ front_of 7 (first_of s.key.now); digits : AreDigits 7 (first_of s.key.now) } };
+    ghost invariant = { λ s. IsFrontOf s.front s.key.now };
 }
 
 impl<'k> SoughtKey<'k> {

@@ -26,7 +26,7 @@ fn row_behind(table: &Table, first: usize, shelf: &[KeptRow]) -> Option<usize> {
 fn is_table(kept: &KeptTable, table: &Table) -> bool {
     let mut place = 0;
     for shelf in kept.shelves() {
-        match row_behind(table, place, shelf) {
+        match row_behind(table, place, shelf.rows()) {
             Some(behind) => place = behind,
             None => return false,
         }

@@ -13,7 +13,7 @@ use crate::table_file::with_record;
 use csv_catalog::RecordsText;
 use flow_law::Shape;
 use kept_tables::{KeptTable, Slot};
-use row_shelves::KeptRow;
+use row_shelves::{KeptRow, RowShelf};
 use ss_text::{NoMemory, Text};
 use std::alloc::Global;
 
@@ -33,14 +33,14 @@ fn with_shelves(
     alloc: Global,
     text: RecordsText,
     spot: Option<usize>,
-    shelves: &[Vec<KeptRow>],
+    shelves: &[RowShelf],
 ) -> Result<RecordsText, NoMemory>
     requires { AllByRecursion (λ (r : Stock). r.key ≢ []) (all_rows shelves.now) }
     ensures { IfOk result (λ all. all ≡ text ++ csv_text (row_records spot (rows_of (all_rows shelves.now)))) }
 {
     let mut text = text;
     for shelf in shelves {
-        text = with_shelf(alloc, text, spot, shelf)?;
+        text = with_shelf(alloc, text, spot, shelf.rows())?;
     }
     Ok(text)
 }

@@ -9,7 +9,7 @@ returns-clause-rows c =
     let shelf = c.index_mut-shelf.result.now in
     let spot = c.args.spot in
     changed_on_shelf on_shelf (inserting c.args.row) c.args.shelves.now.items spot.shelf spot.place shelf c.insert.new.self c.requires.there (c.requires.at.place shelf c.requires.there)
-    (c.in-Ok.ensures.items ∙ ap (λ s. insert (on_shelf s) spot.place c.args.row) c.index_mut-shelf.ensures.value)
+    (c.insert.ensures.items ∙ ap (λ s. insert (on_shelf s) spot.place c.args.row) c.index_mut-shelf.ensures.value)
 
 pub returns-clause-behind : goal.returns-clause-behind
 returns-clause-behind c = all_set_behind IsShelf c.args.shelves.now.items c.args.spot.shelf c.insert.new.self c.requires.shelves

@@ -1,6 +1,5 @@
-use Rattle.std.proofs.Common.{ap, ◌∙◌, length, ◌<◌}
+use Rattle.std.proofs.Common.{ap, ◌∙◌}
 use Rattle.ss_text.specs.Places.{at_place}
-use Rattle.ss_text.proofs.PlaceLemmas.{put_back}
 use Rattle.flow_law.specs.Lines.{with_cell_at}
 use Rattle.row_shelves.specs.Stocks.{changed}
 use Rattle.row_shelves.specs.Shelves.{on_shelf}
@@ -9,11 +8,8 @@ use Rattle.row_shelves.proofs.change.set_cell_at.Goals as goal
 
 pub returns-clause-rows : goal.returns-clause-rows
 returns-clause-rows c =
-    let shelf = c.index_mut.result.now in
-    let row = c.index_mut-row.result.now in
+    let shelf = c.index_mut-shelf.result.now in
     let spot = c.args.spot in
     let g = changed (with_cell_at c.args.column c.args.value) in
-    let lt : spot.place < length shelf.items = rw c.index_mut.ensures.value (c.requires.on.place shelf) in
-    changed_on_shelf on_shelf (changing g) c.args.shelves.now.items spot.shelf spot.place shelf _ c.requires.on.shelf (c.requires.on.place shelf)
-    (put_back shelf.items spot.place row c.set_cell.new.self g lt c.index_mut-row.ensures.value c.set_cell.ensures
-    ∙ ap (λ s. at_place spot.place g (on_shelf s)) c.index_mut.ensures.value)
+    changed_on_shelf on_shelf (changing g) c.args.shelves.now.items spot.shelf spot.place shelf c.set_cell.new.self c.requires.on.shelf (c.requires.on.place shelf)
+    (c.set_cell.ensures.items ∙ ap (λ s. at_place spot.place g (on_shelf s)) c.index_mut-shelf.ensures.value)

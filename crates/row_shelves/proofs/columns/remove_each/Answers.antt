@@ -17,6 +17,6 @@ loop-shelf-preserved c =
     let lt : i < length now = omega arith in
     let same = c.remove_cells.ensures in
     record {
-      done = one_more seen_shelf (shelf_changed (changed (without_cell c.args.place))) (map seen_shelf c.args.shelves.now.items) now i c.shelf-item.result c.remove_cells.new.shelf lt c.loop-shelf.invariant.done (λ j. (same.rows j, same.count j, same.capacity j));
-      within = rest_kept (λ s. All (HasCell c.args.place) (on_shelf s)) now i c.remove_cells.new.shelf c.loop-shelf.invariant.within;
+      done = one_more seen_shelf (shelf_changed (changed (without_cell c.args.place))) (map seen_shelf c.args.shelves.now.items) now i c.shelf-item.result c.remove_cells.new.self lt c.loop-shelf.invariant.done (λ j. (same.rows j, same.count j, same.capacity j));
+      within = rest_kept (λ s. All (HasCell c.args.place) (on_shelf s)) now i c.remove_cells.new.self c.loop-shelf.invariant.within;
     }

@@ -6,43 +6,31 @@ ghost use Rattle.std.specs.List.Sorted.{IsStrictlySortedBy};
 ghost use Rattle.row_shelves.specs.Stocks.{stock_key, has_key};
 ghost use Rattle.row_shelves.specs.Shelves.{on_shelf, all_rows, first_key, AreShelves, place_of, IsOn, IsAt};
 
-use crate::KeptRow;
+use crate::RowShelf;
 use crate::sought::SoughtKey;
 use crate::spot::Spot;
 use ss_text::Row;
-use std::cmp::Ordering;
-
-// How the key that a shelf begins with stands to one that is sought.
-fn cmp_first_key(shelf: &Vec<KeptRow>, key: &SoughtKey<'_>) -> Ordering
-    ensures { result ≡ row_cmp (first_key shelf.now) key.now }
-{
-    match shelf.first() {
-        Some(row) => row.cmp_key(key),
-        None if key.key.cells().is_empty() => Ordering::Equal,
-        None => Ordering::Less,
-    }
-}
 
 // The shelf that begins with this key, or before which such a shelf would stand.
-fn shelf_of(shelves: &[Vec<KeptRow>], key: &SoughtKey<'_>) -> Result<usize, usize>
+fn shelf_of(shelves: &[RowShelf], key: &SoughtKey<'_>) -> Result<usize, usize>
     requires { AreShelves shelves.now }
     ensures found { IfOk result (IsPlaceOf first_key key.now shelves.now) }
     ensures absent { IfErr result (IsPlaceFor row_cmp first_key key.now shelves.now) }
 {
-    shelves.binary_search_by(|shelf| cmp_first_key(shelf, key))
+    shelves.binary_search_by(|shelf| shelf.cmp_first_key(key))
 }
 
 // The place of a key on one shelf, or where it would stand.
-fn place_on(shelf: &Vec<KeptRow>, key: &SoughtKey<'_>) -> Result<usize, usize>
+fn place_on(shelf: &RowShelf, key: &SoughtKey<'_>) -> Result<usize, usize>
     requires { IsStrictlySortedBy row_cmp (map stock_key (on_shelf shelf.now)) }
     ensures found { IfOk result (IsPlaceOf stock_key key.now (on_shelf shelf.now)) }
     ensures absent { IfErr result (IsPlaceFor row_cmp stock_key key.now (on_shelf shelf.now)) }
 {
-    shelf.binary_search_by(|row| row.cmp_key(key))
+    shelf.rows().binary_search_by(|row| row.cmp_key(key))
 }
 
 // The spot of a key, or where it would stand.
-fn find_sought(shelves: &[Vec<KeptRow>], key: &SoughtKey<'_>) -> Result<Spot, Spot>
+fn find_sought(shelves: &[RowShelf], key: &SoughtKey<'_>) -> Result<Spot, Spot>
     requires { AreShelves shelves.now }
     ensures found { IfOk result (λ s. IsPlaceOf stock_key key.now (all_rows shelves.now) (place_of shelves.now s)) }
     ensures absent { IfErr result (λ s. IsPlaceFor row_cmp stock_key key.now (all_rows shelves.now) (place_of shelves.now s)) }
@@ -64,7 +52,7 @@ fn find_sought(shelves: &[Vec<KeptRow>], key: &SoughtKey<'_>) -> Result<Spot, Sp
 
 /// The spot of a key, or where it would stand: at the front of the first shelf, or on the last one that begins with a
 /// lesser key.
-pub(crate) fn find(shelves: &[Vec<KeptRow>], key: &Row) -> Result<Spot, Spot>
+pub(crate) fn find(shelves: &[RowShelf], key: &Row) -> Result<Spot, Spot>
     requires { AreShelves shelves.now }
     ensures found { IfOk result (λ s. IsPlaceOf stock_key key.now (all_rows shelves.now) (place_of shelves.now s)) }
     ensures absent { IfErr result (λ s. IsPlaceFor row_cmp stock_key key.now (all_rows shelves.now) (place_of shelves.now s)) }
@@ -75,7 +63,7 @@ pub(crate) fn find(shelves: &[Vec<KeptRow>], key: &Row) -> Result<Spot, Spot>
 }
 
 /// Whether a row has the key.
-pub(crate) fn has(shelves: &[Vec<KeptRow>], key: &Row) -> bool
+pub(crate) fn has(shelves: &[RowShelf], key: &Row) -> bool
     requires { AreShelves shelves.now }
     ensures { result ≡ has_key key.now (all_rows shelves.now) }
 {

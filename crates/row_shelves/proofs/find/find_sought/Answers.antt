@@ -4,7 +4,7 @@ use Rattle.row_shelves.specs.Stocks.{stock, stock_key}
 use Rattle.row_shelves.specs.Shelves.{on_shelf}
 use Rattle.row_shelves.proofs.RoomLemmas.{somes}
 use Rattle.row_shelves.proofs.ShelfLemmas.{shelf_ascends, found_on, found_first, absent_first, absent_before}
-use Rattle.row_shelves.proofs.shelf.find_sought.Goals as goal
+use Rattle.row_shelves.proofs.find.find_sought.Goals as goal
 
 pub place_on-requires : goal.place_on-requires
 place_on-requires c =

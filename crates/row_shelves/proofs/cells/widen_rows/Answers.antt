@@ -3,7 +3,7 @@ use Rattle.std.proofs.lemmas.List.Elements.{AllWithin-more_set}
 use Rattle.std.specs.List.{All}
 use Rattle.row_shelves.specs.Stocks.{row_of, rows_of, Has}
 use Rattle.row_shelves.proofs.ElementLemmas.{seen_set, all_set, all_written}
-use Rattle.row_shelves.proofs.columns.widen_rows.Goals as goal
+use Rattle.row_shelves.proofs.cells.widen_rows.Goals as goal
 
 pub loop-row-preserved : goal.loop-row-preserved
 loop-row-preserved c =
@@ -23,7 +23,7 @@ returns-in_err-make_room-clause-same c =
     let i = c.loop-row.row-index in
     let new = c.make_room.new.self in
     let lt : i < length now = omega arith in
-    ap rows_of (all_written c.args.shelf.now.len (set now i new) c.args.shelf.now.items (omega (arith, length-set now i new)))
+    ap rows_of (all_written c.args.rows.now.len (set now i new) c.args.rows.now.items (omega (arith, length-set now i new)))
     ∙ seen_set row_of now i c.row-item.result new lt (λ j. (c.make_room.ensures.key j, c.make_room.ensures.cells j)) ∙ c.loop-row.invariant.same
 
 pub returns-in_err-make_room-clause-grows : goal.returns-in_err-make_room-clause-grows
@@ -32,5 +32,5 @@ returns-in_err-make_room-clause-grows c =
     let i = c.loop-row.row-index in
     let new = c.make_room.new.self in
     let lt : i < length now = omega arith in
-    λ n h. subst (All (Has n)) (sym (all_written c.args.shelf.now.len (set now i new) c.args.shelf.now.items (omega (arith, length-set now i new))))
+    λ n h. subst (All (Has n)) (sym (all_written c.args.rows.now.len (set now i new) c.args.rows.now.items (omega (arith, length-set now i new))))
     (all_set (Has n) now i new (c.loop-row.invariant.grows n h) (omega (arith, c.make_room.ensures.grows, c.loop-row.invariant.grows n h i c.row-item.result lt)))

@@ -6,7 +6,7 @@ use Rattle.row_shelves.specs.Stocks.{stock, stock_key}
 use Rattle.row_shelves.specs.Shelves.{first_key, on_shelf}
 use Rattle.row_shelves.proofs.RoomLemmas.{somes}
 use Rattle.row_shelves.proofs.ShelfLemmas.{begins_ascend}
-use Rattle.row_shelves.proofs.shelf.shelf_of.Goals as goal
+use Rattle.row_shelves.proofs.find.shelf_of.Goals as goal
 
 pub returns : goal.returns
 returns c =
