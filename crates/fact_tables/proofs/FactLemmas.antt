@@ -1,5 +1,5 @@
 -- The order of facts by the parts that the code compares.
-use Rattle.std.proofs.Common.{◌≡◌, ◌+◌, ◌-◌, ◌<◌, ℕ, List, [], ◌∷◌, length, take, drop, Option, Some, None, Bor, true, refl, sym, ap, subst, arith, ◌∙◌}
+use Rattle.std.proofs.Common.{◌≡◌, ◌+◌, ◌-◌, ◌<◌, ℕ, List, [], ◌∷◌, length, take, drop, Option, Some, true, refl, ap, subst, arith, ◌∙◌}
 use Rattle.std.specs.Prelude.{slice_get}
 use Rattle.std.specs.List.{prefix_len}
 use Rattle.std.proofs.lemmas.List.{take_all}
@@ -9,24 +9,11 @@ use Rattle.flow_law.specs.Facts.{Fact}
 use Rattle.std.specs.declared.cmp.Ordering.{Ordering}
 use Rattle.std.specs.declared.cmp.Ordering.TheVariants.{Less, Equal, Greater}
 use Rattle.std.specs.Ordering.{ordering_then, is_eq}
-use Rattle.std.specs.Option.{option_cmp}
 use Rattle.ss_text.specs.Texts.{Text, Row, text_cmp, row_cmp, row_eq}
-use Rattle.fact_tables.specs.Borrowed.{cell_value, fact_value}
+use Rattle.fact_tables.specs.Parts.{fact_value}
 use Rattle.flow_law.specs.FactOrder.{cell_cmp, fact_cmp}
 
-abbrev pub Cell : Type 0
-Cell = Option (Text × Bor Text)
-
-abbrev pub borrowed_cells_cmp : Cell → Cell → Ordering
-borrowed_cells_cmp = option_cmp (λ (a : Text × Bor Text) (b : Text × Bor Text). ordering_then (text_cmp a.0 b.0) (text_cmp a.1.now b.1.now))
-
-same_cells : (p q : Cell) → cell_cmp (cell_value p) (cell_value q) ≡ borrowed_cells_cmp p q
-same_cells None None = refl
-same_cells None (Some q) = refl
-same_cells (Some p) None = refl
-same_cells (Some p) (Some q) = refl
-
-module _ (l m : Text) (j k : Row) (p q : Cell) (r : Ordering) where
+module _ (l m : Text) (j k : Row) (p q : Option (Text × Text)) (r : Ordering) where
   -- where the labels are the same, keys that are not decide
   pub by_key : text_cmp l m ≡ Equal → r ≡ row_cmp j k → (r ≡ Equal → ⊥) → r ≡ fact_cmp (fact_value l j p) (fact_value m k q)
   by_key same e differs = rw same (e ∙ decided (row_cmp j k) _ (λ s. differs (e ∙ s)))
@@ -37,8 +24,8 @@ module _ (l m : Text) (j k : Row) (p q : Cell) (r : Ordering) where
       decided Greater s d = refl
 
   -- and else the cells
-  pub by_cell : text_cmp l m ≡ Equal → row_cmp j k ≡ Equal → r ≡ borrowed_cells_cmp p q → r ≡ fact_cmp (fact_value l j p) (fact_value m k q)
-  by_cell same also e = rw (same, also) (e ∙ sym (same_cells p q))
+  pub by_cell : text_cmp l m ≡ Equal → row_cmp j k ≡ Equal → r ≡ cell_cmp p q → r ≡ fact_cmp (fact_value l j p) (fact_value m k q)
+  by_cell same also e = rw (same, also) e
 
 -- a fact has its own key
 pub first_counts : (first : Fact) (fs : List Fact) (n : ℕ) → Some first ≡ slice_get fs 0 → 0 < length fs → n ≡ prefix_len (λ (f : Fact). row_eq first.key f.key) (take (length fs - 1) (drop 1 fs))

@@ -6,3 +6,4 @@ pub mod TableRows
 pub mod OrderLemmas
 pub mod OrderedValues
 pub mod ColumnLemmas
+pub mod OneLabel

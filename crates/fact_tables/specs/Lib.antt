@@ -1,4 +1,4 @@
-pub mod Borrowed
+pub mod Parts
 pub mod Cells
 pub mod Held
 pub mod Next

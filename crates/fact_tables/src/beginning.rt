@@ -2,16 +2,17 @@
 ghost use Rattle.std.specs.Prelude.{◌≡◌, ◌≤◌, length};
 
 use crate::fact::Fact;
+use crate::fact_cell::FactCell;
 use bumpalo::Bump;
 use ss_text::{NoMemory, Text};
 use std::alloc::Global;
 
 /// Finds what the first values of all keys begin with. They compare from now on by what stands behind it, so that keys
 /// which begin alike are not read to be compared.
-pub fn share_beginning<'a>(
+pub fn share_beginning<'a, C: FactCell>(
     alloc: Global,
     arena: &'a Bump<Global>,
-    facts: &mut [Fact<'a>],
+    facts: &mut [Fact<'a, C>],
 ) -> Result<(), NoMemory>
     ensures { facts.new ≡ facts.old }
 {
@@ -24,7 +25,7 @@ pub fn share_beginning<'a>(
 }
 
 // Lets all keys that begin so compare by what stands behind this beginning.
-fn stand_behind<'a>(facts: &mut [Fact<'a>], beginning: &'a Text)
+fn stand_behind<'a, C: FactCell>(facts: &mut [Fact<'a, C>], beginning: &'a Text)
     ensures { facts.new ≡ facts.old }
 {
     for place in 0..facts.len() {
@@ -33,7 +34,7 @@ fn stand_behind<'a>(facts: &mut [Fact<'a>], beginning: &'a Text)
 }
 
 // What the first values of all keys begin with.
-fn beginning<'a>(facts: &[Fact<'a>]) -> &'a [u8] {
+fn beginning<'a, C: FactCell>(facts: &[Fact<'a, C>]) -> &'a [u8] {
     let mut facts = facts.iter();
     let mut shared: &'a [u8] = match facts.next() {
         Some(fact) => fact.first(),

@@ -5,10 +5,11 @@ ghost use Rattle.ss_text.specs.Texts.{text_eq, row_eq};
 ghost use Rattle.flow_law.specs.Facts.{column_of, value_in};
 ghost use Rattle.std.specs.Ordering.{eq_by_cmp, as_partial_cmp};
 ghost use Rattle.std.specs.Cmp.{partial_equiv_from_equiv, partial_order_from_agreeing_total, eq_by_cmp_equiv};
-ghost use Rattle.fact_tables.specs.Borrowed.{fact_value};
+ghost use Rattle.fact_tables.specs.Parts.{fact_value};
 ghost use Rattle.fact_tables.specs.Cells.{is_past};
 ghost use Rattle.flow_law.specs.FactOrder.{fact_cmp, fact_total};
 
+use crate::fact_cell::FactCell;
 use crate::key::Key;
 use crate::label::Label;
 use ss_text::{NoMemory, Row, Text};
@@ -16,28 +17,28 @@ use std::alloc::Global;
 use std::cmp::Ordering;
 use std::marker::Model;
 
-/// A table label, a key, and a column with its value where the view has a variable column. Facts are in
-/// order by label, then by key, then by column and value.
+/// A table label, a key, and a cell: a column with its value where the view has a variable column. Where it has none, the
+/// cell takes no room. Facts are in order by label, then by key, then by column and value.
 #[derive(Drop)]
-pub struct Fact<'a> {
+pub struct Fact<'a, C: FactCell> {
     label: Label<'a>,
     key: Key<'a>,
-    cell: Option<(Label<'a>, &'a Text)>,
+    cell: C,
 }
 
-impl<'a> Model for Fact<'a> {
+impl<'a, C: FactCell> Model for Fact<'a, C> {
     ghost use Rattle.flow_law.specs.Facts.{Fact};
-    ghost use Rattle.fact_tables.specs.Borrowed.{fact_value};
+    ghost use Rattle.fact_tables.specs.Parts.{fact_value};
 
     ghost Value = { Fact };
 
-    ghost view = { λ f. fact_value f.label f.key f.cell };
+    ghost view = { λ f. fact_value f.label f.key (C.cell f.cell) };
 }
 
-impl<'a> Fact<'a> {
+impl<'a, C: FactCell> Fact<'a, C> {
     /// The fact with these parts.
-    pub fn of(label: Label<'a>, key: Key<'a>, cell: Option<(Label<'a>, &'a Text)>) -> Fact<'a>
-        ensures { result ≡ fact_value label.entry key.entry cell.entry }
+    pub fn of(label: Label<'a>, key: Key<'a>, cell: C) -> Fact<'a, C>
+        ensures { result ≡ fact_value label.entry key.entry (C.cell cell) }
     {
         Fact { label, key, cell }
     }
@@ -57,31 +58,25 @@ impl<'a> Fact<'a> {
     }
 
     /// Its column label.
-    pub(crate) fn column(&self) -> Option<&Label<'a>>
+    pub(crate) fn column(&self) -> Option<&Label<'_>>
         ensures { option_copied result ≡ column_of self.now }
     {
-        match &self.cell {
-            Some((column, _)) => Some(column),
-            None => None,
-        }
+        self.cell.column()
     }
 
-    /// Its column label and value.
-    pub(crate) fn cell(&self) -> Option<(&Label<'a>, &'a Text)>
+    /// Its column label and its value.
+    pub(crate) fn cell(&self) -> Option<(&Label<'_>, &Text)>
         ensures { option_map (λ c. (c.0.now, c.1.now)) result ≡ self.now.cell }
     {
-        match &self.cell {
-            Some((column, value)) => Some((column, *value)),
-            None => None,
-        }
+        Some((self.cell.column()?, self.cell.value()?))
     }
 
     /// Its value, where it names this column.
-    pub(crate) fn value(&self, column: &Label<'_>) -> Option<&'a Text>
+    pub(crate) fn value(&self, column: &Label<'_>) -> Option<&Text>
         ensures { option_copied result ≡ value_in column.now self.now }
     {
-        match &self.cell {
-            Some((named, value)) if column == named => Some(*value),
+        match self.cell() {
+            Some((named, value)) if column == named => Some(value),
             _ => None,
         }
     }
@@ -90,7 +85,7 @@ impl<'a> Fact<'a> {
     pub(crate) fn is_past(&self, column: &Label<'_>) -> bool
         ensures { result ≡ is_past column.now self.now }
     {
-        let Some((named, value)) = &self.cell else {
+        let Some((named, value)) = self.cell() else {
             return false;
         };
         match named.cmp(column) {
@@ -123,7 +118,7 @@ impl<'a> Fact<'a> {
     }
 
     /// Whether it has the key of another.
-    pub(crate) fn has_key_of(&self, other: &Fact<'_>) -> bool
+    pub(crate) fn has_key_of(&self, other: &Fact<'a, C>) -> bool
         ensures { result ≡ row_eq self.now.key other.now.key }
     {
         self.key == other.key
@@ -131,7 +126,10 @@ impl<'a> Fact<'a> {
 }
 
 /// The fact at a place.
-pub(crate) fn fact_at<'f, 'a>(facts: &'f [Fact<'a>], place: usize) -> Option<&'f Fact<'a>>
+pub(crate) fn fact_at<'f, 'a, C: FactCell>(
+    facts: &'f [Fact<'a, C>],
+    place: usize,
+) -> Option<&'f Fact<'a, C>>
     ensures fact { option_copied result ≡ slice_get facts.now place }
     ensures there { OnSome result (place < length facts.now) }
 {
@@ -139,7 +137,10 @@ pub(crate) fn fact_at<'f, 'a>(facts: &'f [Fact<'a>], place: usize) -> Option<&'f
 }
 
 /// The facts from a place on.
-pub(crate) fn facts_from<'f, 'a>(facts: &'f [Fact<'a>], place: usize) -> &'f [Fact<'a>]
+pub(crate) fn facts_from<'f, 'a, C: FactCell>(
+    facts: &'f [Fact<'a, C>],
+    place: usize,
+) -> &'f [Fact<'a, C>]
     requires { place ≤ length facts.now }
     ensures { result.now ≡ drop place facts.now }
 {
@@ -147,7 +148,7 @@ pub(crate) fn facts_from<'f, 'a>(facts: &'f [Fact<'a>], place: usize) -> &'f [Fa
 }
 
 /// How many facts at the front have this label.
-pub(crate) fn label_count(facts: &[Fact<'_>], label: &Label<'_>) -> usize
+pub(crate) fn label_count<'a, C: FactCell>(facts: &[Fact<'a, C>], label: &Label<'_>) -> usize
     ensures count { result ≡ prefix_len (λ f. text_eq label.now f.label) facts.now }
     ensures within { result ≤ length facts.now }
 {
@@ -158,7 +159,7 @@ pub(crate) fn label_count(facts: &[Fact<'_>], label: &Label<'_>) -> usize
 }
 
 /// How many facts at the front have the key of the first one, which is this. That one is not compared with itself.
-pub(crate) fn key_count(facts: &[Fact<'_>], first: &Fact<'_>) -> usize
+pub(crate) fn key_count<'a, C: FactCell>(facts: &[Fact<'a, C>], first: &Fact<'a, C>) -> usize
     requires { Some first.now ≡ slice_get facts.now 0 }
     ensures count { result ≡ prefix_len (λ f. row_eq first.now.key f.key) facts.now }
     ensures within { result ≤ length facts.now }
@@ -170,7 +171,7 @@ pub(crate) fn key_count(facts: &[Fact<'_>], first: &Fact<'_>) -> usize
 }
 
 // How many facts at the front have the key of this one.
-fn like_count(facts: &[Fact<'_>], first: &Fact<'_>) -> usize
+fn like_count<'a, C: FactCell>(facts: &[Fact<'a, C>], first: &Fact<'a, C>) -> usize
     ensures count { result ≡ prefix_len (λ f. row_eq first.now.key f.key) facts.now }
     ensures within { result ≤ length facts.now }
 {
@@ -180,7 +181,7 @@ fn like_count(facts: &[Fact<'_>], first: &Fact<'_>) -> usize
         .count()
 }
 
-impl PartialEq for Fact<'_> {
+impl<'a, C: FactCell> PartialEq for Fact<'a, C> {
     ghost eq = { eq_by_cmp fact_cmp };
 
     ghost laws = { partial_equiv_from_equiv (eq_by_cmp_equiv fact_total) };
@@ -190,11 +191,11 @@ impl PartialEq for Fact<'_> {
     }
 }
 
-impl Eq for Fact<'_> {
+impl<'a, C: FactCell> Eq for Fact<'a, C> {
     ghost laws = { eq_by_cmp_equiv fact_total };
 }
 
-impl PartialOrd for Fact<'_> {
+impl<'a, C: FactCell> PartialOrd for Fact<'a, C> {
     ghost partial_cmp = { as_partial_cmp fact_cmp };
 
     ghost laws = { partial_order_from_agreeing_total fact_cmp fact_total (λ a b. refl) (λ a b. refl) };
@@ -204,7 +205,7 @@ impl PartialOrd for Fact<'_> {
     }
 }
 
-impl Ord for Fact<'_> {
+impl<'a, C: FactCell> Ord for Fact<'a, C> {
     ghost cmp = { fact_cmp };
 
     ghost total = { fact_total };
@@ -216,7 +217,7 @@ impl Ord for Fact<'_> {
     fn cmp(&self, other: &Self) -> Ordering {
         match self.label.cmp(&other.label) {
             Ordering::Equal => match self.key.cmp(&other.key) {
-                Ordering::Equal => self.cell.cmp(&other.cell),
+                Ordering::Equal => self.cell.order(&other.cell),
                 differs => differs,
             },
             differs => differs,

@@ -52,10 +52,11 @@ impl<'a> Key<'a> {
         requires { empty.now ≡ [] }
         ensures { result ≡ values.entry }
     {
+        let front = front_of(first_behind(&values, 0));
         Key {
             beginning: empty,
-            front: front_of(first_behind(&values, 0)),
-            next: front_of(next_behind(&values, 0)),
+            front,
+            next: front_of(next_behind(&values, 0, front)),
             values,
         }
     }
@@ -67,7 +68,7 @@ impl<'a> Key<'a> {
         let skipped = beginning.as_slice().len();
         if begins_with(&self.values, beginning) {
             self.front = front_of(first_behind(&self.values, skipped));
-            self.next = front_of(next_behind(&self.values, skipped));
+            self.next = front_of(next_behind(&self.values, skipped, self.front));
             self.beginning = beginning;
         }
     }
@@ -198,15 +199,15 @@ fn second<'a>(values: &Values<'a>) -> &'a [u8]
     }
 }
 
-// The bytes next to the front of the first value behind so many.
-fn next_behind<'a>(values: &Values<'a>, skipped: usize) -> &'a [u8]
+// The bytes next to the front of the first value behind so many, which is this.
+fn next_behind<'a>(values: &Values<'a>, skipped: usize, front: u64) -> &'a [u8]
+    requires { front ≡ front_of 7 (first_of (shortened skipped values.now)) }
     ensures { result.now ≡ next_of (shortened skipped values.now) }
 {
-    let first = first_behind(values, skipped);
-    if is_whole(front_of(first)) {
+    if is_whole(front) {
         second(values)
     } else {
-        behind(first, 7)
+        behind(first_behind(values, skipped), 7)
     }
 }
 

@@ -42,7 +42,7 @@ impl<'a> Label<'a> {
     }
 
     /// The same label.
-    pub(crate) fn again(&self) -> Label<'a>
+    pub fn again(&self) -> Label<'a>
         ensures { result ≡ self.now }
     {
         Label {

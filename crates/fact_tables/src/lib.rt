@@ -6,6 +6,7 @@
 
 mod beginning;
 mod fact;
+mod fact_cell;
 mod key;
 mod label;
 mod ordered;
@@ -19,6 +20,7 @@ mod values;
 
 pub use beginning::share_beginning;
 pub use fact::Fact;
+pub use fact_cell::{FactCell, NoCell, OneCell};
 pub use key::Key;
 pub use label::Label;
 pub use ordered::{OrderedFacts, order_facts};

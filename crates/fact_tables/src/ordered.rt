@@ -10,6 +10,7 @@ ghost use Rattle.flow_law.specs.Stops.{IsStop};
 ghost use Rattle.flow_law.specs.declared.refused.Stop.TheVariants as stop;
 
 use crate::fact::Fact;
+use crate::fact_cell::FactCell;
 use crate::refused::{conflict, illegal};
 use crate::table_facts::{TableFacts, table_facts};
 use crate::tables::tables;
@@ -21,12 +22,12 @@ use std::marker::Model;
 /// Facts in order, each once, which contracts see as the tables that they give. They are there to be read table by
 /// table and row by row, where the tables themselves are not wanted.
 #[derive(Drop)]
-pub struct OrderedFacts<'a> {
+pub struct OrderedFacts<'a, C: FactCell> {
     shape: &'a Shape,
-    facts: Vec<Fact<'a>>,
+    facts: Vec<Fact<'a, C>>,
 }
 
-impl<'a> Model for OrderedFacts<'a> {
+impl<'a, C: FactCell> Model for OrderedFacts<'a, C> {
     ghost use Rattle.std.specs.List.Sorted.{IsStrictlySortedBy};
     ghost use Rattle.flow_law.specs.FactOrder.{fact_cmp};
     ghost use Rattle.flow_law.specs.Labelled.{BearLabel};
@@ -40,7 +41,7 @@ impl<'a> Model for OrderedFacts<'a> {
     ghost invariant = { λ o. record { sorted : IsStrictlySortedBy fact_cmp o.facts.items; bear : BearLabel o.shape.now.label o.facts.items } };
 }
 
-impl<'a> OrderedFacts<'a> {
+impl<'a, C: FactCell> OrderedFacts<'a, C> {
     /// The tables.
     pub fn tables(&self, alloc: Global) -> Result<Tables, NoMemory>
         ensures { IfOk result (λ made. made ≡ self.now) }
@@ -49,7 +50,7 @@ impl<'a> OrderedFacts<'a> {
     }
 
     /// The facts of each table, in the order of the labels.
-    pub fn by_table(&self, alloc: Global) -> Result<Vec<TableFacts<'_, 'a>>, NoMemory>
+    pub fn by_table(&self, alloc: Global) -> Result<Vec<TableFacts<'_, 'a, C>>, NoMemory>
         ensures each { IfOk result (λ each. each.items ≡ self.now) }
         ensures in_order { AreTables self.now }
     {
@@ -59,11 +60,11 @@ impl<'a> OrderedFacts<'a> {
 
 /// The facts of a view of this form, in any order, put in order; or why the view is refused for them: the least table
 /// label that is not legal, or else the least column label, or else the least conflict.
-pub fn order_facts<'a>(
+pub fn order_facts<'a, C: FactCell>(
     alloc: Global,
     shape: &'a Shape,
-    mut facts: Vec<Fact<'a>>,
-) -> Result<OrderedFacts<'a>, Stop>
+    mut facts: Vec<Fact<'a, C>>,
+) -> Result<OrderedFacts<'a, C>, Stop>
     requires { BearLabel shape.now.label facts.items }
     ensures tables { IfOk result (λ ordered. ordered ≡ tables shape.now facts.entry.items) }
     ensures allowed { OnOk result (refusal_by stop.Illegal stop.Conflict shape.now facts.entry.items ≡ None) }
@@ -74,7 +75,7 @@ pub fn order_facts<'a>(
 }
 
 // Leaves each fact once, in order. It is done in place, since a copy of all facts would take more memory than all else.
-fn make_ascending(facts: &mut Vec<Fact<'_>>)
+fn make_ascending<'a, C: FactCell>(facts: &mut Vec<Fact<'a, C>>)
     ensures { facts.new.items ≡ ascending fact_cmp facts.old.items }
 {
     facts.sort_unstable();
@@ -82,7 +83,12 @@ fn make_ascending(facts: &mut Vec<Fact<'_>>)
 }
 
 // Puts facts in order, unless the view is refused for them.
-fn put_in_order(alloc: Global, shape: &Shape, facts: &mut Vec<Fact<'_>>) -> Result<(), Stop>
+fn put_in_order<'a, C: FactCell>(
+    alloc: Global,
+    shape: &Shape,
+    facts: &mut Vec<Fact<'a, C>>,
+) -> Result<(), Stop>
+    requires { BearLabel shape.now.label facts.old.items }
     ensures order { OnOk result (facts.new.items ≡ ascending fact_cmp facts.old.items) }
     ensures allowed { OnOk result (refusal_by stop.Illegal stop.Conflict shape.now facts.old.items ≡ None) }
     ensures refused { IfErr result (IsStop shape.now facts.old.items) }

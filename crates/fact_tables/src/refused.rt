@@ -6,16 +6,18 @@ ghost use Rattle.ss_text.specs.Ascending.{least};
 ghost use Rattle.ss_text.specs.Label.{is_table_label, is_column_label};
 ghost use Rattle.flow_law.specs.Facts.{column_of, pair_cmp, pairs_of, illegal, conflict};
 ghost use Rattle.flow_law.specs.FactOrder.{fact_cmp};
+ghost use Rattle.flow_law.specs.Labelled.{BearLabel};
 ghost use Rattle.flow_law.specs.Neighbours.{clash_between};
 
 use crate::fact::{Fact, facts_from};
+use crate::fact_cell::FactCell;
 use crate::label::Label;
 use flow_law::{Clash, IllegalLabel, Shape};
 use ss_text::{NoMemory, Row, column_label_legal, table_label_legal};
 use std::alloc::Global;
 
 /// The table label of a fact, where it is not legal.
-fn illegal_table<'a>(fact: &Fact<'a>) -> Option<Label<'a>>
+fn illegal_table<'a, C: FactCell>(fact: &Fact<'a, C>) -> Option<Label<'a>>
     ensures { result ≡ (if is_table_label fact.now.label then None else Some fact.now.label) }
 {
     let label = fact.label().text();
@@ -27,7 +29,10 @@ fn illegal_table<'a>(fact: &Fact<'a>) -> Option<Label<'a>>
 }
 
 /// The table and the column label of a fact, where the column's is not legal beside these constant columns.
-fn illegal_column<'a>(fact: &Fact<'a>, constants: &Row) -> Option<(Label<'a>, Label<'a>)>
+fn illegal_column<'f, C: FactCell>(
+    fact: &'f Fact<'_, C>,
+    constants: &Row,
+) -> Option<(Label<'f>, Label<'f>)>
     ensures { result ≡ option_and_then (λ column. if is_column_label column constants.now then None else Some (fact.now.label, column)) (column_of fact.now) }
 {
     let column = fact.column()?.text();
@@ -39,14 +44,28 @@ fn illegal_column<'a>(fact: &Fact<'a>, constants: &Row) -> Option<(Label<'a>, La
 }
 
 /// The least table label that is not legal.
-fn least_table<'a>(facts: &[Fact<'a>]) -> Option<Label<'a>>
+fn least_table<'a, C: FactCell>(facts: &[Fact<'a, C>]) -> Option<Label<'a>>
     ensures { result ≡ least text_cmp (filter (λ t. not (is_table_label t)) (map (λ f. f.label) facts.now)) }
 {
     facts.iter().filter_map(illegal_table).min()
 }
 
+/// The same of facts of a view of this form. Where all bear one label, the first of them tells.
+fn least_table_of<'a, C: FactCell>(shape: &Shape, facts: &[Fact<'a, C>]) -> Option<Label<'a>>
+    requires { BearLabel shape.now.label facts.now }
+    ensures { result ≡ least text_cmp (filter (λ t. not (is_table_label t)) (map (λ f. f.label) facts.now)) }
+{
+    match &shape.label {
+        Some(_) => illegal_table(facts.first()?),
+        None => least_table(facts),
+    }
+}
+
 /// The least table and column whose column label is not legal beside these constant columns.
-fn least_column<'a>(facts: &[Fact<'a>], constants: &Row) -> Option<(Label<'a>, Label<'a>)>
+fn least_column<'f, C: FactCell>(
+    facts: &'f [Fact<'_, C>],
+    constants: &Row,
+) -> Option<(Label<'f>, Label<'f>)>
     ensures { result ≡ least pair_cmp (filter (λ p. not (is_column_label p.1 constants.now)) (pairs_of facts.now)) }
 {
     facts
@@ -57,10 +76,14 @@ fn least_column<'a>(facts: &[Fact<'a>], constants: &Row) -> Option<(Label<'a>, L
 
 /// The label for which a view of this form is refused with these facts, if there is one.
 #[tactic(auto, unfolding(flow_law::specs::Facts::illegal))]
-pub(crate) fn illegal(shape: &Shape, facts: &[Fact<'_>]) -> Result<Option<IllegalLabel>, NoMemory>
+pub(crate) fn illegal<'a, C: FactCell>(
+    shape: &Shape,
+    facts: &[Fact<'a, C>],
+) -> Result<Option<IllegalLabel>, NoMemory>
+    requires { BearLabel shape.now.label facts.now }
     ensures { IfOk result (λ label. label ≡ illegal shape.now facts.now) }
 {
-    if let Some(table) = least_table(facts) {
+    if let Some(table) = least_table_of(shape, facts) {
         return Ok(Some(IllegalLabel {
             table: table.text().copy()?,
             column: None,
@@ -76,7 +99,11 @@ pub(crate) fn illegal(shape: &Shape, facts: &[Fact<'_>]) -> Result<Option<Illega
 }
 
 /// The clash of a fact and the next one, where they give one cell two values.
-fn clash_between(alloc: Global, fact: &Fact<'_>, next: &Fact<'_>) -> Result<Option<Clash>, NoMemory>
+fn clash_between<'a, C: FactCell>(
+    alloc: Global,
+    fact: &Fact<'a, C>,
+    next: &Fact<'a, C>,
+) -> Result<Option<Clash>, NoMemory>
     ensures { IfOk result (λ clash. clash ≡ clash_between fact.now next.now) }
 {
     let (Some((column, first)), Some((named, second))) = (fact.cell(), next.cell()) else {
@@ -96,7 +123,10 @@ fn clash_between(alloc: Global, fact: &Fact<'_>, next: &Fact<'_>) -> Result<Opti
 }
 
 /// The conflict of facts in order, if there is one: of neighbours, the first that clash.
-pub(crate) fn conflict(alloc: Global, facts: &[Fact<'_>]) -> Result<Option<Clash>, NoMemory>
+pub(crate) fn conflict<'a, C: FactCell>(
+    alloc: Global,
+    facts: &[Fact<'a, C>],
+) -> Result<Option<Clash>, NoMemory>
     requires { IsStrictlySortedBy fact_cmp facts.now }
     ensures { IfOk result (λ clash. clash ≡ conflict facts.now) }
 {

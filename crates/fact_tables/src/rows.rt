@@ -5,6 +5,7 @@ ghost use Rattle.flow_law.specs.FactOrder.{by_cell, by_key};
 ghost use Rattle.fact_tables.specs.Cells.{cells_for, rows_for};
 
 use crate::fact::{Fact, fact_at, facts_from, key_count};
+use crate::fact_cell::FactCell;
 use crate::key::Key;
 use crate::label::Label;
 use crate::short::ShortFirst;
@@ -15,12 +16,12 @@ use std::marker::Model;
 
 /// The rows that are left of a table, which contracts see as the list of their keys with the cells.
 #[derive(Drop)]
-pub struct Rows<'f, 'a> {
-    columns: &'f [Label<'a>],
-    facts: &'f [Fact<'a>],
+pub struct Rows<'r, 'f, 'a, C: FactCell> {
+    columns: &'r [Label<'f>],
+    facts: &'f [Fact<'a, C>],
 }
 
-impl<'f, 'a> Model for Rows<'f, 'a> {
+impl<'r, 'f, 'a, C: FactCell> Model for Rows<'r, 'f, 'a, C> {
     ghost use Rattle.std.specs.Prelude.{List};
     ghost use Rattle.std.specs.List.Sorted.{IsStrictlySortedBy};
     ghost use Rattle.ss_text.specs.Texts.{Row};
@@ -34,9 +35,9 @@ impl<'f, 'a> Model for Rows<'f, 'a> {
     ghost invariant = { λ r. IsStrictlySortedBy by_key r.facts.now };
 }
 
-impl<'f, 'a> Rows<'f, 'a> {
+impl<'r, 'f, 'a, C: FactCell> Rows<'r, 'f, 'a, C> {
     /// The rows of facts of one table, which are in order, with a cell for each of these columns.
-    pub(crate) fn of(columns: &'f [Label<'a>], facts: &'f [Fact<'a>]) -> Rows<'f, 'a>
+    pub(crate) fn of(columns: &'r [Label<'f>], facts: &'f [Fact<'a, C>]) -> Rows<'r, 'f, 'a, C>
         requires { IsStrictlySortedBy by_key facts.now }
         ensures { result ≡ rows_for columns.now facts.now }
     {
@@ -44,7 +45,7 @@ impl<'f, 'a> Rows<'f, 'a> {
     }
 
     /// Takes the next row.
-    pub fn take_next(&mut self) -> Option<FactRow<'f, 'a>>
+    pub fn take_next(&mut self) -> Option<FactRow<'r, 'f, 'a, C>>
         ensures next { IfSome result (λ row. self.old ≡ row ∷ self.new) }
         ensures none { IfNone result (self.old ≡ []) }
     {
@@ -58,13 +59,13 @@ impl<'f, 'a> Rows<'f, 'a> {
 
 /// A row, which contracts see as its key and its cells.
 #[derive(Drop)]
-pub struct FactRow<'f, 'a> {
-    columns: &'f [Label<'a>],
+pub struct FactRow<'r, 'f, 'a, C: FactCell> {
+    columns: &'r [Label<'f>],
     key: &'f Key<'a>,
-    facts: &'f [Fact<'a>],
+    facts: &'f [Fact<'a, C>],
 }
 
-impl<'f, 'a> Model for FactRow<'f, 'a> {
+impl<'r, 'f, 'a, C: FactCell> Model for FactRow<'r, 'f, 'a, C> {
     ghost use Rattle.std.specs.List.Sorted.{IsStrictlySortedBy};
     ghost use Rattle.ss_text.specs.Texts.{Row};
     ghost use Rattle.flow_law.specs.FactOrder.{by_cell};
@@ -77,9 +78,13 @@ impl<'f, 'a> Model for FactRow<'f, 'a> {
     ghost invariant = { λ r. IsStrictlySortedBy by_cell r.facts.now };
 }
 
-impl<'f, 'a> FactRow<'f, 'a> {
+impl<'r, 'f, 'a, C: FactCell> FactRow<'r, 'f, 'a, C> {
     // The row with this key, whose facts these are, with a cell for each of these columns.
-    fn of(columns: &'f [Label<'a>], key: &'f Key<'a>, facts: &'f [Fact<'a>]) -> FactRow<'f, 'a>
+    fn of(
+        columns: &'r [Label<'f>],
+        key: &'f Key<'a>,
+        facts: &'f [Fact<'a, C>],
+    ) -> FactRow<'r, 'f, 'a, C>
         requires { IsStrictlySortedBy by_cell facts.now }
         ensures { result ≡ (key.now, cells_for columns.now facts.now) }
     {
@@ -137,7 +142,7 @@ impl<'f, 'a> FactRow<'f, 'a> {
     }
 
     /// The bytes of its cell at a place, from 0.
-    pub fn cell(&self, place: usize) -> &'a [u8]
+    pub fn cell(&self, place: usize) -> &'f [u8]
         requires { place < length self.now.1 }
         ensures { result.now ≡ slice_index_or self.now.1 place [] }
     {

@@ -6,6 +6,7 @@ ghost use Rattle.flow_law.specs.FactTables.{fact_table, tables};
 ghost use Rattle.flow_law.specs.Labelled.{BearLabel, label_tables};
 
 use crate::fact::{Fact, fact_at, facts_from, label_count};
+use crate::fact_cell::FactCell;
 use crate::label::Label;
 use crate::rows::Rows;
 use crate::tables::{columns, copies};
@@ -16,12 +17,12 @@ use std::marker::Model;
 
 /// The facts of one table, in order, which contracts see as its label and the table.
 #[derive(Drop)]
-pub struct TableFacts<'f, 'a> {
+pub struct TableFacts<'f, 'a, C: FactCell> {
     label: &'f Text,
-    facts: &'f [Fact<'a>],
+    facts: &'f [Fact<'a, C>],
 }
 
-impl<'f, 'a> Model for TableFacts<'f, 'a> {
+impl<'f, 'a, C: FactCell> Model for TableFacts<'f, 'a, C> {
     ghost use Rattle.std.specs.List.Sorted.{IsStrictlySortedBy};
     ghost use Rattle.ss_text.specs.Texts.{Text};
     ghost use Rattle.flow_law.specs.FactOrder.{by_key};
@@ -35,9 +36,9 @@ impl<'f, 'a> Model for TableFacts<'f, 'a> {
     ghost invariant = { λ t. IsStrictlySortedBy by_key t.facts.now };
 }
 
-impl<'f, 'a> TableFacts<'f, 'a> {
+impl<'f, 'a, C: FactCell> TableFacts<'f, 'a, C> {
     // The facts of a table with this label.
-    fn of(label: &'f Text, facts: &'f [Fact<'a>]) -> TableFacts<'f, 'a>
+    fn of(label: &'f Text, facts: &'f [Fact<'a, C>]) -> TableFacts<'f, 'a, C>
         requires { IsStrictlySortedBy by_key facts.now }
         ensures { result ≡ (label.now, fact_table facts.now) }
     {
@@ -52,14 +53,14 @@ impl<'f, 'a> TableFacts<'f, 'a> {
     }
 
     /// The dynamic columns, in ascending order.
-    pub fn columns(&self, alloc: Global) -> Result<Vec<Label<'a>>, NoMemory>
+    pub fn columns(&self, alloc: Global) -> Result<Vec<Label<'f>>, NoMemory>
         ensures { IfOk result (λ columns. columns.items ≡ self.now.1.columns) }
     {
         columns(alloc, self.facts)
     }
 
     /// Copies of the names of these columns.
-    pub fn copy_columns(&self, alloc: Global, columns: &[Label<'a>]) -> Result<Vec<Text>, NoMemory>
+    pub fn copy_columns(&self, alloc: Global, columns: &[Label<'_>]) -> Result<Vec<Text>, NoMemory>
         requires { columns.now ≡ self.now.1.columns }
         ensures { IfOk result (λ names. names.items ≡ self.now.1.columns) }
     {
@@ -67,7 +68,7 @@ impl<'f, 'a> TableFacts<'f, 'a> {
     }
 
     /// The rows, which have a cell for each of these columns, the table's.
-    pub fn rows(&self, columns: &'f [Label<'a>]) -> Rows<'f, 'a>
+    pub fn rows<'r>(&self, columns: &'r [Label<'f>]) -> Rows<'r, 'f, 'a, C>
         requires { columns.now ≡ self.now.1.columns }
         ensures { result ≡ self.now.1.rows }
     {
@@ -76,11 +77,11 @@ impl<'f, 'a> TableFacts<'f, 'a> {
 }
 
 // The facts of the one table of facts that all bear this label.
-fn one_table<'f, 'a>(
+fn one_table<'f, 'a, C: FactCell>(
     alloc: Global,
     label: &'f Text,
-    facts: &'f [Fact<'a>],
-) -> Result<Vec<TableFacts<'f, 'a>>, NoMemory>
+    facts: &'f [Fact<'a, C>],
+) -> Result<Vec<TableFacts<'f, 'a, C>>, NoMemory>
     requires sorted { IsStrictlySortedBy fact_cmp facts.now }
     requires bear { BearLabel (Some label.now) facts.now }
     ensures { IfOk result (λ each. each.items ≡ (label.now, fact_table facts.now) ∷ []) }
@@ -91,10 +92,10 @@ fn one_table<'f, 'a>(
 }
 
 // The facts of each label.
-fn label_tables<'f, 'a>(
+fn label_tables<'f, 'a, C: FactCell>(
     alloc: Global,
-    facts: &'f [Fact<'a>],
-) -> Result<Vec<TableFacts<'f, 'a>>, NoMemory>
+    facts: &'f [Fact<'a, C>],
+) -> Result<Vec<TableFacts<'f, 'a, C>>, NoMemory>
     requires { IsStrictlySortedBy fact_cmp facts.now }
     ensures { IfOk result (λ each. each.items ≡ label_tables facts.now) }
 {
@@ -111,11 +112,11 @@ fn label_tables<'f, 'a>(
 }
 
 /// The facts of each table of a view of this form with these facts, which are in order.
-pub(crate) fn table_facts<'f, 'a>(
+pub(crate) fn table_facts<'f, 'a, C: FactCell>(
     alloc: Global,
     shape: &'f Shape,
-    facts: &'f [Fact<'a>],
-) -> Result<Vec<TableFacts<'f, 'a>>, NoMemory>
+    facts: &'f [Fact<'a, C>],
+) -> Result<Vec<TableFacts<'f, 'a, C>>, NoMemory>
     requires sorted { IsStrictlySortedBy fact_cmp facts.now }
     requires bear { BearLabel shape.now.label facts.now }
     ensures { IfOk result (λ each. each.items ≡ tables shape.now facts.now) }

@@ -11,6 +11,7 @@ ghost use Rattle.fact_tables.specs.Cells.{values_for, cells_for};
 ghost use Rattle.flow_law.specs.FactTables.{fact_table, tables};
 
 use crate::fact::{Fact, fact_at, facts_from, key_count, label_count};
+use crate::fact_cell::FactCell;
 use crate::label::Label;
 use flow_law::{Shape, Table, Tables};
 use ss_text::{NoMemory, Text};
@@ -37,7 +38,10 @@ fn put_column<'a>(columns: &mut Vec<Label<'a>>, column: &Label<'a>) -> Result<()
 }
 
 /// The column labels of facts, each once, ascending.
-pub(crate) fn columns<'a>(alloc: Global, facts: &[Fact<'a>]) -> Result<Vec<Label<'a>>, NoMemory>
+pub(crate) fn columns<'f, C: FactCell>(
+    alloc: Global,
+    facts: &'f [Fact<'_, C>],
+) -> Result<Vec<Label<'f>>, NoMemory>
     ensures { IfOk result (λ columns. columns.items ≡ ascending text_cmp (filter_map column_of facts.now)) }
 {
     let mut columns = Vec::new(alloc);
@@ -61,7 +65,10 @@ pub(crate) fn copies(alloc: Global, labels: &[Label<'_>]) -> Result<Vec<Text>, N
 }
 
 /// The least value of a column that is not empty, among facts whose cells ascend.
-pub(crate) fn value<'a>(facts: &[Fact<'a>], column: &Label<'_>) -> Option<&'a Text>
+pub(crate) fn value<'f, C: FactCell>(
+    facts: &'f [Fact<'_, C>],
+    column: &Label<'_>,
+) -> Option<&'f Text>
     requires { IsStrictlySortedBy by_cell facts.now }
     ensures { option_copied result ≡ least text_cmp (values_for facts.now column.now) }
 {
@@ -70,10 +77,10 @@ pub(crate) fn value<'a>(facts: &[Fact<'a>], column: &Label<'_>) -> Option<&'a Te
 }
 
 /// The cells of a row whose facts these are, one for each column.
-pub(crate) fn cells(
+pub(crate) fn cells<'a, C: FactCell>(
     alloc: Global,
     columns: &[Label<'_>],
-    facts: &[Fact<'_>],
+    facts: &[Fact<'a, C>],
 ) -> Result<Vec<Text>, NoMemory>
     requires { IsStrictlySortedBy by_cell facts.now }
     ensures { IfOk result (λ cells. cells.items ≡ cells_for columns.now facts.now) }
@@ -90,7 +97,7 @@ pub(crate) fn cells(
 }
 
 /// The table of facts of one label.
-fn table(alloc: Global, facts: &[Fact<'_>]) -> Result<Table, NoMemory>
+fn table<'a, C: FactCell>(alloc: Global, facts: &[Fact<'a, C>]) -> Result<Table, NoMemory>
     requires { IsStrictlySortedBy by_key facts.now }
     ensures { IfOk result (λ table. table ≡ fact_table facts.now) }
 {
@@ -109,7 +116,11 @@ fn table(alloc: Global, facts: &[Fact<'_>]) -> Result<Table, NoMemory>
 }
 
 /// The one table of facts that all bear this label.
-fn one_table(alloc: Global, label: &Text, facts: &[Fact<'_>]) -> Result<Tables, NoMemory>
+fn one_table<'a, C: FactCell>(
+    alloc: Global,
+    label: &Text,
+    facts: &[Fact<'a, C>],
+) -> Result<Tables, NoMemory>
     requires sorted { IsStrictlySortedBy fact_cmp facts.now }
     requires bear { BearLabel (Some label.now) facts.now }
     ensures { IfOk result (λ tables. tables ≡ (label.now, fact_table facts.now) ∷ []) }
@@ -121,7 +132,7 @@ fn one_table(alloc: Global, label: &Text, facts: &[Fact<'_>]) -> Result<Tables, 
 }
 
 /// A table for each label of facts.
-fn label_tables(alloc: Global, facts: &[Fact<'_>]) -> Result<Tables, NoMemory>
+fn label_tables<'a, C: FactCell>(alloc: Global, facts: &[Fact<'a, C>]) -> Result<Tables, NoMemory>
     requires { IsStrictlySortedBy fact_cmp facts.now }
     ensures { IfOk result (λ tables. tables ≡ label_tables facts.now) }
 {
@@ -139,7 +150,11 @@ fn label_tables(alloc: Global, facts: &[Fact<'_>]) -> Result<Tables, NoMemory>
 }
 
 /// The tables of a view of this form with these facts, which are in order.
-pub(crate) fn tables(alloc: Global, shape: &Shape, facts: &[Fact<'_>]) -> Result<Tables, NoMemory>
+pub(crate) fn tables<'a, C: FactCell>(
+    alloc: Global,
+    shape: &Shape,
+    facts: &[Fact<'a, C>],
+) -> Result<Tables, NoMemory>
     requires sorted { IsStrictlySortedBy fact_cmp facts.now }
     requires bear { BearLabel shape.now.label facts.now }
     ensures { IfOk result (λ ts. ts ≡ tables shape.now facts.now) }

@@ -10,13 +10,13 @@ ghost use Rattle.kept_tables.specs.Slots.{tables_in, AreSlots};
 
 use crate::KeptTable;
 use crate::slot::Slot;
-use fact_tables::{Rows, TableFacts};
+use fact_tables::{FactCell, Rows, TableFacts};
 use row_shelves::RowShelves;
 use ss_text::NoMemory;
 use std::alloc::Global;
 
 // Rows that are kept.
-fn kept_rows(alloc: Global, rows: Rows<'_, '_>) -> Result<RowShelves, NoMemory>
+fn kept_rows<C: FactCell>(alloc: Global, rows: Rows<'_, '_, '_, C>) -> Result<RowShelves, NoMemory>
     requires { IsStrictlySortedBy row_cmp (map key_of rows) }
     ensures { IfOk result (λ kept. kept ≡ rows_value rows.entry 0 0) }
 {
@@ -31,7 +31,7 @@ fn kept_rows(alloc: Global, rows: Rows<'_, '_>) -> Result<RowShelves, NoMemory>
 }
 
 // The table of facts, which is kept.
-fn kept(alloc: Global, facts: &TableFacts<'_, '_>) -> Result<KeptTable, NoMemory>
+fn kept<C: FactCell>(alloc: Global, facts: &TableFacts<'_, '_, C>) -> Result<KeptTable, NoMemory>
     requires { IsTable facts.now.1 }
     ensures { IfOk result (λ kept. kept ≡ kept_table facts.now.1 0 0) }
 {
@@ -43,7 +43,10 @@ fn kept(alloc: Global, facts: &TableFacts<'_, '_>) -> Result<KeptTable, NoMemory
 }
 
 /// A slot for each table, in the same order.
-pub(crate) fn slots_of(alloc: Global, tables: &[TableFacts<'_, '_>]) -> Result<Vec<Slot>, NoMemory>
+pub(crate) fn slots_of<C: FactCell>(
+    alloc: Global,
+    tables: &[TableFacts<'_, '_, C>],
+) -> Result<Vec<Slot>, NoMemory>
     requires { AreTables tables.now }
     ensures order { IfOk result (λ slots. AreSlots slots.items) }
     ensures tables { IfOk result (λ slots. tables_in slots.items ≡ tables.now) }

@@ -19,7 +19,7 @@ use crate::making::make_all;
 use crate::opening::slots_of;
 use crate::room::{expect_all, forget};
 use crate::slot::{Slot, find};
-use fact_tables::TableFacts;
+use fact_tables::{FactCell, TableFacts};
 use flow_law::TableLine;
 use ss_text::{NoMemory, Text};
 use std::alloc::Global;
@@ -72,7 +72,10 @@ impl KeptTables {
     }
 
     /// The tables of these facts, in their order.
-    pub fn of(alloc: Global, tables: &[TableFacts<'_, '_>]) -> Result<KeptTables, NoMemory>
+    pub fn of<C: FactCell>(
+        alloc: Global,
+        tables: &[TableFacts<'_, '_, C>],
+    ) -> Result<KeptTables, NoMemory>
         requires { AreTables tables.now }
         ensures { IfOk result (λ kept. kept ≡ kept_tables tables.now None) }
     {

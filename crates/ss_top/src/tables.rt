@@ -10,7 +10,7 @@ use schema_model::Catalogue;
 use ss_print::{clash_fields, illegal_fields};
 use ss_text::{NoMemory, Row, Text};
 use std::alloc::Global;
-use valuation_meaning::{EvalFault, ordered_facts, shape_of};
+use valuation_meaning::{EvalFault, ViewFacts, ordered_facts, shape_of};
 use view_def::View;
 use view_folder::{File, TableTexts};
 
@@ -38,7 +38,10 @@ pub(crate) fn show_tables(
     let shape = shape_of(view)?;
     match ordered_facts(alloc, &arena, catalogue, view, &shape, &empty) {
         Ok(facts) => {
-            let files = facts.files(alloc, &shape)?;
+            let files = match facts {
+                ViewFacts::Bare(facts) => facts.files(alloc, &shape)?,
+                ViewFacts::WithCells(facts) => facts.files(alloc, &shape)?,
+            };
             Ok(Showing::Files(files))
         }
         Err(EvalFault::Illegal(label)) => {

@@ -1,6 +1,6 @@
 -- The facts of the valuations that begin with given elements, one declaration on.
 use Rattle.std.proofs.Common.{◌≡◌, ◌+◌, ℕ, Bool, List, [], ◌∷◌, ◌++◌, Some, None, drop, length, map, refl, sym, ap, ◌∙◌, append-nil, length-append, append_assoc, take, ◌-◌, Option, arith}
-use Rattle.std.specs.Prelude.{filter, flat_map, option_to_list, option_map, option_copied, slice_get, IfSome, if◌then◌else◌}
+use Rattle.std.specs.Prelude.{◌&&◌, is_some, filter, flat_map, option_to_list, option_map, option_copied, slice_get, IfSome, if◌then◌else◌}
 use Rattle.std.proofs.lemmas.List.{map-append}
 use Rattle.std.proofs.lemmas.List.Elements.{filter-append}
 use Rattle.std.proofs.Math.Seq.{take-append_seam}
@@ -20,9 +20,11 @@ use Rattle.std.proofs.lemmas.List.FromFn.{map-range_with_len_more}
 use Rattle.valuation_meaning.specs.Early.{AliasesAgree}
 use Rattle.valuation_meaning.proofs.AliasLemmas.{no_alias}
 use Rattle.valuation_meaning.specs.Elements.{Element, A_text, A_row, Valuation, cell_at, relation_at, all_rows, elements}
-use Rattle.valuation_meaning.specs.Terms.{value_of}
+use Rattle.view_def.specs.declared.typed.Term.{Term}
+use Rattle.valuation_meaning.specs.Terms.{Reading, value_of}
 use Rattle.valuation_meaning.specs.Valuations.{assignments, counts, valuations}
-use Rattle.valuation_meaning.specs.Meaning.{fact_of, facts}
+use Rattle.valuation_meaning.specs.Meaning.{cell_of_reading, fact_of, facts}
+use Rattle.valuation_meaning.specs.Listed.{has_cells}
 use Rattle.valuation_meaning.specs.Listing.{facts_after, AreEnough}
 use Rattle.ss_text.proofs.GroupWalk.{one_left}
 use Rattle.valuation_meaning.proofs.CountLemmas.{none_if, some_if}
@@ -52,6 +54,15 @@ module _ (c : CatalogueValue) (q : Query) (v : Valuation) where
   -- all elements of the next declaration are enough
   pub all_enough : (d : Range) → Some d ≡ slice_get q.decls (length v) → AreEnough c q v (elements c v d)
   all_enough d here = ap (facts_after c q v) (one_left q.decls (length v) d here) ∙ facts_after-more d (drop (length v + 1) q.decls)
+
+-- a fact has a cell just where the view has a variable column
+cell_there : (r : Reading) (p : Option Place) (t : Option Term) → is_some (cell_of_reading r p t) ≡ is_some p && is_some t
+cell_there r (Some p) (Some t) = refl
+cell_there r (Some p) None = refl
+cell_there r None t = refl
+
+pub have_cells : (q : Query) (r : Reading) (f : Fact) (b : Bool) → Some f ≡ (if b then Some (fact_of q r) else None) → is_some f.cell ≡ has_cells q
+have_cells q r f b e = ap (λ (g : Fact). is_some g.cell) (some_if b (fact_of q r) f e).1 ∙ cell_there r q.column q.value
 
 -- an alias has the element of its cell alone, or none
 module _ (c : CatalogueValue) (q : Query) (v : Valuation) (j : ℕ) (a : Place) (here : Some (range.Alias j a) ≡ slice_get q.decls (length v)) where

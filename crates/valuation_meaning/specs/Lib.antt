@@ -5,6 +5,8 @@ pub mod Held
 pub mod Truth
 pub mod Meaning
 pub mod Listing
+pub mod Listed
+pub mod Ordered
 pub mod Refusal
 pub mod Early
 pub mod EarlyTests

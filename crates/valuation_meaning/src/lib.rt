@@ -13,6 +13,7 @@ mod equality;
 mod evaluation;
 mod index;
 mod indexes;
+mod listed;
 mod listing;
 mod lookups;
 mod operand;
@@ -22,6 +23,6 @@ mod truth;
 mod value;
 
 pub use early::members;
-pub use evaluation::{EvalFault, evaluate, ordered_facts};
+pub use evaluation::{EvalFault, ViewFacts, evaluate, ordered_facts};
 pub use shape::shape_of;
 pub use truth::compares;

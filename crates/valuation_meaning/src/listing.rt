@@ -2,13 +2,13 @@
 ghost use Rattle.std.specs.Prelude.{◌≡◌, ◌&&◌, [], ◌∷◌, ◌++◌, drop, map, option_copied, option_map, option_to_list, length, slice_get, vec_len, ◌<◌, IfOk, OnOk, OnSome, IfSome, IsTrue, Some, if◌then◌else◌};
 ghost use Rattle.view_def.specs.Conditions.{condition_of};
 ghost use Rattle.view_def.specs.Query.{query_of};
-ghost use Rattle.fact_tables.specs.Borrowed.{cell_value};
 ghost use Rattle.view_def.specs.Terms.{terms_of_filter};
 ghost use Rattle.schema_model.specs.States.{plain_relation};
 ghost use Rattle.valuation_meaning.specs.Elements.{Element, all_rows};
 ghost use Rattle.valuation_meaning.specs.Terms.{value_of, are_defined};
 ghost use Rattle.valuation_meaning.specs.Valuations.{counts, meets};
-ghost use Rattle.valuation_meaning.specs.Meaning.{given, term_of, values_of, cell_of_reading, fact_of, facts};
+ghost use Rattle.valuation_meaning.specs.Meaning.{given, term_of, values_of, cell_of_reading, constant_label, fact_of, facts};
+ghost use Rattle.valuation_meaning.specs.Listed.{cell_value, has_cells};
 ghost use Rattle.valuation_meaning.specs.Listing.{facts_after, AreEnough};
 ghost use Rattle.valuation_meaning.specs.Early.{AliasesAgree, Ends};
 ghost use Rattle.valuation_meaning.specs.Sources.{IsReady};
@@ -18,13 +18,14 @@ ghost use Rattle.view_def.specs.declared.typed.Range.TheVariants as range;
 use crate::early::{EarlyMember, EarlyTerm, early_members, early_terms, fails_member, lacks_term};
 use crate::element::Element;
 use crate::indexes::Indexes;
+use crate::listed::{FactParts, ListedFacts};
 use crate::lookups::{Lookup, looked_up, lookup_for, lookups};
 use crate::ranges::{elements, relation_at};
 use crate::truth::truth;
 use crate::value::{cell_at, place_text, value_of};
 use bumpalo::Bump;
 use bumpalo::collections::into_bump_slice;
-use fact_tables::{Fact, Key, Label, Three, Values};
+use fact_tables::{Key, Label, Three, Values};
 use schema_model::{Catalogue, Relation};
 use ss_text::{NoMemory, Text};
 use std::alloc::Global;
@@ -126,14 +127,43 @@ fn cell_of<'a>(
     Some(Some((Label::of(column), value)))
 }
 
+// The label of all facts of a view, if it is constant. It is made once.
+fn constant_label(view: &View) -> Option<Label<'_>>
+    ensures { result ≡ constant_label view.now.label }
+{
+    match &view.label {
+        Place::Fixed(text) => Some(Label::of(text)),
+        Place::Var(_) => None,
+    }
+}
+
+// The table label of a valuation.
+fn label_of<'a>(
+    valuation: &[Element<'a>],
+    place: &'a Place,
+    constant: &Option<Label<'a>>,
+    empty: &'a Text,
+) -> Label<'a>
+    requires constant { constant.now ≡ constant_label place.now }
+    requires empty { empty.now ≡ [] }
+    ensures { result ≡ given (value_of valuation.now (term_of place.now)) }
+{
+    match constant {
+        Some(label) => label.again(),
+        None => Label::of(text_of(valuation, place, empty)),
+    }
+}
+
 /// The fact of a valuation, where the valuation counts.
 fn fact_of<'a>(
     arena: &'a Bump<Global>,
     view: &'a View,
+    constant: &Option<Label<'a>>,
     empty: &'a Text,
     valuation: &[Element<'a>],
-) -> Result<Option<Fact<'a>>, NoMemory>
-    requires { empty.now ≡ [] }
+) -> Result<Option<FactParts<'a>>, NoMemory>
+    requires constant { constant.now ≡ constant_label view.now.label }
+    requires empty { empty.now ≡ [] }
     ensures { let query = query_of view.now in
         IfOk result (λ fact. fact ≡ (if counts query (value_of valuation.now) then Some (fact_of query (value_of valuation.now)) else None)) }
 {
@@ -146,8 +176,12 @@ fn fact_of<'a>(
     let Some(key) = values_of(arena, valuation, &view.keys)? else {
         return Ok(None);
     };
-    let label = Label::of(text_of(valuation, &view.label, empty));
-    Ok(Some(Fact::of(label, Key::of(key, empty), cell)))
+    let label = label_of(valuation, &view.label, constant, empty);
+    Ok(Some(FactParts {
+        label,
+        key: Key::of(key, empty),
+        cell,
+    }))
 }
 
 /// The declaration at a place.
@@ -158,13 +192,14 @@ fn declaration(view: &View, place: usize) -> Option<&Range>
     view.decls.get(place)
 }
 
-/// Where the facts of a view are read from, an arena for their keys, an empty text, and what is tested and looked up
+/// Where the facts of a view are read from, an arena for their keys, their label if it is constant, an empty text, and what is tested and looked up
 /// before a valuation is whole.
 #[derive(Drop)]
 struct Source<'a> {
     arena: &'a Bump<Global>,
     catalogue: &'a Catalogue,
     view: &'a View,
+    label: Option<Label<'a>>,
     empty: &'a Text,
     members: Vec<EarlyMember<'a>>,
     terms: Vec<EarlyTerm<'a>>,
@@ -173,11 +208,18 @@ struct Source<'a> {
 
 impl<'a> Source<'a> {
     /// Adds the fact of a valuation, where the valuation counts.
-    fn add_fact(&self, valuation: &[Element<'a>], facts: &mut Vec<Fact<'a>>) -> Result<(), NoMemory>
-        requires { self.now.empty.now ≡ [] }
-        ensures { OnOk result (facts.new.items ≡ facts.old.items ++ facts_after self.now.catalogue.now.databases (query_of self.now.view.now) valuation.now []) }
+    fn add_fact(
+        &self,
+        valuation: &[Element<'a>],
+        facts: &mut ListedFacts<'a>,
+    ) -> Result<(), NoMemory>
+        requires label { self.now.label ≡ constant_label self.now.view.now.label }
+        requires empty { self.now.empty.now ≡ [] }
+        requires cells { facts.old.have_cells ≡ has_cells (query_of self.now.view.now) }
+        ensures same { facts.new.have_cells ≡ facts.old.have_cells }
+        ensures facts { OnOk result (facts.new.items ≡ facts.old.items ++ facts_after self.now.catalogue.now.databases (query_of self.now.view.now) valuation.now []) }
     {
-        if let Some(fact) = fact_of(self.arena, self.view, self.empty, valuation)? {
+        if let Some(fact) = fact_of(self.arena, self.view, &self.label, self.empty, valuation)? {
             facts.push(fact)?;
         }
         Ok(())
@@ -257,11 +299,13 @@ impl<'a> Source<'a> {
         alloc: Global,
         indexes: &mut Indexes<'a>,
         valuation: &mut Vec<Element<'a>>,
-        facts: &mut Vec<Fact<'a>>,
+        facts: &mut ListedFacts<'a>,
     ) -> Result<(), NoMemory>
         requires ready { IsReady self.now }
         requires agree { AliasesAgree (query_of self.now.view.now) valuation.old.items }
         requires catalogue { indexes.old ≡ self.now.catalogue.now.databases }
+        requires cells { facts.old.have_cells ≡ has_cells (query_of self.now.view.now) }
+        ensures have_cells { facts.new.have_cells ≡ facts.old.have_cells }
         ensures facts { let query = query_of self.now.view.now in
             let begun = valuation.old.items in
             OnOk result (facts.new.items ≡ facts.old.items ++ facts_after self.now.catalogue.now.databases query begun (drop (length begun) query.decls)) }
@@ -302,6 +346,13 @@ impl<'a> Source<'a> {
     }
 }
 
+// Whether a view has a variable column.
+fn has_cells(view: &View) -> bool
+    ensures { result ≡ has_cells (query_of view.now) }
+{
+    view.column.is_some() && view.value.is_some()
+}
+
 /// The facts of a view, one for each valuation.
 pub(crate) fn facts<'a>(
     alloc: Global,
@@ -309,7 +360,7 @@ pub(crate) fn facts<'a>(
     catalogue: &'a Catalogue,
     view: &'a View,
     empty: &'a Text,
-) -> Result<Vec<Fact<'a>>, NoMemory>
+) -> Result<ListedFacts<'a>, NoMemory>
     requires { empty.now ≡ [] }
     ensures { IfOk result (λ fs. fs.items ≡ facts catalogue.now.databases (query_of view.now)) }
 {
@@ -317,6 +368,7 @@ pub(crate) fn facts<'a>(
         arena,
         catalogue,
         view,
+        label: constant_label(view),
         empty,
         members: early_members(alloc, view)?,
         terms: early_terms(alloc, view)?,
@@ -324,7 +376,7 @@ pub(crate) fn facts<'a>(
     };
     let mut indexes = Indexes::new(alloc, catalogue);
     let mut valuation = Vec::with_capacity(alloc, view.decls.len())?;
-    let mut facts = Vec::new(alloc);
+    let mut facts = ListedFacts::new(alloc, has_cells(view));
     source.add_facts(alloc, &mut indexes, &mut valuation, &mut facts)?;
     Ok(facts)
 }

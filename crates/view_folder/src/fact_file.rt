@@ -11,16 +11,16 @@ use crate::File;
 use crate::fields::{end_record, into_text, new_writer, put_field};
 use crate::file::file_name;
 use csv::Writer;
-use fact_tables::{FactRow, Label, Rows, TableFacts};
+use fact_tables::{FactCell, FactRow, Label, Rows, TableFacts};
 use flow_law::Shape;
 use ss_text::{NoMemory, Text};
 use std::alloc::Global;
 
 /// The canonical text of the file of a table whose facts these are, which is that of `table_text`. It is written from
 /// the facts, and no table is made.
-pub(crate) fn facts_text(
+pub(crate) fn facts_text<C: FactCell>(
     alloc: Global,
-    facts: &TableFacts<'_, '_>,
+    facts: &TableFacts<'_, '_, C>,
     shape: &Shape,
 ) -> Result<Text, NoMemory>
     requires { FitsShape shape.now facts.now.1 }
@@ -32,10 +32,10 @@ pub(crate) fn facts_text(
 }
 
 // Writes the records of a table.
-fn put_table(
+fn put_table<C: FactCell>(
     alloc: Global,
     writer: &mut Writer<Vec<u8>>,
-    facts: &TableFacts<'_, '_>,
+    facts: &TableFacts<'_, '_, C>,
     shape: &Shape,
 ) -> Result<(), NoMemory>
     requires { FitsShape shape.now facts.now.1 }
@@ -69,10 +69,10 @@ fn put_header(
 }
 
 // Writes a record for each row.
-fn put_rows(
+fn put_rows<C: FactCell>(
     writer: &mut Writer<Vec<u8>>,
     spot: Option<usize>,
-    rows: Rows<'_, '_>,
+    rows: Rows<'_, '_, '_, C>,
 ) -> Result<(), NoMemory>
     requires { AllByRecursion (λ (r : Row × Row). r.0 ≢ []) rows }
     ensures { (ended : List ℕ) → IsWithin ended [] writer.old → OnOk result (IsWithin (ended ++ csv_text (row_records spot rows.entry)) [] writer.new) }
@@ -85,10 +85,10 @@ fn put_rows(
 }
 
 // Writes the record of a row: its key, with the cells behind as many texts of it as the spot says.
-fn put_row(
+fn put_row<C: FactCell>(
     writer: &mut Writer<Vec<u8>>,
     spot: Option<usize>,
-    row: &FactRow<'_, '_>,
+    row: &FactRow<'_, '_, '_, C>,
 ) -> Result<(), NoMemory>
     requires { row.now.0 ≢ [] }
     ensures { (ended : List ℕ) → IsWithin ended [] writer.old
@@ -107,9 +107,9 @@ fn put_row(
 }
 
 // Writes a field for each text of the key of a row from one place up to another.
-fn put_key(
+fn put_key<C: FactCell>(
     writer: &mut Writer<Vec<u8>>,
-    row: &FactRow<'_, '_>,
+    row: &FactRow<'_, '_, '_, C>,
     from: usize,
     to: usize,
 ) -> Result<(), NoMemory>
@@ -124,9 +124,9 @@ fn put_key(
 }
 
 // Writes a field for a text of the key of a row. A short one is not read.
-fn put_key_text(
+fn put_key_text<C: FactCell>(
     writer: &mut Writer<Vec<u8>>,
-    row: &FactRow<'_, '_>,
+    row: &FactRow<'_, '_, '_, C>,
     place: usize,
 ) -> Result<(), NoMemory>
     requires { place < length row.now.0 }
@@ -169,7 +169,10 @@ fn put_label(writer: &mut Writer<Vec<u8>>, label: &Label<'_>) -> Result<(), NoMe
 }
 
 // Writes a field for each cell of a row.
-fn put_cells(writer: &mut Writer<Vec<u8>>, row: &FactRow<'_, '_>) -> Result<(), NoMemory>
+fn put_cells<C: FactCell>(
+    writer: &mut Writer<Vec<u8>>,
+    row: &FactRow<'_, '_, '_, C>,
+) -> Result<(), NoMemory>
     ensures { (ended : List ℕ) (fields : Row) → IsWithin ended fields writer.old → OnOk result (IsWithin ended (fields ++ row.now.1) writer.new) }
 {
     for place in 0..row.cell_count() {
@@ -180,9 +183,9 @@ fn put_cells(writer: &mut Writer<Vec<u8>>, row: &FactRow<'_, '_>) -> Result<(), 
 
 /// The files of tables whose facts these are, in their order.
 #[tactic(auto, unfolding(crate::specs::TableFiles::table_files))]
-pub(crate) fn fact_files(
+pub(crate) fn fact_files<C: FactCell>(
     alloc: Global,
-    tables: &[TableFacts<'_, '_>],
+    tables: &[TableFacts<'_, '_, C>],
     shape: &Shape,
 ) -> Result<Vec<File>, NoMemory>
     requires { FitShape shape.now tables.now }
@@ -196,7 +199,11 @@ pub(crate) fn fact_files(
 }
 
 // The file of a table.
-fn fact_file(alloc: Global, facts: &TableFacts<'_, '_>, shape: &Shape) -> Result<File, NoMemory>
+fn fact_file<C: FactCell>(
+    alloc: Global,
+    facts: &TableFacts<'_, '_, C>,
+    shape: &Shape,
+) -> Result<File, NoMemory>
     requires { FitsShape shape.now facts.now.1 }
     ensures { IfOk result (λ file. file ≡ table_file shape.now facts.now) }
 {
@@ -206,10 +213,10 @@ fn fact_file(alloc: Global, facts: &TableFacts<'_, '_>, shape: &Shape) -> Result
 }
 
 /// The facts of the table of a label, if there is one.
-pub(crate) fn facts_of<'t, 'f, 'a>(
-    tables: &'t [TableFacts<'f, 'a>],
+pub(crate) fn facts_of<'t, 'f, 'a, C: FactCell>(
+    tables: &'t [TableFacts<'f, 'a, C>],
     label: &Text,
-) -> Option<&'t TableFacts<'f, 'a>>
+) -> Option<&'t TableFacts<'f, 'a, C>>
     ensures { option_map (λ p. p.1) (option_copied result) ≡ table_of tables.now label.now }
 {
     for facts in tables {

@@ -8,7 +8,7 @@ use crate::File;
 use crate::fact_file::{fact_files, facts_of, facts_text};
 use crate::kept_file::{kept_files, kept_text};
 use crate::table_file::{table_files, table_text};
-use fact_tables::OrderedFacts;
+use fact_tables::{FactCell, OrderedFacts};
 use flow_law::{Shape, Tables};
 use kept_tables::KeptTables;
 use ss_text::{NoMemory, Text};
@@ -76,7 +76,7 @@ impl TableTexts for KeptTables {
     }
 }
 
-impl TableTexts for OrderedFacts<'_> {
+impl<C: FactCell> TableTexts for OrderedFacts<'_, C> {
     ghost tables = { λ tables. tables };
 
     #[tactic(auto, using(crate::proofs::LaterLemmas::fits_of))]

@@ -12,6 +12,7 @@ ghost use Rattle.view_engine.specs.Engines.{EngineMoves};
 ghost use Rattle.view_session.specs.Upkeeps.{view_of, IsKept, KeptAs, WaitsFor, TakesTo, IsReadyFor, IsReadyUpkeep};
 
 use bumpalo::Bump;
+use fact_tables::{FactCell, OrderedFacts};
 use flow_law::TableLine;
 use kept_tables::{KeptTables, LinesReady};
 use operator_law::Kept;
@@ -20,7 +21,7 @@ use ss_text::{NoMemory, Steps, Text};
 use std::alloc::Global;
 use std::mem;
 use std::sync::ledger::Ledger;
-use valuation_meaning::{EvalFault, ordered_facts, shape_of};
+use valuation_meaning::{EvalFault, ViewFacts, ordered_facts, shape_of};
 use view_def::View;
 use view_engine::{Engine, EngineMove, EngineReady};
 
@@ -82,9 +83,21 @@ fn tables_over(alloc: Global, catalogue: &Catalogue, view: &View) -> Result<Kept
     let empty = Text::empty(alloc);
     let arena = Bump::new(alloc);
     let shape = shape_of(view)?;
-    let facts = ordered_facts(alloc, &arena, catalogue, view, &shape, &empty)?;
+    match ordered_facts(alloc, &arena, catalogue, view, &shape, &empty)? {
+        ViewFacts::Bare(facts) => Ok(kept_tables(alloc, &facts)?),
+        ViewFacts::WithCells(facts) => Ok(kept_tables(alloc, &facts)?),
+    }
+}
+
+// The tables of facts in order, which are kept.
+fn kept_tables<C: FactCell>(
+    alloc: Global,
+    facts: &OrderedFacts<'_, C>,
+) -> Result<KeptTables, NoMemory>
+    ensures { IfOk result (λ tables. tables ≡ kept_tables facts.now None) }
+{
     let tables = facts.by_table(alloc)?;
-    Ok(KeptTables::of(alloc, &tables)?)
+    KeptTables::of(alloc, &tables)
 }
 
 // The tables of a view over a catalogue, over which it is not refused.

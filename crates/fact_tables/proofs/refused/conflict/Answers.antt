@@ -5,14 +5,14 @@ use Rattle.flow_law.proofs.ConflictLemmas.{first_two, no_two, conflict_first}
 use Rattle.fact_tables.proofs.refused.conflict.Goals as goal
 
 pub returns-in-Some : goal.returns-in-Some
-returns-in-Some c =
+returns-in-Some t c =
     let fs = c.args.facts.now in
     let left = first_two c.facts_from.result.now c.fact-item.result c.next-item.result c.in-len2-up.len_at_least c.fact-item.is c.next-item.is in
     let found = sym c.in_ok-clash.ensures ∙ c.in-Some.is in
     sym (rw (c.facts_from.ensures, found, c.loop-alloc.invariant.clash) at left) ∙ conflict_first fs c.requires
 
 pub loop-alloc-preserved : goal.loop-alloc-preserved
-loop-alloc-preserved c =
+loop-alloc-preserved t c =
     let fs = c.args.facts.now in
     let place = c.loop-alloc.place in
     let left = first_two c.facts_from.result.now c.fact-item.result c.next-item.result c.in-len2-up.len_at_least c.fact-item.is c.next-item.is in
@@ -24,6 +24,6 @@ loop-alloc-preserved c =
     }
 
 pub returns : goal.returns
-returns c =
+returns t c =
     let fs = c.args.facts.now in
     sym (no_two c.facts_from.result.now c.in_default.len_below) ∙ ap first_clash c.facts_from.ensures ∙ c.loop-alloc.invariant.clash ∙ conflict_first fs c.requires

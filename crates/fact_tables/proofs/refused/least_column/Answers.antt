@@ -8,7 +8,7 @@ use Rattle.flow_law.proofs.RefusedLemmas.{bad_column, bad_columns, pair_total, p
 use Rattle.fact_tables.proofs.refused.least_column.Goals as goal
 
 pub returns : goal.returns
-returns c =
+returns t c =
     let fs = c.args.facts.now in
     let constants = c.args.constants.now in
     reduce_from_yields_List _ c.filter_map.result _ c.min.ensures.ran (YieldsList-from_filter_map _ (bad_column constants) (YieldsList-from_slice fs cc) c.filter_map.ensures.closure (λ x r q k. search (rules, tests)))

@@ -9,7 +9,7 @@ use Rattle.flow_law.proofs.RefusedLemmas.{bad_table, bad_tables}
 use Rattle.fact_tables.proofs.refused.least_table.Goals as goal
 
 pub returns : goal.returns
-returns c =
+returns t c =
     let fs = c.args.facts.now in
     reduce_from_yields_List _ c.filter_map.result _ c.min.ensures.ran (YieldsList-from_filter_map _ bad_table (YieldsList-from_slice fs cc) c.filter_map.ensures.closure (λ x r q k. search (rules, tests)))
     ∙ min_is_least text_order.total text_order.same _ ∙ ap (least text_cmp) (bad_tables fs)

@@ -7,19 +7,19 @@ use Rattle.flow_law.specs.FactOrder.{by_key}
 use Rattle.fact_tables.proofs.table_facts.label_tables.Goals as goal
 
 pub of-requires : goal.of-requires
-of-requires c =
+of-requires t c =
     let counts = rw (c.label-label.ensures, c.facts_from-left.ensures) at c.label_count-count.ensures.count in
     rw c.facts_from-left.ensures
     (own_sorted text_order (λ (f : Fact). f.label) by_key fact_table c.args.facts.now c.requires c.loop-first.from c.in-Some.first.now c.in-Some.ensures.fact c.label_count-count.result counts)
 
 pub loop-first-smaller : goal.loop-first-smaller
-loop-first-smaller c =
+loop-first-smaller t c =
     let counts = rw (c.label-label.ensures, c.facts_from-left.ensures) at c.label_count-count.ensures.count in
     let some = some_count text_order (λ (f : Fact). f.label) by_key fact_table c.args.facts.now c.requires c.loop-first.from c.in-Some.first.now c.in-Some.ensures.fact c.label_count-count.result counts in
     omega (arith, c.in-Some.ensures.there)
 
 pub loop-first-preserved : goal.loop-first-preserved
-loop-first-preserved c =
+loop-first-preserved t c =
     let fs = c.args.facts.now in
     let from = c.loop-first.from in
     let counts = rw (c.label-label.ensures, c.facts_from-left.ensures) at c.label_count-count.ensures.count in
@@ -32,4 +32,4 @@ loop-first-preserved c =
     }
 
 pub returns : goal.returns
-returns c = all_entries text_order (λ (f : Fact). f.label) by_key fact_table c.args.facts.now c.loop-first.from c.loop-first.each.items c.in_default.ensures.fact c.loop-first.invariant.each
+returns t c = all_entries text_order (λ (f : Fact). f.label) by_key fact_table c.args.facts.now c.loop-first.from c.loop-first.each.items c.in_default.ensures.fact c.loop-first.invariant.each

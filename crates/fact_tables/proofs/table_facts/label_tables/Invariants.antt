@@ -3,10 +3,10 @@ use Rattle.fact_tables.proofs.TableRows.{tables_of}
 use Rattle.fact_tables.proofs.table_facts.label_tables.Given as goal
 
 abbrev pub invariant-loop-first : goal.invariant-loop-first
-invariant-loop-first l = record {
+invariant-loop-first t l = record {
   each : l.each.items ++ tables_of (drop l.from l.facts) ≡ tables_of l.facts;
   within : l.from ≤ length l.facts;
 }
 
 abbrev pub decreases-loop-first : goal.decreases-loop-first
-decreases-loop-first l = length l.facts - l.from
+decreases-loop-first t l = length l.facts - l.from

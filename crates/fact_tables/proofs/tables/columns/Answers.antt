@@ -9,7 +9,7 @@ use Rattle.fact_tables.proofs.ColumnLemmas.{one_more}
 use Rattle.fact_tables.proofs.tables.columns.Goals as goal
 
 pub put_column-requires : goal.put_column-requires
-put_column-requires c = rw c.loop-fact.invariant (strict_ascending text_order.total (filter_map column_of (take c.loop-fact.fact-index c.args.facts.now)))
+put_column-requires t c = rw c.loop-fact.invariant (strict_ascending text_order.total (filter_map column_of (take c.loop-fact.fact-index c.args.facts.now)))
 
 pub loop-fact-preserved : goal.loop-fact-preserved
-loop-fact-preserved c = grind (arith, common_steps, filter_map-append, one_more)
+loop-fact-preserved t c = grind (arith, common_steps, filter_map-append, one_more)

@@ -6,4 +6,4 @@ use Rattle.flow_law.specs.Facts.{column_of}
 use Rattle.fact_tables.proofs.tables.columns.Given as goal
 
 abbrev pub invariant-loop-fact : goal.invariant-loop-fact
-invariant-loop-fact l = l.columns.items ≡ ascending text_cmp (filter_map column_of (take l.fact-index l.facts))
+invariant-loop-fact t l = l.columns.items ≡ ascending text_cmp (filter_map column_of (take l.fact-index l.facts))

@@ -9,7 +9,7 @@ use Rattle.fact_tables.proofs.ValueLemmas.{found}
 use Rattle.fact_tables.proofs.tables.value.Goals as goal
 
 pub returns-in_err-fact_at : goal.returns-in_err-fact_at
-returns-in_err-fact_at c =
+returns-in_err-fact_at t c =
     let fs = c.args.facts.now in
     let column = c.args.column.now in
     let cell = λ (f : Fact). f.cell in
@@ -18,7 +18,7 @@ returns-in_err-fact_at c =
     rw (c.from_residual.ensures, ← found column fs c.partition_point-place.result c.requires c.partition_point-place.ensures.bound parts, ← c.in_err-fact_at.ensures.fact) refl
 
 pub returns : goal.returns
-returns c =
+returns t c =
     let fs = c.args.facts.now in
     let column = c.args.column.now in
     let cell = λ (f : Fact). f.cell in

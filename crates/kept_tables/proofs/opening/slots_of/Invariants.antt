@@ -3,4 +3,4 @@ use Rattle.kept_tables.specs.Slots.{full_slot}
 use Rattle.kept_tables.proofs.opening.slots_of.Given as goal
 
 abbrev pub invariant-loop-facts : goal.invariant-loop-facts
-invariant-loop-facts l = l.slots.items ≡ map full_slot (take l.facts-index l.tables)
+invariant-loop-facts t l = l.slots.items ≡ map full_slot (take l.facts-index l.tables)

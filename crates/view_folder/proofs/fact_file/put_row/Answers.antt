@@ -6,13 +6,13 @@ use Rattle.view_folder.proofs.TableFileLemmas.{spliced_some}
 use Rattle.view_folder.proofs.fact_file.put_row.Goals as goal
 
 pub returns-in_default : goal.returns-in_default
-returns-in_default c = λ ended h.
+returns-in_default t c = λ ended h.
     let key = c.args.row.now.0 in
     let put = rw (c.key_len-len.ensures, take_all (length key) key (omega arith)) at (c.in_ok-put_key.ensures ended [] h) in
     rw c.in_default.is (c.end_record.ensures ended key c.requires put)
 
 pub returns : goal.returns
-returns c = λ ended h.
+returns t c = λ ended h.
     let key = c.args.row.now.0 in
     let split = rw c.key_len-len.ensures at c.min-split.ensures in
     let front = c.in_ok-put_key-2.ensures ended [] h in

@@ -6,7 +6,7 @@ use Rattle.view_folder.proofs.FieldLemmas.{row_put, rows_put}
 use Rattle.view_folder.proofs.fact_file.put_rows.Goals as goal
 
 pub loop-row-preserved : goal.loop-row-preserved
-loop-row-preserved c =
+loop-row-preserved t c =
     let row = c.in-Some.row in
     record {
       keys = (rw c.in-Some.ensures.next at c.loop-row.invariant.keys).1;
@@ -16,6 +16,6 @@ loop-row-preserved c =
     }
 
 pub returns : goal.returns
-returns c = λ ended h.
+returns t c = λ ended h.
     let so_far = c.loop-row.invariant.text ended h in
     subst (λ t. IsWithin t [] c.loop-row.writer) (rows_put c.args.spot so_far.0 _ c.loop-row.rows c.in_default.ensures.none so_far.2) so_far.1

@@ -7,11 +7,11 @@ use Rattle.view_folder.specs.Fields.{IsWithin}
 use Rattle.view_folder.proofs.fact_file.put_rows.Given as goal
 
 abbrev pub invariant-loop-row : goal.invariant-loop-row
-invariant-loop-row l = record {
+invariant-loop-row t l = record {
   keys : AllByRecursion (λ (r : Row × Row). r.0 ≢ []) l.rows;
   text : (ended : List ℕ) → IsWithin ended [] l.fn.writer
       → (so_far : List ℕ) × IsWithin so_far [] l.writer × (so_far ++ csv_text (row_records l.spot l.rows) ≡ ended ++ csv_text (row_records l.spot l.fn.rows));
 }
 
 abbrev pub decreases-loop-row : goal.decreases-loop-row
-decreases-loop-row l = length l.rows
+decreases-loop-row t l = length l.rows

@@ -15,7 +15,7 @@ returns-in_default-clause-facts t c =
     let ds = c.args.self.now.view.now.decls.items in
     let v = c.args.valuation.now in
     let none = rw (c.len.ensures, v.ok.0) at c.in_default.ensures.declaration in
-    rw (none_left ds (length v.items) none, ← c.deref.ensures.value) c.add_fact.ensures
+    rw (none_left ds (length v.items) none, ← c.deref.ensures.value) c.add_fact.ensures.facts
 
 pub returns-then-ends-clause-facts : goal.returns-then-ends-clause-facts
 returns-then-ends-clause-facts t c =
@@ -57,6 +57,7 @@ loop-position-preserved t c =
       valuation = popped v c.pop-in-loop-position.new.self.items c.add_facts-in-loop-position.new.valuation.items c.of_row.result (vec_len c.add_facts-in-loop-position.new.valuation)
           (c.in_ok-add_facts-2.ensures.same ∙ pushed) c.add_facts-in-loop-position.new.valuation.ok.0 c.pop-in-loop-position.ensures.rest;
       indexes = search rules;
+      have_cells = search rules;
       facts = facts_of_row s.catalogue.now.databases (query_of s.view.now) v c.push-in-loop-position.new.self.items (plain_relation c.in-Some-all_rows_of.relation.now) c.loop-position.position c.of_row.result
           c.args.facts.now.items c.loop-position.facts.items c.add_facts-in-loop-position.new.facts.items pushed c.of_row.ensures c.loop-position.invariant.facts c.in_ok-add_facts-2.ensures.facts;
     }
