@@ -1,23 +1,22 @@
 -- Trees in which no file lies outside a folder stay so.
-use Rattle.std.proofs.Common.{◌≡◌, ◌≢◌, ℕ, suc, Bool, true, false, cond, is_some, ◌&&◌, ◌||◌, ◌==◌, List, [], ◌∷◌, ◌++◌, length, Option, None, Some, option_map, refl, sym, ap, ◌∙◌, subst, unwrap_or, arith}
+use Rattle.std.proofs.Common.{◌≡◌, ◌≢◌, ℕ, suc, Bool, true, false, cond, is_some, ◌&&◌, ◌||◌, ◌==◌, List, [], ◌∷◌, length, Option, None, Some, option_map, refl, sym, ap, ◌∙◌, subst, arith}
 use Rattle.std.specs.FinMap as map
 use Rattle.std.specs.List.{list_any, list_all}
 use Rattle.std.specs.Prelude.{bytes_eq}
 use Rattle.std.specs.Ordering.{eq_by_cmp, is_eq}
 use Rattle.std.specs.Cmp.{tied_itself}
 use Rattle.std.specs.Cmp.Lexicographic.{nat_list_cmp_total}
-use Rattle.std.specs.declared.cmp.Ordering.TheVariants.{Equal}
 use Rattle.std.proofs.lemmas.Map.Lookups.{exact_bytes}
 use Rattle.std.proofs.lemmas.Slice.Eq.{bytes_eq-Decides}
 use Rattle.std.proofs.lemmas.Bool.{and_parts, or_right, eqb-true}
 use Rattle.std.proofs.lemmas.List.Folds.{list_any-append}
 use Rattle.ss_text.specs.Texts.{text_cmp}
-use Rattle.outside.specs.Tree.{Tree, Place, place_cmp, names_in, files_of, subfolders_of, has_folder, has_empty_folder, fronts, folder_path, with_folders, files_map, with_file, without_file, with_folder, without_folder, FolderBrokeOff, FolderMayBreakOff}
+use Rattle.outside.specs.Tree.{Tree, Place, place_cmp, names_in, files_of, subfolders_of, has_folder, has_empty_folder, fronts, folder_path, with_folders, files_map, with_file, without_file, with_folder, without_folder, FolderMayBreakOff}
 use Rattle.outside.specs.Whole.{IsWhole, is_whole, told}
-use Rattle.outside.specs.WholeLaw.{is_eq_true, place_exact, told_is, told_is_whole}
+use Rattle.outside.specs.WholeLaw.{is_eq_true, place_exact, told_is}
 use Rattle.outside.specs.MemTree.{SureFoldersState}
 use Rattle.outside.proofs.PlaceLemmas.{place_total}
-use Rattle.outside.proofs.TreeLemmas.{get_made, kept_made, some_unit}
+use Rattle.outside.proofs.TreeLemmas.{get_made, kept_made}
 
 all_marked : (f : Place → Bool) (ks zs : List Place) → ((p : Place) → list_any (eq_by_cmp place_cmp p) zs ≡ true → f p ≡ true) → ((p : Place) → list_any (eq_by_cmp place_cmp p) ks ≡ true → list_any (eq_by_cmp place_cmp p) zs ≡ true) → list_all f ks ≡ true
 all_marked f [] zs h within = refl

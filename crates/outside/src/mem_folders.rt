@@ -3,8 +3,9 @@ ghost use Rattle.std.specs.Prelude.{◌≡◌, ◌/◌, ◌<◌, ◌≤◌, [], 
 ghost use Rattle.std.specs.FinMap as map;
 ghost use Rattle.std.specs.List.Sorted.{IsStrictlySortedBy};
 ghost use Rattle.ss_text.specs.Texts.{text_cmp};
-ghost use Rattle.outside.specs.Counts.{Rose, risen};
-ghost use Rattle.outside.specs.Calls.{faults_of, next_fails, CountedUnlessNoMemory};
+ghost use Rattle.outside.specs.Counts.{risen};
+ghost use Rattle.outside.specs.Calls.{faults_of, next_fails};
+ghost use Rattle.outside.specs.MemCalls.{NumberedRead, NumberedChange};
 ghost use Rattle.outside.specs.Tree.{Tree, file_at, files_of, subfolders_of, folder_path, with_file, without_file, has_folder, has_empty_folder, with_folder, without_folder, MayBreakOff, FolderMayBreakOff};
 ghost use Rattle.outside.specs.Whole.{told};
 
@@ -62,8 +63,7 @@ impl MemFolders {
     ) -> Result<(), NoMemory>
         ensures ok { OnOk result (self.new ≡ record self.old { tree = with_file folder.now file.now bytes.now self.old.tree }) }
         ensures err { OnErr result (self.new ≡ self.old) }
-        ensures tells { told self.new.tree ≡ Some self.new.tree }
-        ensures told_before { told self.old.tree ≡ Some self.old.tree }
+        ensures told { (told self.old.tree ≡ Some self.old.tree) × (told self.new.tree ≡ Some self.new.tree) }
     {
         self.store.put(alloc, folder, file, bytes)
     }
@@ -79,16 +79,7 @@ impl Folders for MemFolders {
     fn subfolders(&mut self, alloc: Global, folder: &Text) -> Result<Vec<Text>, StoreFault>
         ensures told { IfOk result (λ names. (t : Tree) → told self.old.tree ≡ Some t → names.items ≡ subfolders_of t folder.now) }
         ensures ascending { IfOk result (λ names. IsStrictlySortedBy text_cmp names.items) }
-        ensures failed { IsErrOf result StoreFault.Failed → Rose (faults_of self.old.reads) (faults_of self.new.reads) }
-        ensures steady { faults_of self.old.reads ≤ faults_of self.new.reads }
-        ensures tree { told self.new.tree ≡ told self.old.tree }
-        ensures writes { self.new.writes ≡ self.old.writes }
-        ensures write_faults { faults_of self.new.changes ≡ faults_of self.old.changes }
-
-        // What is particular to it.
-        ensures fails { IsErrOf result StoreFault.Failed ↔ (next_fails self.old.reads ≡ true) }
-        ensures numbered { CountedUnlessNoMemory result self.old.reads self.new.reads }
-        ensures changes { self.new.changes ≡ self.old.changes }
+        ensures does { NumberedRead result self.old self.new }
     {
         if self.reads.next_fails() {
             self.reads.count();
@@ -102,16 +93,7 @@ impl Folders for MemFolders {
     fn files(&mut self, alloc: Global, folder: &Text) -> Result<Vec<Text>, StoreFault>
         ensures told { IfOk result (λ names. (t : Tree) → told self.old.tree ≡ Some t → names.items ≡ files_of t folder.now) }
         ensures ascending { IfOk result (λ names. IsStrictlySortedBy text_cmp names.items) }
-        ensures failed { IsErrOf result StoreFault.Failed → Rose (faults_of self.old.reads) (faults_of self.new.reads) }
-        ensures steady { faults_of self.old.reads ≤ faults_of self.new.reads }
-        ensures tree { told self.new.tree ≡ told self.old.tree }
-        ensures writes { self.new.writes ≡ self.old.writes }
-        ensures write_faults { faults_of self.new.changes ≡ faults_of self.old.changes }
-
-        // What is particular to it.
-        ensures fails { IsErrOf result StoreFault.Failed ↔ (next_fails self.old.reads ≡ true) }
-        ensures numbered { CountedUnlessNoMemory result self.old.reads self.new.reads }
-        ensures changes { self.new.changes ≡ self.old.changes }
+        ensures does { NumberedRead result self.old self.new }
     {
         if self.reads.next_fails() {
             self.reads.count();
@@ -129,16 +111,7 @@ impl Folders for MemFolders {
         file: &Text,
     ) -> Result<Option<Text>, StoreFault>
         ensures told { IfOk result (λ bytes. (t : Tree) → told self.old.tree ≡ Some t → bytes ≡ file_at t folder.now file.now) }
-        ensures failed { IsErrOf result StoreFault.Failed → Rose (faults_of self.old.reads) (faults_of self.new.reads) }
-        ensures steady { faults_of self.old.reads ≤ faults_of self.new.reads }
-        ensures tree { told self.new.tree ≡ told self.old.tree }
-        ensures writes { self.new.writes ≡ self.old.writes }
-        ensures write_faults { faults_of self.new.changes ≡ faults_of self.old.changes }
-
-        // What is particular to it.
-        ensures fails { IsErrOf result StoreFault.Failed ↔ (next_fails self.old.reads ≡ true) }
-        ensures numbered { CountedUnlessNoMemory result self.old.reads self.new.reads }
-        ensures changes { self.new.changes ≡ self.old.changes }
+        ensures does { NumberedRead result self.old self.new }
     {
         if self.reads.next_fails() {
             self.reads.count();
@@ -158,16 +131,7 @@ impl Folders for MemFolders {
     ) -> Result<Option<Text>, StoreFault>
         ensures told { IfOk result (λ bytes. (t : Tree) → told self.old.tree ≡ Some t → bytes ≡ option_map (take most) (file_at t folder.now file.now)) }
         ensures most { IfOk result (λ bytes. IfSome bytes (λ b. length b ≤ most)) }
-        ensures failed { IsErrOf result StoreFault.Failed → Rose (faults_of self.old.reads) (faults_of self.new.reads) }
-        ensures steady { faults_of self.old.reads ≤ faults_of self.new.reads }
-        ensures tree { told self.new.tree ≡ told self.old.tree }
-        ensures writes { self.new.writes ≡ self.old.writes }
-        ensures write_faults { faults_of self.new.changes ≡ faults_of self.old.changes }
-
-        // What is particular to it.
-        ensures fails { IsErrOf result StoreFault.Failed ↔ (next_fails self.old.reads ≡ true) }
-        ensures numbered { CountedUnlessNoMemory result self.old.reads self.new.reads }
-        ensures changes { self.new.changes ≡ self.old.changes }
+        ensures does { NumberedRead result self.old self.new }
     {
         if self.reads.next_fails() {
             self.reads.count();
@@ -189,19 +153,11 @@ impl Folders for MemFolders {
         ensures ok { OnOk result (told self.new.tree ≡ option_map (with_file folder.now file.now bytes.now) (told self.old.tree)) }
         ensures counted { OnOk result (self.new.writes ≡ risen self.old.writes 1) }
         ensures broke_off { IsErrOf result StoreFault.Failed → MayBreakOff (folder_path folder.now) folder.now file.now (told self.old.tree) (told self.new.tree) }
-        ensures failed { IsErrOf result StoreFault.Failed → Rose (faults_of self.old.changes) (faults_of self.new.changes) }
-        ensures steady { faults_of self.old.changes ≤ faults_of self.new.changes }
-        ensures uncounted { OnErr result (self.new.writes ≡ self.old.writes) }
-        ensures no_memory { IsErrOf result StoreFault.NoMemory → told self.new.tree ≡ told self.old.tree }
-        ensures no_fault { IsErrOf result StoreFault.NoMemory → faults_of self.new.changes ≡ faults_of self.old.changes }
-        ensures read_faults { faults_of self.new.reads ≡ faults_of self.old.reads }
+        ensures does { NumberedChange result self.old self.new }
 
         // What is particular to it: a call that fails leaves the first half of the bytes.
-        ensures fails { IsErrOf result StoreFault.Failed → next_fails self.old.changes ≡ true }
-        ensures does { OnOk result (next_fails self.old.changes ≡ false) }
-        ensures numbered { CountedUnlessNoMemory result self.old.changes self.new.changes }
+        ensures done { OnOk result (next_fails self.old.changes ≡ false) }
         ensures half { IsErrOf result StoreFault.Failed → self.new.tree ≡ with_file folder.now file.now (take (length bytes.now / 2) bytes.now) self.old.tree }
-        ensures reads { self.new.reads ≡ self.old.reads }
     {
         if self.changes.next_fails() {
             self.put(alloc, folder, file, &bytes[..bytes.len() / 2])?;
@@ -219,18 +175,11 @@ impl Folders for MemFolders {
         ensures ok { OnOk result (told self.new.tree ≡ option_map (without_file folder.now file.now) (told self.old.tree)) }
         ensures counted { IfOk result (λ was. self.new.writes ≡ (if was then risen self.old.writes 1 else self.old.writes)) }
         ensures broke_off { IsErrOf result StoreFault.Failed → MayBreakOff [] folder.now file.now (told self.old.tree) (told self.new.tree) }
-        ensures failed { IsErrOf result StoreFault.Failed → Rose (faults_of self.old.changes) (faults_of self.new.changes) }
-        ensures steady { faults_of self.old.changes ≤ faults_of self.new.changes }
-        ensures uncounted { OnErr result (self.new.writes ≡ self.old.writes) }
-        ensures no_memory { IsErrOf result StoreFault.NoMemory → told self.new.tree ≡ told self.old.tree }
-        ensures no_fault { IsErrOf result StoreFault.NoMemory → faults_of self.new.changes ≡ faults_of self.old.changes }
-        ensures read_faults { faults_of self.new.reads ≡ faults_of self.old.reads }
+        ensures does { NumberedChange result self.old self.new }
 
         // What is particular to it: a call that fails leaves the file.
         ensures fails { IsErrOf result StoreFault.Failed ↔ (next_fails self.old.changes ≡ true) }
-        ensures numbered { CountedUnlessNoMemory result self.old.changes self.new.changes }
         ensures stays { OnErr result (told self.new.tree ≡ told self.old.tree) }
-        ensures reads { self.new.reads ≡ self.old.reads }
     {
         if self.changes.next_fails() {
             self.changes.count();
@@ -247,18 +196,11 @@ impl Folders for MemFolders {
         ensures ok { OnOk result (told self.new.tree ≡ option_map (with_folder folder.now) (told self.old.tree)) }
         ensures counted { IfOk result (λ made. self.new.writes ≡ (if made then risen self.old.writes 1 else self.old.writes)) }
         ensures broke_off { IsErrOf result StoreFault.Failed → FolderMayBreakOff (folder_path folder.now) folder.now (told self.old.tree) (told self.new.tree) }
-        ensures failed { IsErrOf result StoreFault.Failed → Rose (faults_of self.old.changes) (faults_of self.new.changes) }
-        ensures steady { faults_of self.old.changes ≤ faults_of self.new.changes }
-        ensures uncounted { OnErr result (self.new.writes ≡ self.old.writes) }
-        ensures no_memory { IsErrOf result StoreFault.NoMemory → told self.new.tree ≡ told self.old.tree }
-        ensures no_fault { IsErrOf result StoreFault.NoMemory → faults_of self.new.changes ≡ faults_of self.old.changes }
-        ensures read_faults { faults_of self.new.reads ≡ faults_of self.old.reads }
+        ensures does { NumberedChange result self.old self.new }
 
         // What is particular to it: a call that fails makes no folder.
         ensures fails { IsErrOf result StoreFault.Failed ↔ (next_fails self.old.changes ≡ true) }
-        ensures numbered { CountedUnlessNoMemory result self.old.changes self.new.changes }
         ensures stays { OnErr result (told self.new.tree ≡ told self.old.tree) }
-        ensures reads { self.new.reads ≡ self.old.reads }
     {
         if self.changes.next_fails() {
             self.changes.count();
@@ -275,18 +217,11 @@ impl Folders for MemFolders {
         ensures ok { OnOk result (told self.new.tree ≡ option_map (without_folder folder.now) (told self.old.tree)) }
         ensures counted { IfOk result (λ was. self.new.writes ≡ (if was then risen self.old.writes 1 else self.old.writes)) }
         ensures broke_off { IsErrOf result StoreFault.Failed → FolderMayBreakOff [] folder.now (told self.old.tree) (told self.new.tree) }
-        ensures failed { IsErrOf result StoreFault.Failed → Rose (faults_of self.old.changes) (faults_of self.new.changes) }
-        ensures steady { faults_of self.old.changes ≤ faults_of self.new.changes }
-        ensures uncounted { OnErr result (self.new.writes ≡ self.old.writes) }
-        ensures no_memory { IsErrOf result StoreFault.NoMemory → told self.new.tree ≡ told self.old.tree }
-        ensures no_fault { IsErrOf result StoreFault.NoMemory → faults_of self.new.changes ≡ faults_of self.old.changes }
-        ensures read_faults { faults_of self.new.reads ≡ faults_of self.old.reads }
+        ensures does { NumberedChange result self.old self.new }
 
         // What is particular to it: a call that fails leaves the folder.
         ensures fails { IsErrOf result StoreFault.Failed ↔ (next_fails self.old.changes ≡ true) }
-        ensures numbered { CountedUnlessNoMemory result self.old.changes self.new.changes }
         ensures stays { OnErr result (told self.new.tree ≡ told self.old.tree) }
-        ensures reads { self.new.reads ≡ self.old.reads }
     {
         if self.changes.next_fails() {
             self.changes.count();
