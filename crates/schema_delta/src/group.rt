@@ -32,10 +32,15 @@ pub fn flat_group<L: Ledger>(
     ensures steps { steps.new ≡ steps.old }
 {
     if all_of_rows(changes) {
-        by_rows(alloc, catalogue, changes, specs)
-    } else {
-        by_states(alloc, catalogue, changes, specs, steps)
+        return by_rows(alloc, catalogue, changes, specs);
     }
+    let mut present = catalogue.copy()?;
+    let mut deltas = no_moves(alloc, specs)?;
+    for change in changes {
+        deltas = moved_on(alloc, &present, change, specs, deltas, steps)?;
+        make(&mut present, change)?;
+    }
+    Ok(deltas)
 }
 
 fn all_of_rows(changes: &[Change]) -> bool
@@ -81,28 +86,6 @@ fn rows_moves(
         delta = delta.followed_by(rows_change(alloc, catalogue, change, spec)?)?;
     }
     Ok(delta)
-}
-
-// The moves of each declaration, over the catalogue after each change.
-fn by_states<L: Ledger>(
-    alloc: Global,
-    catalogue: &Catalogue,
-    changes: &[Change],
-    specs: &[FlatSpec],
-    steps: &mut Steps<L>,
-) -> Result<Vec<Delta>, NoMemory>
-    requires accepted { group_fault catalogue.now.databases changes.now ≡ None }
-    requires well_formed { AllByRecursion (λ g. IsTrue (is_well_formed g)) changes.now }
-    ensures moved { IfOk result (λ deltas. AllZip (MovesGroup catalogue.now.databases changes.now) specs.now deltas.items) }
-    ensures steps { steps.new ≡ steps.old }
-{
-    let mut present = catalogue.copy()?;
-    let mut deltas = no_moves(alloc, specs)?;
-    for change in changes {
-        deltas = moved_on(alloc, &present, change, specs, deltas, steps)?;
-        make(&mut present, change)?;
-    }
-    Ok(deltas)
 }
 
 // No moves for each declaration.

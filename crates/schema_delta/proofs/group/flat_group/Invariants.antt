@@ -2,7 +2,7 @@ use Rattle.std.proofs.Common.{◌≡◌}
 use Rattle.std.specs.List.{AllZip}
 use Rattle.schema_delta.specs.Flat.{MovesBetween}
 use Rattle.schema_delta.proofs.GroupLemmas.{IsLeft}
-use Rattle.schema_delta.proofs.group.by_states.Given as goal
+use Rattle.schema_delta.proofs.group.flat_group.Given as goal
 
 abbrev pub invariant-loop-change : goal.invariant-loop-change
 invariant-loop-change g l = record {

@@ -7,7 +7,7 @@ use Rattle.schema_model.specs.declared.change.Change.{Change}
 use Rattle.operator_law.specs.declared.delta.Signed.{Signed}
 use Rattle.schema_delta.specs.Flat.{MovesBetween}
 use Rattle.schema_delta.proofs.GroupLemmas.{IsLeft, all_stay, can_make, one_made, all_made}
-use Rattle.schema_delta.proofs.group.by_states.Goals as goal
+use Rattle.schema_delta.proofs.group.flat_group.Goals as goal
 
 pub loop-change-init : goal.loop-change-init
 loop-change-init g c =
