@@ -5,15 +5,15 @@
 #![tactic(auto)]
 
 mod delta;
-mod distinct;
+mod form;
 mod frame;
+mod kept_facts;
 mod one_table;
 mod parts;
 mod table_operator;
-mod unfold;
 
-pub use distinct::Distinct;
+pub use form::{FactForm, KeyAlone, KeyAndCell};
 pub use frame::total_after;
+pub use kept_facts::{Distinct, KeptFacts, Unfold};
 pub use one_table::TableReady;
 pub use table_operator::TableOperator;
-pub use unfold::Unfold;

@@ -6,7 +6,8 @@ ghost use Rattle.flow_law.specs.declared.refused.Stop.{Stop};
 ghost use Rattle.operator_law.specs.declared.delta.Signed.{Signed as SignedValue};
 ghost use Rattle.unfold_op.specs.OneTables.{OneTableValue, KeepsFacts, CanAdd, CanKeep, BearsOne, CanPrepare, Gives, MayStop};
 
-use crate::{Distinct, Unfold};
+use crate::form::FactForm;
+use crate::kept_facts::KeptFacts;
 use flow_law::TableLine;
 use operator_law::{Delta, Fresh, Kept, Operator};
 use ss_text::{NoMemory, Row};
@@ -51,20 +52,15 @@ pub trait TableOperator: Fresh
     ghost same_form: { (s t : Self) → Self.alike s t → (table s).shape ≡ (table t).shape };
 }
 
-impl TableOperator for Distinct {
-    ghost use Rattle.std.specs.Prelude.{◌≡◌};
-    ghost use Rattle.std.proofs.Common.{subst, sym};
-    ghost use Rattle.flow_law.specs.declared.refused.Stop.{Stop};
-    ghost use Rattle.unfold_op.specs.OneTables.{MayStop};
-
+impl<F: FactForm> TableOperator for KeptFacts<F> {
     ghost table = { λ o. o };
 
     fn count(&self) -> u128 {
-        Distinct::count(self)
+        KeptFacts::count(self)
     }
 
     fn add(&mut self, alloc: Global, row: &Row) -> Result<(), NoMemory> {
-        Distinct::add(self, alloc, row)
+        KeptFacts::add(self, alloc, row)
     }
 
     ghost keeps_facts = { λ s x h. h };
@@ -79,35 +75,7 @@ impl TableOperator for Distinct {
 
     ghost answers = { λ s ms out h. h };
 
-    ghost stops = { λ s ms stop h. subst (λ (e : Stop). MayStop s ms e) (sym h) (λ old new k m. tt) };
-
-    ghost same_form = { λ s t h. h };
-}
-
-impl TableOperator for Unfold {
-    ghost table = { λ o. o };
-
-    fn count(&self) -> u128 {
-        Unfold::count(self)
-    }
-
-    fn add(&mut self, alloc: Global, row: &Row) -> Result<(), NoMemory> {
-        Unfold::add(self, alloc, row)
-    }
-
-    ghost keeps_facts = { λ s x h. h };
-
-    ghost facts_kept = { λ s x h. h };
-
-    ghost prepares = { λ s ms h. h };
-
-    ghost reserves = { λ s ms h. h };
-
-    ghost can_be_kept = { λ s x h. h };
-
-    ghost answers = { λ s ms out h. h };
-
-    ghost stops = { λ s ms stop h. h };
+    ghost stops = { λ s ms stop h. h.0 };
 
     ghost same_form = { λ s t h. h };
 }

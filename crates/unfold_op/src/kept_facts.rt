@@ -1,24 +1,32 @@
-//! Facts without columns.
+//! The facts of one table, as an operator: with a variable column or without.
 ghost use Rattle.std.specs.Prelude.{◌≡◌, [], ◌∷◌, List, None, Some, IfOk, IfErr, OnOk, MatchResult};
 ghost use Rattle.ss_text.specs.Texts.{Row as RowValue};
 ghost use Rattle.unfold_op.specs.OneTables.{KeepsFacts, CanAdd, CanKeep, BearsOne, CanPrepare, Gives, MayStop, Makes};
 
+use crate::form::{FactForm, KeyAlone, KeyAndCell};
 use crate::one_table::{OneTable, TableReady};
 use flow_law::{Stop, TableLine};
 use operator_law::{Delta, Fresh, Kept, Operator};
 use ss_text::{NoMemory, Row, Steps};
 use std::alloc::Global;
-use std::marker::Model;
+use std::marker::{Model, PhantomData};
 use std::sync::ledger::Ledger;
 
-/// Keeps the facts of one table without a variable column, and gives the lines by which the table changes: each row is there once.
+/// Keeps the facts of one table, of this form, and gives the lines by which the table changes.
 #[derive(Drop)]
-pub struct Distinct {
+pub struct KeptFacts<F: FactForm> {
     table: OneTable,
+    form: PhantomData<F>,
 }
 
-impl Model for Distinct {
-    ghost use Rattle.std.specs.Prelude.{◌≡◌, None, Some};
+/// Keeps the facts of one table without a variable column: each row is there once. It never refuses.
+pub type Distinct = KeptFacts<KeyAlone>;
+
+/// Keeps the facts of one table with a variable column.
+pub type Unfold = KeptFacts<KeyAndCell>;
+
+impl<F: FactForm> Model for KeptFacts<F> {
+    ghost use Rattle.std.specs.Prelude.{◌≡◌};
     ghost use Rattle.unfold_op.specs.OneTables.{OneTableValue};
     ghost use Rattle.fact_counts.specs.contracts.facts.FactCounts as fact_counts;
     ghost use Rattle.std.specs.Coded.{codes};
@@ -31,18 +39,19 @@ impl Model for Distinct {
 
     ghost view = { λ o. seen o.table };
 
-    ghost invariant = { λ o. IsOneTable o.table × (o.table.shape.spot ≡ None) };
+    ghost invariant = { λ o. IsOneTable o.table × (o.table.shape.spot ≡ F.SPOT) };
 }
 
-impl Distinct {
-    /// No facts, of these constant columns.
-    pub fn new(alloc: Global, constants: Row) -> Distinct
-        ensures shape { result.shape ≡ record { label = None; constants = constants; spot = None } }
+impl<F: FactForm> KeptFacts<F> {
+    /// No facts, beside these constant columns.
+    pub fn new(alloc: Global, constants: Row) -> KeptFacts<F>
+        ensures shape { result.shape ≡ record { label = None; constants = constants; spot = F.SPOT } }
         ensures keeps { KeepsFacts result [] }
         ensures none { result.waiting ≡ None }
     {
-        Distinct {
-            table: OneTable::new(alloc, constants, None),
+        KeptFacts {
+            table: OneTable::new(alloc, constants, F::SPOT),
+            form: PhantomData,
         }
     }
 
@@ -65,10 +74,10 @@ impl Distinct {
     }
 }
 
-impl Operator for Distinct {
-    ghost use Rattle.unfold_op.specs.OneTables.{table_value, KeepsFacts, CanPrepare, Gives};
-    ghost use Rattle.std.specs.Prelude.{◌≡◌};
+impl<F: FactForm> Operator for KeptFacts<F> {
+    ghost use Rattle.std.specs.Prelude.{◌≡◌, None};
     ghost use Rattle.flow_law.specs.declared.refused.Stop.TheVariants.{NoMemory};
+    ghost use Rattle.unfold_op.specs.OneTables.{table_value, KeepsFacts, CanPrepare, Gives, MayStop};
 
     type Input = ();
 
@@ -84,7 +93,7 @@ impl Operator for Distinct {
 
     ghost gives = { λ o i g lines. Gives o g lines.items };
 
-    ghost may_stop = { λ o i g stop. stop ≡ NoMemory };
+    ghost may_stop = { λ o i g stop. MayStop o g stop × (F.SPOT ≡ None → stop ≡ NoMemory) };
 
     ghost is_bound = { λ o i g n. Unit {0} };
 
@@ -102,7 +111,7 @@ impl Operator for Distinct {
     }
 }
 
-impl Kept for Distinct {
+impl<F: FactForm> Kept for KeptFacts<F> {
     ghost use Rattle.std.specs.Prelude.{◌≡◌};
     ghost use Rattle.std.proofs.Common.{subst};
     ghost use Rattle.flow_law.specs.declared.shape.Shape.{Shape};
@@ -136,15 +145,18 @@ impl Kept for Distinct {
     ghost keeps_alike = { λ s t x a h. subst (λ (v : Shape). CanKeep v x) a h };
 }
 
-impl Fresh for Distinct {
+impl<F: FactForm> Fresh for KeptFacts<F> {
     ghost use Rattle.std.proofs.Common.{ap, ◌∙◌};
     ghost use Rattle.flow_law.specs.declared.shape.Shape.{Shape};
     ghost use Rattle.flow_law.specs.FactTables.{tables};
     ghost use Rattle.unfold_op.specs.FactMoves.{facts_in};
 
-    fn fresh(&self, alloc: Global) -> Result<Distinct, NoMemory> {
+    fn fresh(&self, alloc: Global) -> Result<KeptFacts<F>, NoMemory> {
         let table = self.table.fresh(alloc)?;
-        Ok(Distinct { table })
+        Ok(KeptFacts {
+            table,
+            form: PhantomData,
+        })
     }
 
     ghost stands = { λ s x h. h };
