@@ -21,5 +21,3 @@ mod operators;
 mod pages;
 #[cfg(test)]
 mod shelves;
-#[cfg(test)]
-mod united;

@@ -9,6 +9,8 @@ use std::marker::Brand;
 use std::sync::ledger::{Blank, Ledger};
 use std::test::Fail;
 
+mod united;
+
 fn row(alloc: Global, first: &str, second: &str) -> Result<Row, NoMemory>
     ensures { IfOk result (λ row. length row ≡ 2) }
 {

@@ -18,27 +18,39 @@ const CS: &str = "category,salFloor\nAssoc,60000\nProf,72000\n";
 
 const MATH: &str = "category,salFloor\nProf,65000\n";
 
+// What runs leave that show these.
+const PAYS_SHOWN: Want = Want {
+    status: 0,
+    printed: "synced\t1\n",
+    folder: "views/P",
+    held: &[("names.csv", PAYS)],
+};
+
+const COLUMNS_SHOWN: Want = Want {
+    status: 0,
+    printed: "synced\t1\n",
+    folder: "views/AtoB",
+    held: &[("salInfo.csv", COLUMNS)],
+};
+
+const NO_ROWS_SHOWN: Want = Want {
+    status: 0,
+    printed: "synced\t1\n",
+    folder: "views/AtoB",
+    held: &[("salInfo.csv", "category\n")],
+};
+
 // Views that are shown.
 const SHOWN: [Row; 10] = [
     Row {
         words: &["show", "P"],
         files: &[PAY, A],
-        want: Want {
-            status: 0,
-            printed: "synced\t1\n",
-            folder: "views/P",
-            held: &[("names.csv", PAYS)],
-        },
+        want: PAYS_SHOWN,
     },
     Row {
         words: &["show", "AtoB"],
         files: &[A_TO_B, A],
-        want: Want {
-            status: 0,
-            printed: "synced\t1\n",
-            folder: "views/AtoB",
-            held: &[("salInfo.csv", COLUMNS)],
-        },
+        want: COLUMNS_SHOWN,
     },
     Row {
         words: &["show", "BtoA"],
@@ -90,12 +102,7 @@ const SHOWN: [Row; 10] = [
             ),
             A,
         ],
-        want: Want {
-            status: 0,
-            printed: "synced\t1\n",
-            folder: "views/AtoB",
-            held: &[("salInfo.csv", COLUMNS)],
-        },
+        want: COLUMNS_SHOWN,
     },
     Row {
         words: &["show", "AtoB"],
@@ -107,12 +114,7 @@ const SHOWN: [Row; 10] = [
             ),
             A,
         ],
-        want: Want {
-            status: 0,
-            printed: "synced\t1\n",
-            folder: "views/AtoB",
-            held: &[("salInfo.csv", "category\n")],
-        },
+        want: NO_ROWS_SHOWN,
     },
     Row {
         words: &["show", "One"],
@@ -174,12 +176,7 @@ const SOURCES: [Row; 5] = [
     Row {
         words: &["show", "AtoB"],
         files: &[A_TO_B],
-        want: Want {
-            status: 0,
-            printed: "synced\t1\n",
-            folder: "views/AtoB",
-            held: &[("salInfo.csv", "category\n")],
-        },
+        want: NO_ROWS_SHOWN,
     },
     Row {
         words: &["show", "AtoC"],
@@ -199,12 +196,7 @@ const SOURCES: [Row; 5] = [
             ("sources/.git", "bad.csv", "a\n1,2\n"),
             ("sources/univ-A", "notes.txt", "x"),
         ],
-        want: Want {
-            status: 0,
-            printed: "synced\t1\n",
-            folder: "views/P",
-            held: &[("names.csv", PAYS)],
-        },
+        want: PAYS_SHOWN,
     },
     Row {
         words: &["show", "P"],
@@ -216,12 +208,7 @@ const SOURCES: [Row; 5] = [
                 "category,dept,salFloor\r\nProf,cs,72000\r\nProf,math,65000\r\nAssoc,cs,60000\r\n",
             ),
         ],
-        want: Want {
-            status: 0,
-            printed: "synced\t1\n",
-            folder: "views/P",
-            held: &[("names.csv", PAYS)],
-        },
+        want: PAYS_SHOWN,
     },
     Row {
         words: &["show", "P"],
@@ -233,12 +220,7 @@ const SOURCES: [Row; 5] = [
                 "\u{feff}category,dept,salFloor\nProf,cs,72000\nProf,math,65000\nAssoc,cs,60000\n",
             ),
         ],
-        want: Want {
-            status: 0,
-            printed: "synced\t1\n",
-            folder: "views/P",
-            held: &[("names.csv", PAYS)],
-        },
+        want: PAYS_SHOWN,
     },
 ];
 

@@ -122,12 +122,10 @@ fn put_row(bytes: &mut Vec<u8>, row: &Row) -> Result<(), NoMemory> {
     if !bytes.is_empty() {
         bytes.push(b',')?;
     }
-    let mut first = true;
-    for cell in row.cells() {
-        if !first {
+    for (at, cell) in row.cells().iter().enumerate() {
+        if at > 0 {
             bytes.push(b' ')?;
         }
-        first = false;
         bytes.extend_from_slice(cell.as_slice())?;
     }
     Ok(())

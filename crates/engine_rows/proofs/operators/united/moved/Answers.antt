@@ -1,6 +1,6 @@
 use Rattle.std.proofs.Common.{arith}
 use Rattle.engine_rows.proofs.UnitedNames.{second_bears}
-use Rattle.engine_rows.proofs.united.moved.Goals as goal
+use Rattle.engine_rows.proofs.operators.united.moved.Goals as goal
 
 pub prepare-requires : goal.prepare-requires
 prepare-requires g c = (
