@@ -20,7 +20,7 @@ use Rattle.valuation_meaning.specs.Elements.{Valuation}
 use Rattle.valuation_meaning.specs.Terms.{Reading, value_of}
 use Rattle.valuation_meaning.specs.Valuations.{valuations}
 use Rattle.valuation_meaning.specs.Meaning.{given, cell_of_reading, fact_of, facts, shape_of, constant_label}
-use Rattle.valuation_meaning.proofs.EvalLemmas.{facts_bear}
+use Rattle.valuation_meaning.proofs.EvalLemmas.{bear}
 
 cell_there : (r : Reading) (p : Option Place) (t : Option Term) (spot : Option ℕ) → is_some p ≡ is_some spot → is_some t ≡ is_some spot → is_some (cell_of_reading r p t) ≡ is_some spot
 cell_there r None t spot column value = column
@@ -51,4 +51,4 @@ legal_label ds (place.Fixed t) label h e = let same : t ≡ label = cc in subst 
 legal_label ds (place.Var k) label h e = absurd (cc)
 
 pub bear_label : (c : CatalogueValue) (q : Query) (label : Text) → constant_label q.label ≡ Some label → AllBear label (facts c q)
-bear_label c q label e = subst (λ (o : Option Text). BearLabel o (facts c q)) e (facts_bear c q)
+bear_label c q label e = subst (λ (o : Option Text). BearLabel o (facts c q)) e (bear c q (shape_of q) refl (facts c q) refl)

@@ -3,6 +3,8 @@ pub mod NextLemmas
 pub mod ShortLemmas
 pub mod ValueLemmas
 pub mod TableRows
+pub mod SortedLemmas
+pub mod RepeatLemmas
 pub mod OrderLemmas
 pub mod OrderedValues
 pub mod ColumnLemmas

@@ -1,21 +1,39 @@
 -- What facts in order say of the tables and the refusal of the same facts in any order.
-use Rattle.std.proofs.Common.{◌≡◌, List, Option, Some, None, refl, sym, ap, ◌∙◌}
-use Rattle.std.specs.List.Sorted.{IsStrictlySortedBy}
+use Rattle.std.proofs.Common.{◌≡◌, List, [], ◌∷◌, ◌++◌, Option, Some, None, refl, sym, ap, subst, ◌∙◌}
+use Rattle.std.specs.Prelude.{option_map}
+use Rattle.std.specs.Ordering.{eq_by_cmp}
+use Rattle.std.specs.List.{AllByRecursion}
+use Rattle.std.specs.List.Retain.{IsFiltered, DiffersFromLast}
+use Rattle.std.specs.List.Sorted.{IsPermutation, IsSorted, IsStrictlySortedBy}
+use Rattle.std.proofs.lemmas.List.Sorted.{IsPermutation-refl, list_any-IsPermutation}
 use Rattle.ss_text.specs.Texts.{Text}
 use Rattle.ss_text.specs.Ascending.{ascending}
-use Rattle.ss_text.proofs.GroupLemmas.{all_ascending, strict_ascending}
+use Rattle.ss_text.proofs.AscendingLemmas.{sorted_once}
+use Rattle.ss_text.proofs.GroupLemmas.{all_front, all_ascending, strict_front, strict_ascending}
+use Rattle.ss_text.proofs.SetLemmas.{SameElements, ascending_of_same}
 use Rattle.flow_law.specs.declared.shape.Shape.{Shape}
 use Rattle.flow_law.specs.declared.refused.IllegalLabel.{IllegalLabel}
 use Rattle.flow_law.specs.declared.refused.Clash.{Clash}
-use Rattle.flow_law.specs.declared.refused.Stop.TheVariants.{Illegal, Conflict}
+use Rattle.flow_law.specs.declared.refused.Stop.{Stop}
+use Rattle.flow_law.specs.declared.refused.Stop.TheVariants.{Illegal, Conflict, NoMemory}
 use Rattle.flow_law.specs.Facts.{Fact, illegal, conflict, first_refusal, refusal_by}
 use Rattle.flow_law.specs.FactOrder.{fact_cmp, fact_total}
 use Rattle.flow_law.specs.FactTables.{tables}
 use Rattle.flow_law.specs.Labelled.{BearLabel}
-use Rattle.flow_law.proofs.SameFacts.{in_order, tables_same, conflict_same}
+use Rattle.flow_law.specs.Stops.{IsStop}
+use Rattle.flow_law.proofs.SameFacts.{fact_same, in_order, tables_same, conflict_same}
+use Rattle.fact_tables.specs.Conflicts.{IsConflict}
 
-pub strict : (fs sorted : List Fact) → sorted ≡ ascending fact_cmp fs → IsStrictlySortedBy fact_cmp sorted
-strict fs sorted e = rw e (strict_ascending fact_total fs)
+-- sorted facts without repetitions are the facts once each
+pub left_once : (sorted once : List Fact) → IsSorted fact_cmp sorted → IsFiltered (DiffersFromLast (eq_by_cmp fact_cmp)) [] sorted once → once ≡ ascending fact_cmp sorted
+left_once sorted once s h = sorted_once fact_cmp fact_total fact_same (eq_by_cmp fact_cmp) (λ x y. refl) sorted sorted once (IsPermutation-refl sorted) s h
+
+module _ (sorted once : List Fact) (order : once ≡ ascending fact_cmp sorted) where
+  pub strict : IsStrictlySortedBy fact_cmp once
+  strict = rw order (strict_ascending fact_total sorted)
+
+  pub conflict_once : conflict once ≡ conflict sorted
+  conflict_once = ap conflict order ∙ conflict_same (ascending fact_cmp sorted) sorted (in_order sorted)
 
 bear_in_order : (o : Option Text) (fs : List Fact) → BearLabel o fs → BearLabel o (ascending fact_cmp fs)
 bear_in_order None fs h = tt
@@ -26,24 +44,43 @@ module _ (shape : Shape) (fs : List Fact) where
   unfolding refusal_by
   label_refused label e = rw (← e) refl
 
-  module _ (sorted : List Fact) (order : sorted ≡ ascending fact_cmp fs) where
-    pub bear : BearLabel shape.label fs → BearLabel shape.label sorted
-    bear h = rw order (bear_in_order shape.label fs h)
-
-    conflict_is : conflict sorted ≡ conflict fs
-    conflict_is = ap conflict order ∙ conflict_same (ascending fact_cmp fs) fs (in_order fs)
-
-    pub tables_are : tables shape sorted ≡ tables shape fs
-    tables_are = ap (tables shape) order ∙ tables_same (ascending fact_cmp fs) fs (in_order fs) shape
+  module _ (sorted : List Fact) (same : IsPermutation fs sorted) where
+    same_facts : SameElements sorted fs
+    same_facts = record { same = λ p. sym (list_any-IsPermutation p fs sorted same) }
 
     -- where every label is legal
-    module _ (legal : None ≡ illegal shape fs) where
-      refused_for : (o : Option Clash) → o ≡ conflict sorted → refusal_by Illegal Conflict shape fs ≡ first_refusal Illegal Conflict None o
+    module _ (legal : illegal shape fs ≡ None) where
+      refusal_is : refusal_by Illegal Conflict shape fs ≡ option_map Conflict (conflict sorted)
       unfolding refusal_by
-      refused_for o e = rw (← legal) (ap (first_refusal Illegal Conflict None) (sym (e ∙ conflict_is)))
+      refusal_is = rw legal (only_conflict (conflict fs)) ∙ ap (option_map Conflict) (sym (conflict_same sorted fs same_facts))
+        where
+          only_conflict : (o : Option Clash) → first_refusal Illegal Conflict None o ≡ option_map Conflict o
+          only_conflict (Some clash) = refl
+          only_conflict None = refl
 
-      pub conflict_refused : (clash : Clash) → Some clash ≡ conflict sorted → refusal_by Illegal Conflict shape fs ≡ Some (Conflict clash)
-      conflict_refused clash e = refused_for (Some clash) e
+      pub conflict_refused : (s : Stop) → IsConflict sorted s → IsStop shape fs s
+      conflict_refused NoMemory h = tt
+      conflict_refused (Illegal label) h = refusal_is ∙ h
+      conflict_refused (Conflict clash) h = refusal_is ∙ h
 
-      pub not_refused : None ≡ conflict sorted → refusal_by Illegal Conflict shape fs ≡ None
-      not_refused e = refused_for None e
+      pub not_refused : conflict sorted ≡ None → refusal_by Illegal Conflict shape fs ≡ None
+      not_refused h = refusal_is ∙ ap (option_map Conflict) h
+
+    -- and once each
+    module _ (once : List Fact) (order : once ≡ ascending fact_cmp sorted) where
+      order_is : once ≡ ascending fact_cmp fs
+      order_is = order ∙ ascending_of_same fact_total fact_same sorted fs same_facts
+
+      pub bear : BearLabel shape.label fs → BearLabel shape.label once
+      bear h = rw order_is (bear_in_order shape.label fs h)
+
+      pub tables_are : tables shape once ≡ tables shape fs
+      tables_are = ap (tables shape) order_is ∙ tables_same (ascending fact_cmp fs) fs (in_order fs) shape
+
+-- facts without the last one
+pub strict_left : (all left : List Fact) (last : Fact) → all ≡ left ++ last ∷ [] → IsStrictlySortedBy fact_cmp all → IsStrictlySortedBy fact_cmp left
+strict_left all left last is h = strict_front fact_cmp left (last ∷ []) (subst (IsStrictlySortedBy fact_cmp) is h)
+
+pub bear_left : (label : Option Text) (all left : List Fact) (last : Fact) → all ≡ left ++ last ∷ [] → BearLabel label all → BearLabel label left
+bear_left None all left last is h = tt
+bear_left (Some label) all left last is h = all_front (λ (f : Fact). f.label ≡ label) left (last ∷ []) (subst (AllByRecursion (λ (f : Fact). f.label ≡ label)) is h)

@@ -43,8 +43,19 @@ impl<'a, C: FactCell> Fact<'a, C> {
         Fact { label, key, cell }
     }
 
+    /// The same fact.
+    pub(crate) fn again(&self) -> Fact<'a, C>
+        ensures { result ≡ self.now }
+    {
+        Fact {
+            label: self.label.again(),
+            key: self.key.again(),
+            cell: self.cell.again(),
+        }
+    }
+
     /// Its table label.
-    pub(crate) fn label(&self) -> &Label<'a>
+    pub fn label(&self) -> &Label<'a>
         ensures { result.now ≡ self.now.label }
     {
         &self.label
@@ -96,10 +107,20 @@ impl<'a, C: FactCell> Fact<'a, C> {
     }
 
     /// A copy of its key.
-    pub(crate) fn copy_key(&self, alloc: Global) -> Result<Row, NoMemory>
+    pub fn copy_key(&self, alloc: Global) -> Result<Row, NoMemory>
         ensures { IfOk result (λ key. key ≡ self.now.key) }
     {
         self.key.copy(alloc)
+    }
+
+    /// A copy of its column label and its value.
+    pub fn copy_cell(&self) -> Result<Option<(Text, Text)>, NoMemory>
+        ensures { IfOk result (λ cell. cell ≡ self.now.cell) }
+    {
+        match self.cell() {
+            None => Ok(None),
+            Some((column, value)) => Ok(Some((column.text().copy()?, value.copy()?))),
+        }
     }
 
     /// Compares from now on by what stands behind this beginning of the first value of its key, if that begins so.

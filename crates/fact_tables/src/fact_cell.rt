@@ -24,6 +24,10 @@ pub trait FactCell: Drop {
     /// How it stands to another: by column, and then by value.
     fn order(&self, other: &Self) -> Ordering
         ensures { result ≡ cell_cmp (cell self.now) (cell other.now) };
+
+    /// The same cell.
+    fn again(&self) -> Self
+        ensures { cell result ≡ cell self.now };
 }
 
 /// The cell of a fact of a view without a variable column. It takes no room.
@@ -43,6 +47,10 @@ impl FactCell for NoCell {
 
     fn order(&self, _other: &NoCell) -> Ordering {
         Ordering::Equal
+    }
+
+    fn again(&self) -> NoCell {
+        NoCell
     }
 }
 
@@ -85,6 +93,13 @@ impl FactCell for OneCell<'_> {
         match self.column.cmp(&other.column) {
             Ordering::Equal => self.value.cmp(other.value),
             differs => differs,
+        }
+    }
+
+    fn again(&self) -> Self {
+        OneCell {
+            column: self.column.again(),
+            value: self.value,
         }
     }
 }

@@ -61,6 +61,18 @@ impl<'a> Key<'a> {
         }
     }
 
+    /// The same key.
+    pub(crate) fn again(&self) -> Key<'a>
+        ensures { result ≡ self.now }
+    {
+        Key {
+            beginning: self.beginning,
+            front: self.front,
+            next: self.next,
+            values: self.values.again(),
+        }
+    }
+
     /// Compares from now on by what stands behind this beginning, if its first value begins so.
     pub(crate) fn stand_behind(&mut self, beginning: &'a Text)
         ensures { self.new ≡ self.old }

@@ -1,9 +1,11 @@
 //! Facts that are borrowed, put in order and made into tables.
 //!
 //! Its contract: `order_facts` gives facts in order, from which the tables or the rows of the tables are read, or the
-//! illegal label or the conflict for which a view is refused with them. It knows nothing of where facts come from.
+//! illegal label or the conflict for which a view is refused with them; `order_all_facts` gives those that come again too.
+//! It knows nothing of where facts come from.
 #![tactic(auto)]
 
+mod all_facts;
 mod beginning;
 mod fact;
 mod fact_cell;
@@ -18,6 +20,7 @@ mod tables;
 mod three;
 mod values;
 
+pub use all_facts::{AllFacts, order_all_facts};
 pub use beginning::share_beginning;
 pub use fact::Fact;
 pub use fact_cell::{FactCell, NoCell, OneCell};

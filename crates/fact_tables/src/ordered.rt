@@ -1,13 +1,15 @@
 //! Facts in order, for which a view is not refused.
 ghost use Rattle.std.specs.Prelude.{◌≡◌, None, IfOk, IfErr, OnOk};
+ghost use Rattle.std.specs.List.Sorted.{IsPermutation, IsSorted};
 ghost use Rattle.ss_text.specs.Ascending.{ascending};
-ghost use Rattle.flow_law.specs.Facts.{refusal_by};
+ghost use Rattle.flow_law.specs.Facts.{refusal_by, illegal, conflict};
 ghost use Rattle.flow_law.specs.FactOrder.{fact_cmp};
 ghost use Rattle.flow_law.specs.FactTables.{tables};
 ghost use Rattle.flow_law.specs.InOrder.{AreTables};
 ghost use Rattle.flow_law.specs.Labelled.{BearLabel};
 ghost use Rattle.flow_law.specs.Stops.{IsStop};
 ghost use Rattle.flow_law.specs.declared.refused.Stop.TheVariants as stop;
+ghost use Rattle.fact_tables.specs.Conflicts.{IsConflict};
 
 use crate::fact::Fact;
 use crate::fact_cell::FactCell;
@@ -70,33 +72,41 @@ pub fn order_facts<'a, C: FactCell>(
     ensures allowed { OnOk result (refusal_by stop.Illegal stop.Conflict shape.now facts.entry.items ≡ None) }
     ensures refused { IfErr result (IsStop shape.now facts.entry.items) }
 {
-    put_in_order(alloc, shape, &mut facts)?;
+    sort_legal(shape, &mut facts)?;
+    leave_once(alloc, &mut facts)?;
     Ok(OrderedFacts { shape, facts })
 }
 
-// Leaves each fact once, in order. It is done in place, since a copy of all facts would take more memory than all else.
-fn make_ascending<'a, C: FactCell>(facts: &mut Vec<Fact<'a, C>>)
-    ensures { facts.new.items ≡ ascending fact_cmp facts.old.items }
-{
-    facts.sort_unstable();
-    facts.dedup();
-}
-
-// Puts facts in order, unless the view is refused for them.
-fn put_in_order<'a, C: FactCell>(
-    alloc: Global,
+/// Sorts facts, unless a label is not legal.
+pub(crate) fn sort_legal<'a, C: FactCell>(
     shape: &Shape,
     facts: &mut Vec<Fact<'a, C>>,
 ) -> Result<(), Stop>
     requires { BearLabel shape.now.label facts.old.items }
-    ensures order { OnOk result (facts.new.items ≡ ascending fact_cmp facts.old.items) }
-    ensures allowed { OnOk result (refusal_by stop.Illegal stop.Conflict shape.now facts.old.items ≡ None) }
+    ensures same { OnOk result (IsPermutation facts.old.items facts.new.items) }
+    ensures sorted { OnOk result (IsSorted fact_cmp facts.new.items) }
+    ensures legal { OnOk result (illegal shape.now facts.old.items ≡ None) }
     ensures refused { IfErr result (IsStop shape.now facts.old.items) }
 {
     if let Some(label) = illegal(shape, facts)? {
         return Err(Stop::Illegal(label));
     }
-    make_ascending(facts);
+    facts.sort_unstable();
+    Ok(())
+}
+
+/// Leaves each of sorted facts once, unless two of them conflict. It is done in place, since a copy of all facts would take
+/// more memory than all else.
+pub(crate) fn leave_once<'a, C: FactCell>(
+    alloc: Global,
+    facts: &mut Vec<Fact<'a, C>>,
+) -> Result<(), Stop>
+    requires { IsSorted fact_cmp facts.old.items }
+    ensures order { OnOk result (facts.new.items ≡ ascending fact_cmp facts.old.items) }
+    ensures clean { OnOk result (conflict facts.old.items ≡ None) }
+    ensures refused { IfErr result (IsConflict facts.old.items) }
+{
+    facts.dedup();
     if let Some(clash) = conflict(alloc, facts)? {
         return Err(Stop::Conflict(clash));
     }

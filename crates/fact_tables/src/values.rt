@@ -73,6 +73,19 @@ impl<'a> Values<'a> {
         }
     }
 
+    /// The same values.
+    pub(crate) fn again(&self) -> Values<'a>
+        ensures { result ≡ self.now }
+    {
+        let held = match &self.held {
+            Held::One(value) => Held::One(*value),
+            Held::Two(first, second) => Held::Two(*first, *second),
+            Held::Three(values, front) => Held::Three(*values, *front),
+            Held::Many(labels) => Held::Many(*labels),
+        };
+        Values { held }
+    }
+
     /// How many there are.
     pub(crate) fn count(&self) -> usize
         ensures { result ≡ length self.now }
