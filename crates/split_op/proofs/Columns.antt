@@ -5,8 +5,8 @@ use Rattle.std.specs.Prelude.{is_some}
 use Rattle.ss_text.specs.Texts.{Text, Row}
 use Rattle.flow_law.specs.declared.shape.Shape.{Shape}
 use Rattle.flow_law.specs.declared.refused.Stop.{Stop}
-use Rattle.flow_law.specs.Facts.{illegal_column, conflict}
-use Rattle.flow_law.specs.FactRows.{fact_in, fact_width, row_width, cell_behind}
+use Rattle.flow_law.specs.Facts.{Fact, illegal_column, conflict}
+use Rattle.flow_law.specs.FactRows.{fact_in, fact_width, row_width, cell_behind, IsFactOf}
 use Rattle.flow_law.specs.Labelled.{AllBear}
 use Rattle.operator_law.specs.declared.delta.Signed.{Signed}
 use Rattle.fact_counts.specs.Stopped.{StopsFor}
@@ -43,6 +43,9 @@ module _ (a b : Shape) (s : SameColumns a b) where
 
   pub same_width : fact_width b ≡ fact_width a
   same_width = ap (λ (constants : Row). row_width (length constants) b.spot) s.constants ∙ same_row_width (length a.constants) a.spot b.spot s.variable
+
+  pub same_form : (f : Fact) → IsFactOf a f → IsFactOf b f
+  same_form f h = record { key = h.key ∙ ap length (sym s.constants); cell = h.cell ∙ sym s.variable }
 
   pub same_illegal : (rows : List Row) → illegal_column b.constants (facts_in b rows) ≡ illegal_column a.constants (facts_in a rows)
   same_illegal rows = λ i. illegal_column (s.constants i) (same_facts rows i)

@@ -11,4 +11,4 @@ mod Judging
 mod FirstFound
 mod SplitMoves
 pub mod SplitKeeps
-mod Filling
+mod Adding

@@ -7,5 +7,5 @@ pub mod PartLines
 pub mod Stages
 pub mod Judged
 pub mod Splits
-pub mod Filled
+pub mod Added
 pub mod SplitFields

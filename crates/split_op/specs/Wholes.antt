@@ -1,10 +1,11 @@
 -- What an operator for the one table of a constant label keeps.
-use Rattle.std.specs.Prelude.{◌≡◌, ◌<◌, ◌^◌, true, List, Some, length}
+use Rattle.std.specs.Prelude.{◌≡◌, ◌<◌, ◌^◌, true, List, ◌∷◌, Some, length}
 use Rattle.std.specs.List.{All}
 use Rattle.ss_text.specs.Texts.{Text, Row}
 use Rattle.ss_text.specs.Label.{is_table_label}
 use Rattle.flow_law.specs.declared.shape.Shape.{Shape}
-use Rattle.flow_law.specs.FactRows.{fact_width}
+use Rattle.flow_law.specs.Facts.{Fact}
+use Rattle.flow_law.specs.FactRows.{fact_row, fact_width, IsFactOf}
 use Rattle.flow_law.specs.Labelled.{AllBear}
 use Rattle.operator_law.specs.declared.delta.Signed.{Signed}
 use Rattle.operator_law.specs.Bags.{MovesBag}
@@ -25,6 +26,12 @@ pub record KeepsWhole (label : Text) (t : OneTableValue) (rows : List Row) : Typ
 pub record CanKeepWhole (label : Text) (form : Shape) (rows : List Row) : Type 0 where
   pub can : CanKeep form rows
   pub bear : AllBear label (facts_in form rows)
+
+-- the fact, which bears the label, can be kept beside those in these rows
+pub record CanAddWhole (label : Text) (t : OneTableValue) (fact : Fact) (rows : List Row) : Type 0 where
+  pub keeps : KeepsWhole label t rows
+  pub form : IsFactOf t.shape fact
+  pub can : CanKeepWhole label t.shape (fact_row fact ∷ rows)
 
 -- the rows that move are those of facts that bear the label
 pub record BearsLabel (label : Text) (form : Shape) (ms : List Signed) : Type 0 where

@@ -5,8 +5,8 @@
 //! after, and refuse exactly what the definitions refuse. Neither knows how a table keeps its facts.
 #![tactic(auto)]
 
+mod add;
 mod count;
-mod fill;
 mod groups;
 mod judged;
 mod lines;

@@ -1,10 +1,13 @@
 //! The tables of all labels, where the label is a variable.
-ghost use Rattle.std.specs.Prelude.{◌≡◌, [], None, All, length, OnOk};
-ghost use Rattle.flow_law.specs.FactRows.{fact_width};
+ghost use Rattle.std.specs.Prelude.{◌≡◌, [], ◌∷◌, List, None, OnOk};
+ghost use Rattle.ss_text.specs.Texts.{Row as RowValue};
+ghost use Rattle.flow_law.specs.Facts.{Fact};
+ghost use Rattle.flow_law.specs.FactRows.{fact_row};
 ghost use Rattle.split_op.specs.Parts.{SameColumns};
-ghost use Rattle.split_op.specs.Splits.{KeepsSplit, CanKeepSplit};
+ghost use Rattle.split_op.specs.Splits.{KeepsSplit};
+ghost use Rattle.split_op.specs.Added.{CanAddSplit};
 
-use crate::fill::add_rows;
+use crate::add::add_fact;
 use crate::moved::{moved_lines, moved_stages};
 use crate::stages::{Stage, commit_stages};
 use flow_law::{Shape, Stop, TableLine};
@@ -80,19 +83,23 @@ impl<I: TableOperator> Split<I> {
         }
     }
 
-    /// Keeps the facts in these rows, where it keeps none. They can be kept. No change waits then. After `NoMemory` it keeps no
-    /// facts that are known.
-    pub fn fill(&mut self, alloc: Global, facts: Vec<Row>) -> Result<(), NoMemory>
-        requires none { KeepsSplit I.table self.old [] }
-        requires wide { All (λ row. length row ≡ fact_width self.old.shape) facts.items }
-        requires can { CanKeepSplit self.old.shape facts.items }
-        ensures keeps { OnOk result (KeepsSplit I.table self.new facts.items) }
+    /// Keeps a fact beside those that are kept: its label, its key, and its column and value where the tables have a variable
+    /// column. No change waits then. After `NoMemory` it keeps no facts that are known.
+    pub fn add(
+        &mut self,
+        alloc: Global,
+        label: &Text,
+        key: Row,
+        cell: Option<(Text, Text)>,
+    ) -> Result<(), NoMemory>
+        requires { let fact : Fact = record { label = label.now; key = key; cell = cell } in (rows : List RowValue) × CanAddSplit I.table self.old fact rows }
+        ensures keeps { let fact : Fact = record { label = label.now; key = key; cell = cell } in OnOk result ((rows : List RowValue) → CanAddSplit I.table self.old fact rows → KeepsSplit I.table self.new (fact_row fact ∷ rows)) }
         ensures shape { self.new.shape ≡ self.old.shape }
         ensures pattern { self.new.pattern ≡ self.old.pattern }
         ensures waits { self.new.waiting ≡ None }
     {
         self.waiting = None;
-        add_rows(alloc, &self.pattern, &mut self.parts, facts)?;
+        add_fact(alloc, &self.pattern, &mut self.parts, label, key, cell)?;
         Ok(())
     }
 }

@@ -1,14 +1,15 @@
 //! The one table of a constant label.
-ghost use Rattle.std.specs.Prelude.{◌≡◌, [], List, All, length, true, IfOk, IfErr, OnOk};
+ghost use Rattle.std.specs.Prelude.{◌≡◌, ◌∷◌, List, true, IfOk, IfErr, OnOk};
 ghost use Rattle.ss_text.specs.Texts.{Row as RowValue};
 ghost use Rattle.ss_text.specs.Label.{is_table_label};
-ghost use Rattle.flow_law.specs.FactRows.{fact_width};
+ghost use Rattle.flow_law.specs.Facts.{Fact};
+ghost use Rattle.flow_law.specs.FactRows.{fact_row};
 ghost use Rattle.flow_law.specs.Labelled.{AllBear};
 ghost use Rattle.flow_law.specs.declared.line.TableLine.{TableLine as Line};
 ghost use Rattle.unfold_op.specs.FactMoves.{facts_in};
 ghost use Rattle.unfold_op.specs.OneTables.{KeepsFacts, framed};
 ghost use Rattle.ss_text.specs.Texts.{Text as TextValue};
-ghost use Rattle.split_op.specs.Wholes.{KeepsWhole, CanKeepWhole};
+ghost use Rattle.split_op.specs.Wholes.{KeepsWhole, CanAddWhole};
 
 use crate::count::count_moved;
 use flow_law::{Stop, TableLine};
@@ -55,20 +56,15 @@ impl<I: TableOperator> Whole<I> {
         Whole { label, inner }
     }
 
-    /// Keeps the facts in these rows, where it keeps none. They bear the label and can be kept. After `NoMemory` it keeps no facts
-    /// that are known.
-    pub fn fill(&mut self, alloc: Global, facts: Vec<Row>) -> Result<(), NoMemory>
-        requires none { KeepsWhole self.old.label (I.table self.old.inner) [] }
-        requires wide { All (λ row. length row ≡ fact_width (I.table self.old.inner).shape) facts.items }
-        requires can { CanKeepWhole self.old.label (I.table self.old.inner).shape facts.items }
-        ensures keeps { OnOk result (KeepsWhole self.new.label (I.table self.new.inner) facts.items) }
+    /// Keeps a fact of the table beside those that are kept: its key, and its column and value where the table has a variable
+    /// column. After `NoMemory` it keeps no facts that are known.
+    pub fn add(&mut self, key: Row, cell: Option<(Text, Text)>) -> Result<(), NoMemory>
+        requires { let fact : Fact = record { label = self.old.label; key = key; cell = cell } in (rows : List RowValue) × CanAddWhole self.old.label (I.table self.old.inner) fact rows }
+        ensures keeps { let fact : Fact = record { label = self.old.label; key = key; cell = cell } in OnOk result ((rows : List RowValue) → CanAddWhole self.old.label (I.table self.old.inner) fact rows → KeepsWhole self.new.label (I.table self.new.inner) (fact_row fact ∷ rows)) }
         ensures label { self.new.label ≡ self.old.label }
         ensures shape { (I.table self.new.inner).shape ≡ (I.table self.old.inner).shape }
     {
-        let mut left = facts;
-        while let Some(row) = left.pop() {
-            self.inner.add(alloc, &row)?;
-        }
+        self.inner.add(&self.label, key, cell)?;
         Ok(())
     }
 }

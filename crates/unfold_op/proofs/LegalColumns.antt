@@ -1,16 +1,16 @@
--- Where no column is illegal each one that a fact names is legal.
-use Rattle.std.proofs.Common.{◌≡◌, ◌∷◌, [], List, Option, Some, None, Bool, true, false, cond, refl, ap, filter, not}
+-- Where no label is illegal each column that a fact names is legal, and so are the labels of fewer facts.
+use Rattle.std.proofs.Common.{◌≡◌, ◌∷◌, [], List, Option, Some, None, Bool, true, false, cond, refl, ap, filter, map, not}
 use Rattle.std.specs.Prelude.{◌||◌, option_map}
 use Rattle.std.specs.List.{cons_option}
 use Rattle.std.specs.Option.{option_map_or}
 use Rattle.std.specs.declared.cmp.Ordering.{Ordering}
 use Rattle.std.specs.declared.cmp.Ordering.TheVariants.{Less, Equal, Greater}
-use Rattle.ss_text.specs.Texts.{Text, Row, text_eq}
-use Rattle.ss_text.specs.Label.{is_column_label}
+use Rattle.ss_text.specs.Texts.{Text, Row, text_eq, text_cmp}
+use Rattle.ss_text.specs.Label.{is_table_label, is_column_label}
 use Rattle.ss_text.specs.Ascending.{least, lesser, by_order}
 use Rattle.ss_text.proofs.KeyLemmas.{text_order, equal_is}
 use Rattle.flow_law.specs.declared.refused.IllegalLabel.{IllegalLabel}
-use Rattle.flow_law.specs.Facts.{Fact, Pair, pair_cmp, pairs_of, illegal_column}
+use Rattle.flow_law.specs.Facts.{Fact, Pair, pair_cmp, pairs_of, illegal_table, illegal_column}
 use Rattle.fact_counts.specs.Touched.{has_column}
 
 no_lesser : {A : Type 0} (R : A → A → Ordering) (x : A) (o : Option A) → lesser R x o ≡ None → ⊥
@@ -73,3 +73,16 @@ module _ (constants : Row) where
   legal_behind f fs none =
       let as_label : Pair → IllegalLabel = λ p. record { table = p.0; column = Some p.1 } in
       ap (λ (ps : List Pair). option_map as_label (least pair_cmp ps)) (bad_behind f fs (none_least pair_cmp _ (none_mapped _ _ none)))
+
+-- nor an illegal table
+pub tables_behind : (f : Fact) (fs : List Fact) → illegal_table (f ∷ fs) ≡ None → illegal_table fs ≡ None
+tables_behind f fs none =
+    let as_label : Text → IllegalLabel = λ t. record { table = t; column = None } in
+    ap (λ (ts : List Text). option_map as_label (least text_cmp ts)) (by_test (is_table_label f.label) (none_least text_cmp _ (none_mapped _ _ none)))
+  where
+    bad_tables : List Text
+    bad_tables = filter (λ (t : Text). not (is_table_label t)) (map (λ (g : Fact). g.label) fs)
+
+    by_test : (b : Bool) → cond (not b) (f.label ∷ bad_tables) bad_tables ≡ [] → bad_tables ≡ []
+    by_test true e = e
+    by_test false e = absurd (cc)

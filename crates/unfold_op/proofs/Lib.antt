@@ -1,7 +1,7 @@
 mod RowMoves
 pub mod BagMoves
 pub mod LabelsBorne
-mod LegalColumns
+pub mod LegalColumns
 mod Changes
 pub mod TableLaw
 mod Answered

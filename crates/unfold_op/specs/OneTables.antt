@@ -7,7 +7,7 @@ use Rattle.flow_law.specs.declared.line.TableLine.{TableLine}
 use Rattle.flow_law.specs.declared.line.TableLine.TheVariants.{TableMinus, TablePlus}
 use Rattle.flow_law.specs.declared.refused.Stop.{Stop}
 use Rattle.flow_law.specs.Facts.{Fact, illegal_column, conflict}
-use Rattle.flow_law.specs.FactRows.{fact_in, fact_width}
+use Rattle.flow_law.specs.FactRows.{fact_row, fact_in, fact_width, IsFactOf}
 use Rattle.flow_law.specs.FactTables.{fact_table, tables}
 use Rattle.flow_law.specs.Labelled.{AllBear}
 use Rattle.flow_law.specs.Lines.{fit_lines, after_lines}
@@ -45,12 +45,12 @@ pub record CanKeep (shape : Shape) (rows : List Row) : Type 0 where
   pub legal : illegal_column shape.constants (facts_in shape rows) ≡ None
   pub clean : conflict (facts_in shape rows) ≡ None
 
--- the fact in a row can be kept beside those in rows that are: they bear one label
-pub record CanAdd (t : OneTableValue) (row : Row) (rows : List Row) : Type 0 where
+-- the fact can be kept beside those in rows that are: they bear one label
+pub record CanAdd (t : OneTableValue) (fact : Fact) (rows : List Row) : Type 0 where
   pub keeps : KeepsFacts t rows
-  pub wide : length row ≡ fact_width t.shape
-  pub bear : AllBear (fact_in t.shape row).label (facts_in t.shape (row ∷ rows))
-  pub can : CanKeep t.shape (row ∷ rows)
+  pub form : IsFactOf t.shape fact
+  pub bear : AllBear fact.label (facts_in t.shape (fact_row fact ∷ rows))
+  pub can : CanKeep t.shape (fact_row fact ∷ rows)
 
 -- the rows that move are those of facts, and bear one label: that of the kept facts, where there are some
 pub record BearsOne (shape : Shape) (kept : Text) (total : ℕ) (ms : List Signed) : Type 0 where

@@ -1,13 +1,15 @@
 //! The facts of one table, as an operator: with a variable column or without.
 ghost use Rattle.std.specs.Prelude.{◌≡◌, [], ◌∷◌, List, None, Some, IfOk, IfErr, OnOk, MatchResult};
 ghost use Rattle.ss_text.specs.Texts.{Row as RowValue};
+ghost use Rattle.flow_law.specs.Facts.{Fact};
+ghost use Rattle.flow_law.specs.FactRows.{fact_row};
 ghost use Rattle.unfold_op.specs.OneTables.{KeepsFacts, CanAdd, CanKeep, BearsOne, CanPrepare, Gives, MayStop, Makes};
 
 use crate::form::{FactForm, KeyAlone, KeyAndCell};
 use crate::one_table::{OneTable, TableReady};
 use flow_law::{Stop, TableLine};
 use operator_law::{Delta, Fresh, Kept, Operator};
-use ss_text::{NoMemory, Row, Steps};
+use ss_text::{NoMemory, Row, Steps, Text};
 use std::alloc::Global;
 use std::marker::{Model, PhantomData};
 use std::sync::ledger::Ledger;
@@ -55,14 +57,20 @@ impl<F: FactForm> KeptFacts<F> {
         }
     }
 
-    /// Keeps the fact in a row beside those that are kept. No change waits then. After `NoMemory` it keeps no facts that are known.
-    pub fn add(&mut self, alloc: Global, row: &Row) -> Result<(), NoMemory>
-        requires { (rows : List RowValue) × CanAdd self.old row.now rows }
-        ensures keeps { OnOk result ((rows : List RowValue) → CanAdd self.old row.now rows → KeepsFacts self.new (row.now ∷ rows)) }
+    /// Keeps a fact beside those that are kept: its label, its key, and its column and value where the table has a variable
+    /// column. No change waits then. After `NoMemory` it keeps no facts that are known.
+    pub fn add(
+        &mut self,
+        label: &Text,
+        key: Row,
+        cell: Option<(Text, Text)>,
+    ) -> Result<(), NoMemory>
+        requires { let fact : Fact = record { label = label.now; key = key; cell = cell } in (rows : List RowValue) × CanAdd self.old fact rows }
+        ensures keeps { let fact : Fact = record { label = label.now; key = key; cell = cell } in OnOk result ((rows : List RowValue) → CanAdd self.old fact rows → KeepsFacts self.new (fact_row fact ∷ rows)) }
         ensures shape { self.new.shape ≡ self.old.shape }
         ensures none { self.new.waiting ≡ None }
     {
-        self.table.add(alloc, row)?;
+        self.table.add(label, key, cell)?;
         Ok(())
     }
 

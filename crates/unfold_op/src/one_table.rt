@@ -1,9 +1,9 @@
 //! The facts of one table, kept as counts and moved in two steps.
 ghost use Rattle.std.specs.Prelude.{◌≡◌, ◌<◌, [], ◌∷◌, List, All, length, slice_index_or, None, Some, IfOk, IfErr, OnOk, OnErr, if◌then◌else◌, nat_lt};
 ghost use Rattle.ss_text.specs.Texts.{Row as RowValue};
-ghost use Rattle.flow_law.specs.FactRows.{fact_width};
+ghost use Rattle.flow_law.specs.FactRows.{fact_row, fact_width};
 ghost use Rattle.flow_law.specs.FactTables.{fact_table};
-ghost use Rattle.flow_law.specs.Facts.{illegal_column, conflict};
+ghost use Rattle.flow_law.specs.Facts.{Fact, illegal_column, conflict};
 ghost use Rattle.flow_law.specs.Script.{lines_between};
 ghost use Rattle.fact_counts.specs.Stopped.{StopsFor};
 ghost use Rattle.operator_law.specs.Bags.{MovesBag};
@@ -14,7 +14,6 @@ ghost use Rattle.unfold_op.specs.OneTables.{KeepsFacts, CanAdd, CanKeep, BearsOn
 
 use crate::delta::nets_of;
 use crate::frame::{framed, total_after};
-use crate::parts::{cell_in, key_in};
 use fact_counts::{FactCounts, NewCounts, commit, prepare, reserve};
 use flow_law::{Shape, Stop, TableLine};
 use operator_law::{Delta, Signed};
@@ -79,13 +78,12 @@ fn label_for<'a>(shape: &Shape, kept: &'a Text, moves: &'a [Signed]) -> &'a Text
     }
 }
 
-// The label of the kept facts, which is that of the row where there are none.
-fn take_label(kept: &mut Text, total: u128, row: &Row) -> Result<(), NoMemory>
-    requires { 0 < length row.now }
-    ensures { OnOk result (kept.new ≡ (if nat_lt 0 total then kept.old else slice_index_or row.now 0 [])) }
+// The label of the kept facts, which is this one where there are none.
+fn take_label(kept: &mut Text, total: u128, label: &Text) -> Result<(), NoMemory>
+    ensures { OnOk result (kept.new ≡ (if nat_lt 0 total then kept.old else label.now)) }
 {
     if total == 0 {
-        *kept = row.cells()[0].copy()?;
+        *kept = label.copy()?;
     }
     Ok(())
 }
@@ -123,19 +121,23 @@ impl OneTable {
         Ok(OneTable::new(alloc, constants, self.shape.spot))
     }
 
-    /// Keeps the fact in a row beside those that are kept. No change waits then. After `NoMemory` it keeps no facts that are known.
-    pub(crate) fn add(&mut self, alloc: Global, row: &Row) -> Result<(), NoMemory>
+    /// Keeps a fact beside those that are kept: its label, its key, and its column and value where the table has a variable
+    /// column. No change waits then. After `NoMemory` it keeps no facts that are known.
+    pub(crate) fn add(
+        &mut self,
+        label: &Text,
+        key: Row,
+        cell: Option<(Text, Text)>,
+    ) -> Result<(), NoMemory>
         requires whole { IsOneTable self.old }
-        requires fits { (rows : List RowValue) × CanAdd (seen self.old) row.now rows }
-        ensures keeps { OnOk result ((rows : List RowValue) → CanAdd (seen self.old) row.now rows → KeepsFacts (seen self.new) (row.now ∷ rows)) }
+        requires fits { let fact : Fact = record { label = label.now; key = key; cell = cell } in (rows : List RowValue) × CanAdd (seen self.old) fact rows }
+        ensures keeps { let fact : Fact = record { label = label.now; key = key; cell = cell } in OnOk result ((rows : List RowValue) → CanAdd (seen self.old) fact rows → KeepsFacts (seen self.new) (fact_row fact ∷ rows)) }
         ensures shape { self.new.shape ≡ self.old.shape }
         ensures whole { IsOneTable self.new }
         ensures none { self.new.waiting ≡ None }
     {
         self.waiting = None;
-        let key = key_in(alloc, &self.shape, row)?;
-        let cell = cell_in(&self.shape, row)?;
-        take_label(&mut self.label, self.total, row)?;
+        take_label(&mut self.label, self.total, label)?;
         self.counts.count(key, cell)?;
         self.total += 1;
         Ok(())

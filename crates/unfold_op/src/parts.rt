@@ -1,4 +1,4 @@
-//! The parts of a fact in its row.
+//! The key of a fact in its row.
 ghost use Rattle.std.specs.Prelude.{◌≡◌, length, IfOk};
 ghost use Rattle.flow_law.specs.FactRows.{fact_width, fact_in};
 
@@ -24,21 +24,4 @@ pub(crate) fn key_in(alloc: Global, shape: &Shape, row: &Row) -> Result<Row, NoM
     let cells = row.cells();
     let key = copies(alloc, &cells[1..shape.constants.cells().len() + 1])?;
     Ok(key)
-}
-
-/// The column and the value of the fact in a row, where there is a variable column.
-pub(crate) fn cell_in(shape: &Shape, row: &Row) -> Result<Option<(Text, Text)>, NoMemory>
-    requires { length row.now ≡ fact_width shape.now }
-    ensures { IfOk result (λ cell. cell ≡ (fact_in shape.now row.now).cell) }
-{
-    match shape.spot {
-        None => Ok(None),
-        Some(_) => {
-            let cells = row.cells();
-            let count = shape.constants.cells().len();
-            let column = cells[count + 1].copy()?;
-            let value = cells[count + 2].copy()?;
-            Ok(Some((column, value)))
-        }
-    }
 }

@@ -3,6 +3,8 @@ ghost use Rattle.std.specs.Prelude.{◌≡◌, ◌∷◌, List, OnOk};
 ghost use Rattle.std.specs.Vec.{vec_items};
 ghost use Rattle.ss_text.specs.Texts.{Row as RowValue};
 ghost use Rattle.flow_law.specs.declared.refused.Stop.{Stop};
+ghost use Rattle.flow_law.specs.Facts.{Fact};
+ghost use Rattle.flow_law.specs.FactRows.{fact_row};
 ghost use Rattle.operator_law.specs.declared.delta.Signed.{Signed as SignedValue};
 ghost use Rattle.unfold_op.specs.OneTables.{OneTableValue, KeepsFacts, CanAdd, CanKeep, BearsOne, CanPrepare, Gives, MayStop};
 
@@ -10,8 +12,7 @@ use crate::form::FactForm;
 use crate::kept_facts::KeptFacts;
 use flow_law::TableLine;
 use operator_law::{Delta, Fresh, Kept, Operator};
-use ss_text::{NoMemory, Row};
-use std::alloc::Global;
+use ss_text::{NoMemory, Row, Text};
 
 /// An operator that keeps the facts of one table, which is there while it has facts.
 pub trait TableOperator: Fresh
@@ -25,10 +26,11 @@ pub trait TableOperator: Fresh
     fn count(&self) -> u128
         ensures { result ≡ (table self.now).total };
 
-    /// Keeps the fact in a row beside those that are kept. After `NoMemory` it keeps no facts that are known.
-    fn add(&mut self, alloc: Global, row: &Row) -> Result<(), NoMemory>
-        requires { (rows : List RowValue) × CanAdd (table self.old) row.now rows }
-        ensures keeps { OnOk result ((rows : List RowValue) → CanAdd (table self.old) row.now rows → KeepsFacts (table self.new) (row.now ∷ rows)) }
+    /// Keeps a fact beside those that are kept: its label, its key, and its column and value where the table has a variable
+    /// column. After `NoMemory` it keeps no facts that are known.
+    fn add(&mut self, label: &Text, key: Row, cell: Option<(Text, Text)>) -> Result<(), NoMemory>
+        requires { let fact : Fact = record { label = label.now; key = key; cell = cell } in (rows : List RowValue) × CanAdd (table self.old) fact rows }
+        ensures keeps { let fact : Fact = record { label = label.now; key = key; cell = cell } in OnOk result ((rows : List RowValue) → CanAdd (table self.old) fact rows → KeepsFacts (table self.new) (fact_row fact ∷ rows)) }
         ensures shape { (table self.new).shape ≡ (table self.old).shape };
 
     // What it keeps are the facts of rows.
@@ -59,8 +61,8 @@ impl<F: FactForm> TableOperator for KeptFacts<F> {
         KeptFacts::count(self)
     }
 
-    fn add(&mut self, alloc: Global, row: &Row) -> Result<(), NoMemory> {
-        KeptFacts::add(self, alloc, row)
+    fn add(&mut self, label: &Text, key: Row, cell: Option<(Text, Text)>) -> Result<(), NoMemory> {
+        KeptFacts::add(self, label, key, cell)
     }
 
     ghost keeps_facts = { λ s x h. h };
