@@ -1,4 +1,4 @@
-//! A join of rows that are all given at once.
+//! Joins of rows that are all given at once.
 ghost use Rattle.std.specs.Prelude.{◌≡◌, ◌<◌, [], ◌∷◌, ◌++◌, IfOk, OnOk, None, filter, map, length, slice_index_or};
 ghost use Rattle.row_links.specs.Live.{LinkedRows};
 ghost use Rattle.join_delta.specs.Joined.{matches, joined};
@@ -86,9 +86,35 @@ fn joined_rows(
 }
 
 impl Join {
-    /// A join by the same keys that keeps these rows of both sides, which are moved into it, and the rows that it gives:
-    /// those of each first row in turn. No step is counted, and the rows that this join keeps stay.
-    pub fn filled(
+    // A join by the same keys that keeps these rows of the first side, and the rows of the second that are found already.
+    fn filled_beside(&self, alloc: Global, left: Vec<Row>, right: Linked) -> Result<Join, NoMemory>
+        requires { right.keys ≡ self.now.right_key ∷ [] }
+        ensures { IfOk result (λ join. join ≡ record { left_key = self.now.left_key; right_key = self.now.right_key; left = left.items; right = rows_of right.live; waiting = None }) }
+    {
+        let left_key = KeyPlaces::of(alloc, self.left_key.as_slice())?;
+        let right_key = KeyPlaces::of(alloc, self.right_key.as_slice())?;
+        let left = kept_rows(alloc, &left_key, left)?;
+        Ok(Join {
+            left_key,
+            right_key,
+            left,
+            right,
+            waiting: None,
+        })
+    }
+
+    /// A join by the same keys that keeps these rows of both sides, which are moved into it. The rows that this join keeps
+    /// stay.
+    pub fn filled(&self, alloc: Global, left: Vec<Row>, right: Vec<Row>) -> Result<Join, NoMemory>
+        ensures keeps { IfOk result (λ join. join ≡ record { left_key = self.now.left_key; right_key = self.now.right_key; left = left.items; right = right.items; waiting = None }) }
+    {
+        let right = kept_rows(alloc, &self.right_key, right)?;
+        let join = self.filled_beside(alloc, left, right)?;
+        Ok(join)
+    }
+
+    /// The same, and the rows that it gives: those of each first row in turn. No step is counted.
+    pub fn filled_and_joined(
         &self,
         alloc: Global,
         left: Vec<Row>,
@@ -97,18 +123,9 @@ impl Join {
         ensures keeps { IfOk result (λ r. r.0 ≡ record { left_key = self.now.left_key; right_key = self.now.right_key; left = left.items; right = right.items; waiting = None }) }
         ensures gives { let equal = matches self.now.left_key self.now.right_key in IfOk result (λ r. r.1.items ≡ joined equal left.items right.items) }
     {
-        let left_key = KeyPlaces::of(alloc, self.left_key.as_slice())?;
-        let right_key = KeyPlaces::of(alloc, self.right_key.as_slice())?;
-        let right = kept_rows(alloc, &right_key, right)?;
-        let rows = joined_rows(alloc, &right, left_key.as_slice(), &left)?;
-        let left = kept_rows(alloc, &left_key, left)?;
-        let join = Join {
-            left_key,
-            right_key,
-            left,
-            right,
-            waiting: None,
-        };
+        let right = kept_rows(alloc, &self.right_key, right)?;
+        let rows = joined_rows(alloc, &right, self.left_key.as_slice(), &left)?;
+        let join = self.filled_beside(alloc, left, right)?;
         Ok((join, rows))
     }
 }

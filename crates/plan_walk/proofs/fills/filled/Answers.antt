@@ -7,27 +7,21 @@ use Rattle.ss_text.specs.Texts.{Row}
 use Rattle.join_delta.specs.Joins.{JoinValue}
 use Rattle.plan_walk.specs.Stages.{joint_in}
 use Rattle.plan_walk.specs.Fills.{Fills, rows_in}
-use Rattle.plan_walk.proofs.ChainFilled.{fills_more}
+use Rattle.plan_walk.proofs.ChainFilled.{fills_more, comes_more}
 use Rattle.plan_walk.proofs.fills.filled.Goals as goal
-
-pub bounds-joins-len : goal.bounds-joins-len
-bounds-joins-len c =
-    let gives = c.into_iter-right-iterator.ensures.into_iter_gives in
-    let all = YieldsList-from_vec {s = c.into_iter-right-iterator.result} c.args.further.items gives.0 (gives.1 ∙ c.args.further.ok.0) in
-    let turn = YieldsList-turn all c.loop-right.yielded c.loop-right.right-iterator c.loop-right.yielded_by c.next.result c.next.new.self c.in-Some.right c.in-Some.is c.next.ensures.steps in
-    omega (arith, turn.0, c.loop-right.invariant.counted, c.requires, c.len.ensures)
 
 pub loop-right-preserved : goal.loop-right-preserved
 loop-right-preserved c =
     let joins : List JoinValue = c.args.joins.now in
     let olds : List (Vec Row Global) = c.loop-right.yielded in
-    let right : Vec Row Global = c.in-Some.right in
+    let right : Vec Row Global = c.in-Some-right.right in
     let was = c.loop-right.invariant in
     let n = length olds in
     let gives = c.into_iter-right-iterator.ensures.into_iter_gives in
-    let all = YieldsList-from_vec {s = c.into_iter-right-iterator.result} c.args.further.items gives.0 (gives.1 ∙ c.args.further.ok.0) in
-    let turn = YieldsList-turn all olds c.loop-right.right-iterator c.loop-right.yielded_by c.next.result c.next.new.self right c.in-Some.is c.next.ensures.steps in
-    let lt : n < length joins = omega (arith, turn.0, c.requires) in
+    let all = YieldsList-from_vec {s = c.into_iter-right-iterator.result} c.pop.new.self.items gives.0 (gives.1 ∙ c.pop.new.self.ok.0) in
+    let turn = YieldsList-turn all olds c.loop-right.right-iterator c.loop-right.yielded_by c.next.result c.next.new.self right c.in-Some-right.is c.next.ensures.steps in
+    let popped : length c.args.further.items ≡ length c.pop.new.self.items + 1 = ap length c.in-Some.ensures.items ∙ length_push c.pop.new.self.items c.in-Some.last_right in
+    let lt : n < length joins = omega (arith, turn.0, c.requires, popped) in
     let join : JoinValue = c.index-joins-len.result in
     let place : c.len.result ≡ n = omega (arith, c.len.ensures, was.counted) in
     let at : join ≡ get_or joins n join = c.index-joins-len.is ∙ ap (λ (k : ℕ). get_or joins k join) place in
@@ -37,7 +31,8 @@ loop-right-preserved c =
     let next : JoinValue = c.in_ok-next.next in
     let pushed : after ≡ before ++ next ∷ [] = c.in_ok-push.ensures.items in
     record {
-      fills = fills_more joins n join lt at c.args.first.items olds right before after next c.loop-right.rows.items c.in_ok-next.out.items (length (olds ++ right ∷ [])) longer pushed c.in_ok-next.ensures.keeps c.in_ok-next.ensures.gives was.fills;
+      fills = fills_more joins n join lt at c.args.first.items olds right before after next c.loop-right.rows.items (length (olds ++ right ∷ [])) longer pushed c.in_ok-next.ensures.keeps was.fills was.comes;
+      comes = comes_more joins n join lt at c.args.first.items olds right before after next c.loop-right.rows.items (length (olds ++ right ∷ [])) longer pushed c.in_ok-next.ensures.keeps was.fills was.comes c.in_ok-next.out.items c.in_ok-next.ensures.gives;
       counted = omega (arith, ap length pushed, length_push before next, longer, was.counted);
     }
 
@@ -45,10 +40,20 @@ pub returns : goal.returns
 returns c =
     let joins : List JoinValue = c.args.joins.now in
     let olds : List (Vec Row Global) = c.loop-right.yielded in
+    let right : Vec Row Global = c.in-Some.last_right in
+    let was = c.loop-right.invariant in
+    let n = length olds in
     let gives = c.into_iter-right-iterator.ensures.into_iter_gives in
-    let items = YieldsList-from_vec {s = c.into_iter-right-iterator.result} c.args.further.items gives.0 (gives.1 ∙ c.args.further.ok.0) in
+    let items = YieldsList-from_vec {s = c.into_iter-right-iterator.result} c.pop.new.self.items gives.0 (gives.1 ∙ c.pop.new.self.ok.0) in
     let done = YieldsList-end items olds c.loop-right.right-iterator c.loop-right.yielded_by c.next.result c.next.new.self c.in-None.is c.next.ensures.steps in
-    let whole : olds ≡ c.args.further.items = sym (map-id olds) ∙ done.0 in
-    let all : take (length olds) joins ≡ joins = take_all (length olds) joins (omega (arith, ap length whole, c.requires)) in
-    subst (λ (vs : List (Vec Row Global)). Fills (map joint_in joins) c.args.first.items (rows_in vs) c.loop-right.filled.items c.loop-right.rows.items) whole
-    (subst (λ (js : List JoinValue). Fills (map joint_in js) c.args.first.items (rows_in olds) c.loop-right.filled.items c.loop-right.rows.items) all c.loop-right.invariant.fills)
+    let whole : c.args.further.items ≡ olds ++ right ∷ [] = c.in-Some.ensures.items ∙ ap (λ (vs : List (Vec Row Global)). vs ++ right ∷ []) (sym done.0 ∙ map-id olds) in
+    let longer : length (olds ++ right ∷ []) ≡ n + 1 = length_push olds right in
+    let lt : n < length joins = omega (arith, longer, ap length whole, c.requires) in
+    let join : JoinValue = c.index-joins-len-2.result in
+    let place : c.len-2.result ≡ n = omega (arith, c.len-2.ensures, was.counted) in
+    let at : join ≡ get_or joins n join = c.index-joins-len-2.is ∙ ap (λ (k : ℕ). get_or joins k join) place in
+    let made : List JoinValue = c.push-2.new.self.items in
+    let fills = fills_more joins n join lt at c.args.first.items olds right c.loop-right.filled.items made c.in_ok-last.last c.loop-right.rows.items (length (olds ++ right ∷ [])) longer c.in_ok-push-2.ensures.items c.in_ok-last.ensures.keeps was.fills was.comes in
+    let all : take (length (olds ++ right ∷ [])) joins ≡ joins = take_all (length (olds ++ right ∷ [])) joins (omega (arith, ap length whole, c.requires)) in
+    subst (λ (vs : List (Vec Row Global)). Fills (map joint_in joins) c.args.first.items (rows_in vs) made) (sym whole)
+    (subst (λ (js : List JoinValue). Fills (map joint_in js) c.args.first.items (rows_in (olds ++ right ∷ [])) made) all fills)

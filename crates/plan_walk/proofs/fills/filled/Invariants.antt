@@ -1,10 +1,12 @@
 use Rattle.std.proofs.Common.{◌≡◌, map, take, length}
+use Rattle.plan_law.specs.Chain.{chain}
 use Rattle.plan_walk.specs.Stages.{joint_in}
 use Rattle.plan_walk.specs.Fills.{Fills, rows_in}
 use Rattle.plan_walk.proofs.fills.filled.Given as goal
 
 abbrev pub invariant-loop-right : goal.invariant-loop-right
 invariant-loop-right l = record {
-  fills : Fills (map joint_in (take (length l.yielded) l.joins)) l.fn.first.items (rows_in l.yielded) l.filled.items l.rows.items;
+  fills : Fills (map joint_in (take (length l.yielded) l.joins)) l.fn.first.items (rows_in l.yielded) l.filled.items;
+  comes : l.rows.items ≡ chain (map joint_in (take (length l.yielded) l.joins)) l.fn.first.items (rows_in l.yielded);
   counted : length l.filled.items ≡ length l.yielded;
 }
