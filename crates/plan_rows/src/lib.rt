@@ -1,4 +1,4 @@
-//! Worked rows of plans: the facts that fill them, and how one change after another moves these.
+//! Worked rows of plans: how one change after another moves the facts of a plan that is filled.
 //!
 //! It has tests alone. What they want is worked out by hand.
 #![tactic(auto)]

@@ -24,10 +24,9 @@ struct Moved {
     moves: &'static str,
 }
 
-// A view, the fact rows that fill its plan, and the changes after that.
+// A view, and the changes after its plan is filled.
 struct Worked {
     view: &'static str,
-    filled: &'static str,
     moved: [Moved; 4],
 }
 
@@ -42,11 +41,10 @@ const BEFORE: [&str; 7] = [
     "insert d s x q",
 ];
 
-const WORKED: [Worked; 5] = [
+const WORKED: [Worked; 6] = [
     // Both sides of a join are moved, and a renamed attribute takes all facts away.
     Worked {
         view: "create view V::t(k, b) as select T.k, S.b from d::r T, d::s S where T.a = S.a",
-        filled: "+ t 1 p\n+ t 1 q\n",
         moved: [
             Moved {
                 change: "insert d s y q",
@@ -69,7 +67,6 @@ const WORKED: [Worked; 5] = [
     // A test of one row alone, and a condition that is no equality.
     Worked {
         view: "create view V::t(k) as select T.k from d::r T, d::s S where T.a = S.a and S.b = 'p' and T.k <> '3'",
-        filled: "+ t 1\n",
         moved: [
             Moved {
                 change: "insert d s y q",
@@ -92,7 +89,6 @@ const WORKED: [Worked; 5] = [
     // One declaration, and so no join.
     Worked {
         view: "create view V::t(k) as select T.k from d::r T",
-        filled: "+ t 1\n+ t 2\n",
         moved: [
             Moved {
                 change: "insert d r 1 z",
@@ -115,7 +111,6 @@ const WORKED: [Worked; 5] = [
     // One row moves both sides of a join, of which a pair is its own.
     Worked {
         view: "create view V::t(k, l) as select T.k, S.k from d::r T, d::r S where T.a = S.a",
-        filled: "+ t 1 1\n+ t 2 2\n",
         moved: [
             Moved {
                 change: "insert d r 3 x",
@@ -138,7 +133,6 @@ const WORKED: [Worked; 5] = [
     // Relations whose names are columns.
     Worked {
         view: "create view V::t(a, R) as select T.a, S.b from d -> R, d::R T, d::s S where T.a = S.a and R <> 's'",
-        filled: "+ t x r p\n+ t x r q\n",
         moved: [
             Moved {
                 change: "rename-relation d r u",
@@ -155,6 +149,28 @@ const WORKED: [Worked; 5] = [
             Moved {
                 change: "rename-database d e",
                 moves: "- t x u p\n- t x u q\n- t x w p\n- t x w q\n",
+            },
+        ],
+    },
+    // Columns that become values, whose plan reads the rows where the attributes move.
+    Worked {
+        view: "create view V::t(k, d, v) as select T.k, A, T.A from d::r -> A, d::r T",
+        moved: [
+            Moved {
+                change: "insert d r 3 z",
+                moves: "+ t 3 a z\n+ t 3 k 3\n",
+            },
+            Moved {
+                change: "add-attribute d r n 0",
+                moves: "+ t 1 n 0\n+ t 2 n 0\n+ t 3 n 0\n",
+            },
+            Moved {
+                change: "delete d r 1 x 0",
+                moves: "- t 1 a x\n- t 1 k 1\n- t 1 n 0\n",
+            },
+            Moved {
+                change: "rename-attribute d r a b",
+                moves: "+ t 2 b y\n+ t 3 b z\n- t 2 a y\n- t 3 a z\n",
             },
         ],
     },
@@ -247,12 +263,12 @@ fn step<L: Ledger>(
     ensures { OnOk result (PlanStands catalogue.new.databases plan.new) }
 {
     let moved = plan.prepare(alloc, catalogue, change, steps)?;
-    let same = are(alloc, moved.facts(), moves);
+    let same = are(alloc, moved.facts(), moves)?;
     let ready = plan.reserve(alloc, moved)?;
     let made = catalogue.reserve(change)?;
     catalogue.commit(made);
     plan.commit(ready);
-    same
+    Ok(same)
 }
 
 // Whether each change makes its moves.
@@ -279,7 +295,7 @@ fn all_steps<L: Ledger>(
     Ok(true)
 }
 
-// Whether the plan of a view is filled and moved so.
+// Whether the plan of a view that is filled is moved so.
 fn is_worked<L: Ledger>(
     alloc: Global,
     plan: &mut Plan,
@@ -292,11 +308,7 @@ fn is_worked<L: Ledger>(
     requires some { 0 < L.parts }
     requires fresh { IsFresh plan.old }
 {
-    let filled = plan.fill(alloc, catalogue)?;
-    let come = Delta::of(alloc, filled, true)?;
-    if !are(alloc, &come, worked.filled)? {
-        return Ok(false);
-    }
+    plan.fill(alloc, catalogue)?;
     let mut steps = Steps::<L>::of(blank);
     all_steps(alloc, plan, catalogue, &worked.moved, &mut steps)
 }
@@ -319,7 +331,7 @@ fn plan_of(alloc: Global, text: &str) -> Result<Plan, Fail>
     Ok(plan?)
 }
 
-// Whether a plan that keeps nothing is filled and moved so.
+// The same, from the catalogue before.
 fn moves_so(alloc: Global, plan: &mut Plan, worked: &Worked) -> Result<bool, Fail>
     requires { IsFresh plan.old }
 {

@@ -1,5 +1,5 @@
 -- What a plan has of each declaration is what the law of plans names.
-use Rattle.std.proofs.Common.{◌≡◌, ℕ, suc, List, [], ◌∷◌, ◌++◌, drop, map, true, refl, ap, sym, ◌∙◌}
+use Rattle.std.proofs.Common.{◌≡◌, ℕ, suc, List, [], ◌∷◌, ◌++◌, Bool, true, false, cond, drop, map, refl, ap, sym, ◌∙◌}
 use Rattle.std.specs.List.{slice_get}
 use Rattle.plan_law.specs.Kinds.{Term, Range}
 use Rattle.plan_law.specs.Kinds.range
@@ -11,11 +11,14 @@ use Rattle.plan_law.specs.Columns.{header}
 use Rattle.plan_law.specs.Chain.{Joint, Sides}
 use Rattle.plan_law.specs.PlanRows.{specs_from, joints_from, plan_joints}
 use Rattle.plan_law.specs.PlanMoves.{no_sides}
+use Rattle.plan_law.proofs.Empty.{filled}
 use Rattle.plan_law.proofs.First.{first_of}
 use Rattle.plan_law.proofs.Profile.{ranges}
 use Rattle.plan_form.specs.declared.base.Base.{Base}
 use Rattle.plan_form.specs.Bases.{BaseValue, base_value, base_form, bases_from}
 use Rattle.plan_walk.specs.Stages.{joint_in, sides_in}
+use Rattle.plan_translate.specs.Read.{is_read, left_side}
+use Rattle.plan_translate.specs.Plans.{JoinsStand}
 use Rattle.plan_translate.specs.Parts.{bases_of, joint_with, joints_with, fresh_join}
 
 abbrev spec_in : BaseValue → FlatSpec
@@ -88,3 +91,15 @@ module _ (q : Query) (profile : IsViewOfProfile q) (bs : List Base) (joins : Lis
 
   pub made_sides : map sides_in joins ≡ no_sides q
   made_sides = ap (map sides_in) made ∙ fresh_sides bs ∙ ap (map nothing) (ap joints_with of ∙ plan_joints_with q profile)
+
+-- sides that keep nothing have no right rows
+none_right : (js : List Joint) → map left_side (map nothing js) ≡ map nothing js
+none_right [] = refl
+none_right (j ∷ js) = ap (λ (ks : List Sides). nothing j ∷ ks) (none_right js)
+
+none_kept : (b : Bool) (js : List Joint) → map nothing js ≡ cond b (map left_side (map nothing js)) (map nothing js)
+none_kept true js = sym (none_right js)
+none_kept false js = refl
+
+pub fresh_stand : (q : Query) → IsViewOfProfile q → JoinsStand [] q (no_sides q)
+fresh_stand q profile = record { sides = no_sides q; keeps = (filled [] q profile).stands; kept_are = none_kept (is_read q) (plan_joints q q.decls) }

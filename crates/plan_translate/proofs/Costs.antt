@@ -1,21 +1,25 @@
--- What a change of one row costs.
-use Rattle.std.proofs.Common.{◌≤◌, length, arith, sym}
+-- What a move costs.
+use Rattle.std.proofs.Common.{◌≤◌, ℕ, length, arith, sym}
 use Rattle.schema_model.specs.Catalogue.{CatalogueValue}
 use Rattle.schema_model.specs.Changes.{after}
 use Rattle.schema_model.specs.declared.change.Change.{Change}
+use Rattle.view_def.specs.Query.{Query}
 use Rattle.view_def.specs.Profile.{IsViewOfProfile}
 use Rattle.plan_law.specs.PlanMoves.{fact_moves}
 use Rattle.plan_law.proofs.Net.{fewest}
 use Rattle.plan_law.proofs.PlanLaws.{is_bounded}
-use Rattle.plan_translate.specs.Plans.{PlanValue, PlanMoveValue, query_in}
+use Rattle.plan_translate.specs.Plans.{PlanMoveValue}
 use Rattle.plan_translate.specs.Walked.{Walked}
-use Rattle.plan_translate.specs.Costs.{IsRowBounded}
+use Rattle.plan_translate.specs.Costs.{CountsPairs, IsRowBounded}
 use Rattle.plan_translate.proofs.FactMoves.{few_facts}
 
-pub row_bounded : (c : CatalogueValue) (g : Change) (p : PlanValue) (m : PlanMoveValue) → IsViewOfProfile (query_in p) → Walked c (after c g) p m → IsRowBounded c g p m
-row_bounded c g p m profile w up one =
-    let q = query_in p in
+pub counts_pairs : (c c' : CatalogueValue) (q : Query) (m : PlanMoveValue) (old new : ℕ) → Walked c c' q m old new → CountsPairs c c' q m old new
+counts_pairs c c' q m old new w = record { sides = w.sides; moves = w.moves; out = w.out; walk = w.walk; nets = w.nets; moves_are = w.kept; within = w.within }
+
+-- a change of one row
+pub row_bounded : (c : CatalogueValue) (g : Change) (q : Query) (m : PlanMoveValue) (old new : ℕ) → IsViewOfProfile q → Walked c (after c g) q m old new → IsRowBounded c q g m old new
+row_bounded c g q m old new profile w up one =
     let rows = fact_moves q w.out in
-    let all = is_bounded c q g up p.sides m.sides w.out profile one w.walk w.nets w.out_net in
+    let all = is_bounded c q g up w.sides w.moves w.out profile one w.walk w.nets w.out_net in
     let few : length m.facts ≤ length rows = fewest m.facts rows w.facts_net (λ f. sym (w.facts f)) in
-    omega (arith, all.all, few, few_facts q w.out)
+    omega (arith, all.all, few, few_facts q w.out, w.within)

@@ -6,6 +6,8 @@ pub mod Filled
 pub mod Each
 pub mod Moving
 pub mod Waiting
+pub mod Lefts
+pub mod Emptied
 pub mod Commits
 pub mod FactMoves
 pub mod Costs

@@ -1,27 +1,35 @@
 -- What the fields of a plan say of its value, and how it comes to its moves.
-use Rattle.std.proofs.Common.{◌≡◌, ◌+◌, suc, List, [], length, map, ap, sym, ◌∙◌, subst, arith}
+use Rattle.std.proofs.Common.{◌≡◌, ◌+◌, ◌≤◌, ℕ, suc, List, [], ◌∷◌, Bool, true, false, cond, length, map, get_or, drop, refl, ap, sym, ◌∙◌, subst, arith}
 use Rattle.std.specs.List.{AllZip}
 use Rattle.std.proofs.lemmas.List.{length-map}
 use Rattle.schema_model.specs.Catalogue.{CatalogueValue}
 use Rattle.view_def.specs.Query.{Query}
 use Rattle.view_def.specs.Profile.{IsViewOfProfile}
+use Rattle.schema_delta.specs.declared.spec.FlatSpec.{FlatSpec}
 use Rattle.operator_law.specs.declared.delta.Signed.{Signed}
+use Rattle.join_delta.specs.Joins.{JoinValue}
 use Rattle.plan_law.specs.Net.{SameNet, IsNet}
 use Rattle.plan_law.specs.Columns.{header}
-use Rattle.plan_law.specs.Chain.{Joint, AreNet}
+use Rattle.plan_law.specs.Chain.{Joint, Sides, SideMoves, Walks, AreNet, walk_pairs}
 use Rattle.plan_law.specs.PlanRows.{specs_from, plan_joints}
-use Rattle.plan_law.specs.PlanMoves.{FlatMoved, fact_moves}
+use Rattle.plan_law.specs.PlanMoves.{FlatMoved, first_moves, further_moves, fact_moves}
 use Rattle.plan_form.specs.Bases.{BaseValue, bases_from}
 use Rattle.plan_form.specs.Forms.{IsOutputOf}
-use Rattle.plan_walk.specs.Stages.{joint_in, sides_in, side_moves}
+use Rattle.plan_walk.specs.Stages.{joint_in, sides_in}
 use Rattle.plan_translate.specs.declared.plan.Plan.TheInside.{Inside}
-use Rattle.plan_translate.specs.Parts.{bases_of, joint_with, joints_with, own_tests, each_passing, WalksAll}
-use Rattle.plan_translate.specs.Plans.{PlanValue, query_in, PlanStands}
+use Rattle.plan_translate.specs.Read.{reads_rows, is_read, left_side, kept_moves}
+use Rattle.plan_translate.specs.Parts.{bases_of, joint_with, joints_with, own_tests, each_passing}
+use Rattle.plan_translate.specs.Plans.{PlanValue, PlanMoveValue, query_in, JoinsStand}
 use Rattle.plan_translate.specs.PlanFields.{query_inside, seen, IsPlan}
-use Rattle.plan_translate.specs.Walked.{Walked}
+use Rattle.plan_translate.specs.Walked.{WalksOver, Walked}
 use Rattle.plan_translate.proofs.Bases.{FirstBase, first_base, plan_joints_with, specs_of}
-use Rattle.plan_translate.proofs.OwnMoves.{flat_nets, plan_walks}
-use Rattle.plan_translate.proofs.Each.{Pair}
+use Rattle.plan_translate.proofs.OwnMoves.{flat_nets, own_split}
+
+read_two : (ss : List FlatSpec) → reads_rows ss ≡ true → length ss ≡ 2
+read_two [] read = absurd (cc read)
+read_two (a ∷ []) read = absurd (cc read)
+read_two (a ∷ b ∷ []) read = refl
+read_two (a ∷ b ∷ d ∷ ss) read = absurd (cc read)
 
 module _ (i : Inside) (is : IsPlan i) where
   abbrev q : Query
@@ -53,28 +61,9 @@ module _ (i : Inside) (is : IsPlan i) where
   pub joints_long : length i.joins.items ≡ length (plan_joints q q.decls)
   joints_long = sym (length-map i.joins.items joint_in) ∙ ap length is.joints
 
-  module _ (deltas nets : List (List Signed)) (sides : List Pair) (out facts : List Signed) where
-    abbrev Walks : Type 0
-    Walks = WalksAll (map joint_in i.joins.items) (map sides_in i.joins.items) (each_passing (own_tests i.tests.items) nets) (map side_moves sides) out
-
-    pub is_walked : AllZip SameNet deltas nets → Walks → length sides ≡ length i.joins.items → AreNet (map side_moves sides) → IsNet out → SameNet (fact_moves q out) facts → IsNet facts
-        → (c c' : CatalogueValue) → FlatMoved c c' q deltas → PlanStands c (seen i) → Walked c c' (seen i) (record { sides = map side_moves sides; facts = facts })
-    is_walked same walks each nets_are out_net facts_same facts_net c c' moved stands =
-        let joints = subst (λ (js : List Joint). WalksAll js (map sides_in i.joins.items) (each_passing (own_tests i.tests.items) nets) (map side_moves sides) out) is.joints walks in
-        record {
-          out = out;
-          walk = record {
-            deltas = nets;
-            moved = flat_nets c c' (specs_from q 0 q.decls) deltas nets moved same;
-            stands = stands;
-            walks = plan_walks q b (map sides_in i.joins.items) nets (map side_moves sides) out (own_tests i.tests.items) is.tests joints;
-          };
-          each = length-map sides side_moves ∙ each ∙ joints_long;
-          nets = nets_are;
-          out_net = out_net;
-          facts = facts_same;
-          facts_net = facts_net;
-        }
+  -- a plan that reads rows has one join
+  pub one_join : is_read q ≡ true → length i.joins.items ≡ 1
+  one_join read = omega (arith, read_two (specs_from q 0 q.decls) read, tests_long, joins_long)
 
 -- what the value says by the fields
 module _ (i : Inside) (is : IsPlan i) (p : PlanValue) (view : seen i ≡ p) where
@@ -90,10 +79,84 @@ module _ (i : Inside) (is : IsPlan i) (p : PlanValue) (view : seen i ≡ p) wher
   pub tests_in : length i.tests.items ≡ length (specs_from (query_in p) 0 (query_in p).decls)
   tests_in = tests_long i is ∙ ap (λ (p : PlanValue). length (specs_from (query_in p) 0 (query_in p).decls)) view
 
-  pub walked_in : (deltas nets : List (List Signed)) (sides : List Pair) (out facts : List Signed) → AllZip SameNet deltas nets
-      → WalksAll (map joint_in i.joins.items) (map sides_in i.joins.items) (each_passing (own_tests i.tests.items) nets) (map side_moves sides) out
-      → length sides ≡ length i.joins.items → AreNet (map side_moves sides) → IsNet out → SameNet (fact_moves (query_inside i) out) facts → IsNet facts
-      → (c c' : CatalogueValue) → FlatMoved c c' (query_in p) deltas → PlanStands c p → Walked c c' p (record { sides = map side_moves sides; facts = facts })
-  walked_in deltas nets sides out facts same walks each nets_are out_net facts_same facts_net =
-      subst (λ (p : PlanValue). (c c' : CatalogueValue) → FlatMoved c c' (query_in p) deltas → PlanStands c p → Walked c c' p (record { sides = map side_moves sides; facts = facts })) view
-      (is_walked i is deltas nets sides out facts same walks each nets_are out_net facts_same facts_net)
+  pub reads_in : i.reads ≡ is_read (query_in p)
+  reads_in = is.reads ∙ ap (λ (p : PlanValue). is_read (query_in p)) view
+
+  pub joints_in : map joint_in i.joins.items ≡ plan_joints (query_in p) (query_in p).decls
+  joints_in = is.joints ∙ ap (λ (p : PlanValue). plan_joints (query_in p) (query_in p).decls) view
+
+  pub joined_in : length (plan_joints (query_in p) (query_in p).decls) ≡ length i.joins.items
+  joined_in = sym (ap length joints_in) ∙ length-map i.joins.items joint_in
+
+  pub one_in : is_read (query_in p) ≡ true → length (plan_joints (query_in p) (query_in p).decls) ≡ 1
+  one_in read = joined_in ∙ one_join i is (ap (λ (p : PlanValue). is_read (query_in p)) view ∙ read)
+
+  -- the own moves of the declarations
+  pub split_in : (nets : List (List Signed)) → length nets ≡ length i.tests.items → (first : List Signed) (further : List (List Signed)) → first ∷ further ≡ each_passing (own_tests i.tests.items) nets
+      → (first ≡ first_moves (query_in p) (query_in p).decls nets) × (further ≡ further_moves (query_in p) (query_in p).decls nets)
+  split_in nets long first further are =
+      let q = query_inside i in
+      let all = are ∙ own_split q (first_base q is.profile) (own_tests i.tests.items) is.tests nets (omega (arith, long, joins_long i is)) in
+      subst (λ (p : PlanValue). (first ≡ first_moves (query_in p) (query_in p).decls nets) × (further ≡ further_moves (query_in p) (query_in p).decls nets)) view
+      (ap (λ (l : List (List Signed)). get_or l 0 first) all, ap (λ (l : List (List Signed)). drop 1 l) all)
+
+-- ---- a walk over sides of which the left ones alone are kept
+walks_left : (js : List Joint) (ks : List Sides) (nss : List (List Signed)) (ps : List SideMoves) (out : List Signed) (old new : ℕ) → length js ≡ 1
+    → Walks js (map left_side ks) [] nss ps out → new ≤ old + walk_pairs js (map left_side ks) ps → Walks js ks [] nss ps out × (new ≤ old + walk_pairs js ks ps)
+walks_left [] ks nss ps out old new one walks le = absurd (omega (arith, one))
+walks_left (j ∷ i ∷ js) ks nss ps out old new one walks le = absurd (omega (arith, one))
+walks_left (j ∷ []) [] nss ps out old new one walks le = absurd walks
+walks_left (j ∷ []) (k ∷ ks) [] ps out old new one walks le = absurd walks
+walks_left (j ∷ []) (k ∷ ks) (ns ∷ nss) [] out old new one walks le = absurd walks
+walks_left (j ∷ []) (k ∷ ks) (ns ∷ nss) (p ∷ ps) out old new one walks le =
+    let same : walk_pairs (j ∷ []) (left_side k ∷ map left_side ks) (p ∷ ps) ≡ walk_pairs (j ∷ []) (k ∷ ks) (p ∷ ps) =
+    subst (λ (p : SideMoves). walk_pairs (j ∷ []) (left_side k ∷ map left_side ks) (p ∷ ps) ≡ walk_pairs (j ∷ []) (k ∷ ks) (p ∷ ps)) (sym walks.0) refl in
+    (walks, subst (λ (n : ℕ). new ≤ old + n) same le)
+
+-- where they do not move it is one over both sides
+pub walks_kept : (b : Bool) (js : List Joint) (ks : List Sides) (first : List Signed) (nss : List (List Signed)) (ps : List SideMoves) (out : List Signed) (old new : ℕ)
+    → (b ≡ true → length js ≡ 1) → (b ≡ true → first ≡ []) → Walks js (cond b (map left_side ks) ks) first nss ps out → new ≤ old + walk_pairs js (cond b (map left_side ks) ks) ps
+    → Walks js ks first nss ps out × (new ≤ old + walk_pairs js ks ps)
+walks_kept false js ks first nss ps out old new one none walks le = (walks, le)
+walks_kept true js ks first nss ps out old new one none walks le =
+    let is : first ≡ [] = none refl in
+    subst (λ (ms : List Signed). Walks js ks ms nss ps out × (new ≤ old + walk_pairs js ks ps)) (sym is)
+    (walks_left js ks nss ps out old new (one refl) (subst (λ (ms : List Signed). Walks js (map left_side ks) ms nss ps out) is walks) le)
+
+-- a walk through joins that stand
+pub kept_over : (c : CatalogueValue) (q : Query) (joins : List JoinValue) (first : List Signed) (further : List (List Signed)) (moves : List SideMoves) (out : List Signed) (old new : ℕ)
+    → map joint_in joins ≡ plan_joints q q.decls → (is_read q ≡ true → length (plan_joints q q.decls) ≡ 1) → (is_read q ≡ true → first ≡ []) → Walks (map joint_in joins) (map sides_in joins) first further moves out
+    → new ≤ old + walk_pairs (map joint_in joins) (map sides_in joins) moves → JoinsStand c q (map sides_in joins) → WalksOver c q first further moves out old new
+kept_over c q joins first further moves out old new are one none walks le stand =
+    let here = subst (λ (js : List Joint). Walks js (map sides_in joins) first further moves out) are walks in
+    let within = subst (λ (js : List Joint). new ≤ old + walk_pairs js (map sides_in joins) moves) are le in
+    let both = walks_kept (is_read q) (plan_joints q q.decls) stand.sides first further moves out old new one none
+    (subst (λ (ks : List Sides). Walks (plan_joints q q.decls) ks first further moves out) stand.kept_are here)
+    (subst (λ (ks : List Sides). new ≤ old + walk_pairs (plan_joints q q.decls) ks moves) stand.kept_are within) in
+    record { sides = stand.sides; keeps = stand.keeps; walks = both.0; within = both.1 }
+
+-- ---- how a walk moves a plan
+module _ (c c' : CatalogueValue) (q : Query) (deltas nets : List (List Signed)) (first : List Signed) (further : List (List Signed)) (moves : List SideMoves) (out : List Signed) (old new : ℕ) where
+  pub walked_by : AllZip SameNet deltas nets → first ≡ first_moves q q.decls nets → further ≡ further_moves q q.decls nets → WalksOver c q first further moves out old new
+      → length moves ≡ length (plan_joints q q.decls) → AreNet moves → IsNet out → (m : PlanMoveValue) → m.sides ≡ kept_moves q moves → SameNet (fact_moves q out) m.facts → IsNet m.facts
+      → FlatMoved c c' q deltas → Walked c c' q m old new
+  walked_by same first_is further_is over each nets_are out_net m kept facts facts_net moved = record {
+    sides = over.sides;
+    moves = moves;
+    out = out;
+    walk = record {
+      deltas = nets;
+      moved = flat_nets c c' (specs_from q 0 q.decls) deltas nets moved same;
+      stands = over.keeps;
+      walks =
+          subst (λ (ms : List Signed). Walks (plan_joints q q.decls) over.sides ms (further_moves q q.decls nets) moves out) first_is
+          (subst (λ (nss : List (List Signed)). Walks (plan_joints q q.decls) over.sides first nss moves out) further_is over.walks);
+    };
+    each = each;
+    nets = nets_are;
+    out_net = out_net;
+    within = over.within;
+    kept = kept;
+    facts = facts;
+    facts_net = facts_net;
+  }

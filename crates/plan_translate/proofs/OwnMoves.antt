@@ -1,5 +1,5 @@
 -- Moves that pass a plan's tests are those of the law, and walk as it says.
-use Rattle.std.proofs.Common.{◌≡◌, ◌<◌, take, get_or, ℕ, zero, suc, List, [], ◌∷◌, ◌++◌, ◌&&◌, cond, filter, map, Bool, refl, ap, sym, ◌∙◌, subst, arith, None, Option, length, true, false}
+use Rattle.std.proofs.Common.{◌≡◌, ◌<◌, ◌≤◌, take, get_or, ℕ, zero, suc, List, [], ◌∷◌, ◌++◌, ◌&&◌, cond, filter, map, Bool, refl, ap, sym, ◌∙◌, subst, arith, None, Option, length, true, false}
 use Rattle.std.specs.List.{list_all, slice_get, AllZip, AllByRecursion}
 use Rattle.std.specs.Prelude.{Vec}
 use Rattle.std.specs.Global.{Global}
@@ -17,13 +17,11 @@ use Rattle.plan_law.specs.Net.{SameNet, IsNet}
 use Rattle.plan_law.specs.Columns.{header, may_equal}
 use Rattle.plan_law.specs.Links.{Source, Link, source_text, link_holds, own_links, own_holds}
 use Rattle.plan_law.specs.Links as link
-use Rattle.plan_law.specs.Chain.{Sides, SideMoves, Walks}
-use Rattle.plan_law.specs.PlanRows.{plan_joints}
-use Rattle.plan_law.specs.PlanMoves.{own_moves, moves_from, first_moves, further_moves, PlanWalks}
+use Rattle.plan_law.specs.PlanMoves.{own_moves, moves_from, first_moves, further_moves}
 use Rattle.plan_form.specs.declared.base.Equal.{Equal}
 use Rattle.plan_form.specs.Cells.{text_in, right_cell}
 use Rattle.plan_form.specs.Bases.{BaseValue, own_cells, equal_holds, base_form, bases_from}
-use Rattle.plan_translate.specs.Parts.{bases_of, passing, each_passing, own_tests, WalksAll}
+use Rattle.plan_translate.specs.Parts.{bases_of, passing, each_passing, own_tests}
 use Rattle.plan_translate.proofs.Bases.{FirstBase}
 use Rattle.plan_translate.proofs.Each.{one_more}
 
@@ -65,26 +63,22 @@ each_own q (d ∷ ds) h k (ms ∷ mss) =
     ap (λ (l : List Signed). l ∷ each_passing (map own_in (bases_from q (h ++ header q k d) (suc k) ds)) mss) (passing_own q h (header q k d) ms)
     ∙ ap (λ (ls : List (List Signed)). own_moves q h (header q k d) ms ∷ ls) (each_own q ds (h ++ header q k d) (suc k) mss)
 
--- the walk of the declarations' moves is the plan's
-module _ (q : Query) (b : FirstBase q) (ks : List Sides) (nets : List (List Signed)) (ps : List SideMoves) (out : List Signed) where
-  abbrev WalksAt : List Range → Type 0
-  WalksAt ds = Walks (plan_joints q ds) ks (first_moves q ds nets) (further_moves q ds nets) ps out
+-- the moves of the first declaration, and those of the others
+abbrev AreOwn : Query → List Range → List (List Signed) → List (List Signed) → Type 0
+AreOwn q ds nets all = all ≡ first_moves q ds nets ∷ further_moves q ds nets
 
-  from_first : (nets' : List (List Signed)) → nets ≡ nets' → WalksAll (plan_joints q (b.first ∷ b.rest)) ks (each_passing (map own_in (base_form q [] 0 b.first ∷ bases_from q (header q 0 b.first) 1 b.rest)) nets') ps out
-      → Walks (plan_joints q (b.first ∷ b.rest)) ks (first_moves q (b.first ∷ b.rest) nets') (further_moves q (b.first ∷ b.rest) nets') ps out
-  from_first [] e w = absurd w
-  from_first (ms ∷ mss) e w =
-      let js = plan_joints q (b.first ∷ b.rest) in
+module _ (q : Query) (b : FirstBase q) where
+  own_first : (nets : List (List Signed)) → 1 ≤ length nets → AreOwn q (b.first ∷ b.rest) nets (each_passing (map own_in (base_form q [] 0 b.first ∷ bases_from q (header q 0 b.first) 1 b.rest)) nets)
+  own_first [] some = absurd (omega (arith, some))
+  own_first (ms ∷ mss) some =
       let h = header q 0 b.first in
-      subst (λ (nss : List (List Signed)). Walks js ks (own_moves q [] h ms) nss ps out) (each_own q b.rest h 1 mss)
-      (subst (λ (l : List Signed). Walks js ks l (each_passing (map own_in (bases_from q h 1 b.rest)) mss) ps out) (passing_own q [] h ms) w)
+      ap (λ (l : List Signed). l ∷ each_passing (map own_in (bases_from q h 1 b.rest)) mss) (passing_own q [] h ms)
+      ∙ ap (λ (ls : List (List Signed)). own_moves q [] h ms ∷ ls) (each_own q b.rest h 1 mss)
 
-  pub plan_walks : (tests : List (List Equal)) → tests ≡ map own_in (bases_of q) → WalksAll (plan_joints q q.decls) ks (each_passing tests nets) ps out → PlanWalks q ks nets ps out
-  plan_walks tests are w =
-      let all = are ∙ ap (map own_in) b.bases in
-      let v = subst (λ (ts : List (List Equal)). WalksAll (plan_joints q q.decls) ks (each_passing ts nets) ps out) all w in
-      let u = subst (λ (ds : List Range). WalksAll (plan_joints q ds) ks (each_passing (map own_in (base_form q [] 0 b.first ∷ bases_from q (header q 0 b.first) 1 b.rest)) nets) ps out) b.all v in
-      subst WalksAt (sym b.all) (from_first nets refl u)
+  pub own_split : (tests : List (List Equal)) → tests ≡ map own_in (bases_of q) → (nets : List (List Signed)) → 1 ≤ length nets → AreOwn q q.decls nets (each_passing tests nets)
+  own_split tests are nets some =
+      ap (λ (ts : List (List Equal)). each_passing ts nets) (are ∙ ap (map own_in) b.bases)
+      ∙ subst (λ (ds : List Range). AreOwn q ds nets (each_passing (map own_in (base_form q [] 0 b.first ∷ bases_from q (header q 0 b.first) 1 b.rest)) nets)) (sym b.all) (own_first nets some)
 
 -- moves in net move as much
 pub moves_net : (xs ys : List Row) (ms ns : List Signed) → MovesBag xs ms ys → SameNet ms ns → MovesBag xs ns ys

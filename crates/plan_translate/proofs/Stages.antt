@@ -25,8 +25,8 @@ use Rattle.plan_law.proofs.First.{First, first_of}
 use Rattle.plan_law.proofs.ChainLaw.{joint_moved}
 use Rattle.plan_law.proofs.PlanLaws.{facts_move}
 use Rattle.plan_walk.specs.Stages.{joint_in, sides_in, side_moves}
-use Rattle.plan_translate.specs.Moves.{MovesChain, MovesSides}
-use Rattle.plan_translate.specs.Plans.{PlanValue, PlanMoveValue, query_in, PlanMoves}
+use Rattle.plan_translate.specs.Moves.{MovesChain, MovesAll}
+use Rattle.plan_translate.specs.Plans.{PlanMoveValue, PlanMoves}
 use Rattle.plan_translate.specs.Walked.{Walked}
 use Rattle.plan_translate.specs.Sides.{SameKeys, LikeJoin, CanMove, AllMoved}
 use Rattle.plan_translate.proofs.OwnMoves.{moves_net}
@@ -75,7 +75,7 @@ module _ (c c' : CatalogueValue) (q : Query) where
         (own_moves q [] (header q 0 d) ms) out (moves_from q (header q 0 d) 1 ds deltas) ps
         long keeps (own_moved [] 0 d ms moved.0) (rows_moved ds (header q 0 d) 1 deltas moved.1) walks
 
-    sides_moved : First q → length ps ≡ length (plan_joints q q.decls) → IsWalk c c' q ks ps out → MovesSides c c' q ps
+    sides_moved : First q → length ps ≡ length (plan_joints q q.decls) → IsWalk c c' q ks ps out → MovesAll c c' q ps
     sides_moved b long w =
         let moved = subst (λ (ss : List FlatSpec). AllZip FlatMoves ss w.deltas) b.specs (subst (λ (ds : List Range). AllZip FlatMoves (specs_from q 0 ds) w.deltas) b.all w.moved) in
         let keeps = subst (λ (ds : List Range). Keeps (plan_joints q ds) (first_rows c q ds) (further_rows c q ds) ks) b.all w.stands in
@@ -84,12 +84,11 @@ module _ (c c' : CatalogueValue) (q : Query) where
         subst ChainAt (sym b.all) (from_first b.first b.rest w.deltas long' moved keeps walks)
 
 -- so a walk gives moves of the plan
-pub plan_moves : (c c' : CatalogueValue) (p : PlanValue) (m : PlanMoveValue) → IsSound c → IsSound c' → IsViewOfProfile (query_in p) → Walked c c' p m → PlanMoves c c' (query_in p) m
-plan_moves c c' p m sound sound' profile w =
-    let q = query_in p in
-    let facts = facts_move c c' q p.sides m.sides w.out sound sound' profile w.walk in
+pub plan_moves : (c c' : CatalogueValue) (q : Query) (m : PlanMoveValue) (old new : ℕ) → IsSound c → IsSound c' → IsViewOfProfile q → Walked c c' q m old new → PlanMoves c c' q m
+plan_moves c c' q m old new sound sound' profile w =
+    let facts = facts_move c c' q w.sides w.moves w.out sound sound' profile w.walk in
     record {
-      sides = sides_moved c c' q p.sides m.sides w.out (first_of q profile) w.each w.walk;
+      sides = record { moves = w.moves; chain = sides_moved c c' q w.sides w.moves w.out (first_of q profile) w.each w.walk; kept = w.kept };
       facts = record { moved = moves_net (fact_rows c q) (fact_rows c' q) (fact_moves q w.out) m.facts facts w.facts; net = w.facts_net };
     }
 

@@ -1,3 +1,4 @@
+pub mod Read
 pub mod Moves
 pub mod Plans
 pub mod Walked

@@ -4,7 +4,7 @@ use Rattle.std.specs.List.{list_all}
 use Rattle.std.specs.Global.{Global}
 use Rattle.view_def.specs.Query.{Query}
 use Rattle.join_delta.specs.Joined.{matches}
-use Rattle.plan_law.specs.Chain.{Joint, Sides, SideMoves, Walks}
+use Rattle.plan_law.specs.Chain.{Joint}
 use Rattle.join_delta.specs.Joins.{JoinValue}
 use Rattle.plan_form.specs.declared.base.Base.{Base}
 use Rattle.plan_form.specs.declared.base.Equal.{Equal}
@@ -40,8 +40,3 @@ own_tests ts = map (λ (t : Vec Equal Global). t.items) ts
 -- a join with a declaration that keeps no rows
 abbrev pub fresh_join : Base → JoinValue
 fresh_join b = record { left_key = b.left_key.items; right_key = b.right_key.items; left = []; right = []; waiting = None }
-
--- the walk of these moves of all declarations
-abbrev pub WalksAll : List Joint → List Sides → List (List Signed) → List SideMoves → List Signed → Type 0
-WalksAll js ks [] ps out = ⊥
-WalksAll js ks (ms ∷ nss) ps out = Walks js ks ms nss ps out

@@ -9,6 +9,7 @@ use Rattle.plan_form.specs.Bases.{BaseValue}
 use Rattle.plan_form.specs.Forms.{IsOutputOf}
 use Rattle.plan_walk.specs.Stages.{joint_in, sides_in, side_moves}
 use Rattle.plan_translate.specs.declared.plan.Plan.TheInside.{Inside}
+use Rattle.plan_translate.specs.Read.{is_read}
 use Rattle.plan_translate.specs.Parts.{bases_of}
 use Rattle.plan_translate.specs.Plans.{PlanValue}
 
@@ -22,10 +23,12 @@ seen p = record {
   waiting = option_map (λ w. map side_moves w.value.items) p.waiting;
 }
 
--- specifications, tests, joins and cells are those of the view, and what waits does so in each join
+-- specifications, tests, joins and cells are those of the view, it is known whether rows are read, and what waits does so in
+-- each join
 pub record IsPlan (p : Inside) : Type 0 where
   pub profile : IsViewOfProfile (query_inside p)
   pub specs : p.specs.items ≡ specs_from (query_inside p) 0 (query_inside p).decls
+  pub reads : p.reads ≡ is_read (query_inside p)
   pub tests : map (λ t. t.items) p.tests.items ≡ map (λ (b : BaseValue). b.own) (bases_of (query_inside p))
   pub joints : map joint_in p.joins.items ≡ plan_joints (query_inside p) (query_inside p).decls
   pub output : IsOutputOf (query_inside p) p.output

@@ -6,6 +6,7 @@ use Rattle.view_def.specs.Query.{Query, query_of}
 use Rattle.plan_law.specs.Chain.{Sides, SideMoves}
 use Rattle.plan_law.specs.PlanMoves.{PlanKeeps}
 use Rattle.operator_law.specs.declared.delta.Signed.{Signed}
+use Rattle.plan_translate.specs.Read.{kept_sides}
 use Rattle.plan_translate.specs.Moves.{MovesSides, MovesFacts}
 
 -- the view, the rows that each join keeps of its two sides, and how these will be moved by what waits
@@ -22,9 +23,15 @@ pub record PlanMoveValue : Type 0 where
   pub sides : List SideMoves
   pub facts : List Signed
 
--- each join keeps what comes to it over the catalogue, in some order
+-- each join keeps what comes to it over the catalogue, in some order; or its left side alone, where rows are read
+pub record JoinsStand (c : CatalogueValue) (q : Query) (kept : List Sides) : Type 0 where
+  pub sides : List Sides
+  pub keeps : PlanKeeps c q sides
+  pub kept_are : kept ≡ kept_sides q sides
+
+-- so the joins of a plan
 abbrev pub PlanStands : CatalogueValue → PlanValue → Type 0
-PlanStands c p = PlanKeeps c (query_in p) p.sides
+PlanStands c p = JoinsStand c (query_in p) p.sides
 
 -- it keeps nothing, as for the catalogue that has nothing
 abbrev pub IsFresh : PlanValue → Type 0

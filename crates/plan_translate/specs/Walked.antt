@@ -1,20 +1,34 @@
 -- How a plan comes to its moves.
-use Rattle.std.specs.Prelude.{◌≡◌, List, length}
+use Rattle.std.specs.Prelude.{◌≡◌, ◌+◌, ◌≤◌, ℕ, List, length}
 use Rattle.schema_model.specs.Catalogue.{CatalogueValue}
+use Rattle.view_def.specs.Query.{Query}
 use Rattle.plan_law.specs.Net.{SameNet, IsNet}
-use Rattle.plan_law.specs.Chain.{AreNet}
+use Rattle.plan_law.specs.Chain.{Sides, SideMoves, Walks, AreNet, walk_pairs}
 use Rattle.plan_law.specs.Laws.{IsWalk}
 use Rattle.plan_law.specs.PlanRows.{plan_joints}
-use Rattle.plan_law.specs.PlanMoves.{fact_moves}
+use Rattle.plan_law.specs.PlanMoves.{PlanKeeps, fact_moves}
 use Rattle.operator_law.specs.declared.delta.Signed.{Signed}
-use Rattle.plan_translate.specs.Plans.{PlanValue, PlanMoveValue, query_in}
+use Rattle.plan_translate.specs.Read.{kept_moves}
+use Rattle.plan_translate.specs.Plans.{PlanMoveValue}
 
--- they are those of the walk of a change, and in net the facts of the rows that come out
-pub record Walked (c c' : CatalogueValue) (p : PlanValue) (m : PlanMoveValue) : Type 0 where
+-- moves of the first declaration and of the others walk through joins that keep what comes to them over a catalogue
+pub record WalksOver (c : CatalogueValue) (q : Query) (first : List Signed) (further : List (List Signed)) (moves : List SideMoves) (out : List Signed) (old new : ℕ) : Type 0 where
+  pub sides : List Sides
+  pub keeps : PlanKeeps c q sides
+  pub walks : Walks (plan_joints q q.decls) sides first further moves out
+  pub within : new ≤ old + walk_pairs (plan_joints q q.decls) sides moves
+
+-- they are those of the walk of a change, of which a plan that reads rows keeps those of the left sides alone, and in
+-- net the facts of the rows that come out
+pub record Walked (c c' : CatalogueValue) (q : Query) (m : PlanMoveValue) (old new : ℕ) : Type 0 where
+  pub sides : List Sides
+  pub moves : List SideMoves
   pub out : List Signed
-  pub walk : IsWalk c c' (query_in p) p.sides m.sides out
-  pub each : length m.sides ≡ length (plan_joints (query_in p) (query_in p).decls)
-  pub nets : AreNet m.sides
+  pub walk : IsWalk c c' q sides moves out
+  pub each : length moves ≡ length (plan_joints q q.decls)
+  pub nets : AreNet moves
   pub out_net : IsNet out
-  pub facts : SameNet (fact_moves (query_in p) out) m.facts
+  pub within : new ≤ old + walk_pairs (plan_joints q q.decls) sides moves
+  pub kept : m.sides ≡ kept_moves q moves
+  pub facts : SameNet (fact_moves q out) m.facts
   pub facts_net : IsNet m.facts

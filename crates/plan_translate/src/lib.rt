@@ -14,6 +14,7 @@ mod own;
 mod parts;
 mod plan;
 mod prepare;
+mod reads;
 mod walked;
 
 pub use moved::{PlanMove, PlanReady};

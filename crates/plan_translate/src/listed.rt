@@ -18,8 +18,8 @@ fn keep_passing(tests: &[Equal], rows: &mut Vec<Row>)
     rows.retain(|row| passes(tests, row));
 }
 
-// A declaration's flat rows that pass its tests.
-fn own_rows(
+/// A declaration's flat rows that pass its tests.
+pub(crate) fn own_rows(
     alloc: Global,
     catalogue: &Catalogue,
     spec: &FlatSpec,

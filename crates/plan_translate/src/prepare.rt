@@ -1,9 +1,9 @@
 //! How changes of the catalogue move a plan.
-ghost use Rattle.std.specs.Prelude.{◌≡◌, ◌+◌, ◌≤◌, None, IfOk, IsTrue};
+ghost use Rattle.std.specs.Prelude.{◌≡◌, ◌≤◌, None, IfOk, IsTrue};
 ghost use Rattle.std.specs.List.{AllByRecursion};
 ghost use Rattle.schema_model.specs.Changes.{after, after_all, is_well_formed};
 ghost use Rattle.schema_model.specs.Refusals.{fault, group_fault};
-ghost use Rattle.plan_translate.specs.Costs.{pairs_moved, IsRowBounded};
+ghost use Rattle.plan_translate.specs.Costs.{CountsPairs, IsRowBounded};
 ghost use Rattle.plan_translate.specs.Plans.{query_in, PlanStands, PlanMoves};
 
 use crate::{Plan, PlanMove};
@@ -26,14 +26,14 @@ impl Plan {
         requires accepted { fault catalogue.now.databases change.now ≡ None }
         requires stands { PlanStands catalogue.now.databases self.now }
         ensures moves { IfOk result (PlanMoves catalogue.now.databases (after catalogue.now.databases change.now) (query_in self.now)) }
-        ensures cost { IfOk result (λ m. steps.new ≤ steps.old + pairs_moved self.now m) }
-        ensures row { IfOk result (IsRowBounded catalogue.now.databases change.now self.now) }
+        ensures cost { IfOk result (λ m. CountsPairs catalogue.now.databases (after catalogue.now.databases change.now) (query_in self.now) m steps.old steps.new) }
+        ensures row { IfOk result (λ m. IsRowBounded catalogue.now.databases (query_in self.now) change.now m steps.old steps.new) }
         ensures rises { steps.old ≤ steps.new }
     {
         // What a catalogue has is sound.
         let _databases = catalogue.databases();
         let deltas = flat_changes(alloc, catalogue, change, &self.specs, steps)?;
-        let moved = self.moved(alloc, deltas, steps)?;
+        let moved = self.moved(alloc, catalogue, deltas, steps)?;
         Ok(moved)
     }
 
@@ -50,13 +50,13 @@ impl Plan {
         requires accepted { group_fault catalogue.now.databases changes.now ≡ None }
         requires stands { PlanStands catalogue.now.databases self.now }
         ensures moves { IfOk result (PlanMoves catalogue.now.databases (after_all catalogue.now.databases changes.now) (query_in self.now)) }
-        ensures cost { IfOk result (λ m. steps.new ≤ steps.old + pairs_moved self.now m) }
+        ensures cost { IfOk result (λ m. CountsPairs catalogue.now.databases (after_all catalogue.now.databases changes.now) (query_in self.now) m steps.old steps.new) }
         ensures rises { steps.old ≤ steps.new }
     {
         // What a catalogue has is sound.
         let _databases = catalogue.databases();
         let deltas = flat_group(alloc, catalogue, changes, &self.specs, steps)?;
-        let moved = self.moved(alloc, deltas, steps)?;
+        let moved = self.moved(alloc, catalogue, deltas, steps)?;
         Ok(moved)
     }
 }

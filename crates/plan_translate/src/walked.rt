@@ -1,17 +1,22 @@
 //! The walk of moves of all declarations through the joins.
-ghost use Rattle.std.specs.Prelude.{◌≡◌, ◌+◌, ◌≤◌, ◌∷◌, List, map, length, IfOk};
-ghost use Rattle.std.specs.List.{AllZip};
+ghost use Rattle.std.specs.Prelude.{◌≡◌, ◌≤◌, ◌∷◌, [], true, List, map, length, IfOk};
+ghost use Rattle.std.specs.List.{AllZip, AllByRecursion};
+ghost use Rattle.schema_model.specs.Catalogue.{CatalogueValue};
 ghost use Rattle.operator_law.specs.declared.delta.Signed.{Signed as SignedValue};
 ghost use Rattle.plan_law.specs.Net.{SameNet, IsNet};
-ghost use Rattle.plan_law.specs.Chain.{AreNet, walk_pairs};
-ghost use Rattle.plan_walk.specs.Stages.{joint_in, sides_in, side_moves};
-ghost use Rattle.plan_translate.specs.Parts.{own_tests, each_passing, WalksAll};
+ghost use Rattle.plan_law.specs.Chain.{AreNet};
+ghost use Rattle.plan_law.specs.PlanRows.{specs_from, plan_joints};
+ghost use Rattle.plan_law.specs.PlanMoves.{first_moves, further_moves};
+ghost use Rattle.plan_walk.specs.Stages.{side_moves};
+ghost use Rattle.plan_translate.specs.Read.{is_read, left_moves};
+ghost use Rattle.plan_translate.specs.Plans.{query_in, PlanStands};
+ghost use Rattle.plan_translate.specs.Walked.{WalksOver};
 
+use crate::Plan;
 use crate::own::own_moves;
-use join_delta::Join;
 use operator_law::Delta;
-use plan_form::Equal;
 use plan_walk::{WalkMoves, walk};
+use schema_model::Catalogue;
 use ss_text::{NoMemory, Steps};
 use std::alloc::Global;
 use std::sync::ledger::Ledger;
@@ -26,24 +31,90 @@ fn split(deltas: Vec<Delta>) -> (Delta, Vec<Delta>)
     (first, further)
 }
 
-/// How these moves of each declaration's flat rows walk through the joins, those alone that pass the declaration's tests.
-pub(crate) fn walked<L: Ledger>(
-    alloc: Global,
-    tests: &[Vec<Equal>],
-    joins: &[Join],
-    deltas: Vec<Delta>,
-    steps: &mut Steps<L>,
-) -> Result<WalkMoves, NoMemory>
-    requires each { length deltas.items ≡ length tests.now }
-    requires joined { length tests.now ≡ length joins.now + 1 }
-    ensures walks { IfOk result (λ w. (nets : List (List SignedValue)) × AllZip SameNet deltas.items nets × WalksAll (map joint_in joins.now) (map sides_in joins.now) (each_passing (own_tests tests.now) nets) (map side_moves w.sides.items) w.out) }
-    ensures each { IfOk result (λ w. length w.sides.items ≡ length joins.now) }
-    ensures nets { IfOk result (λ w. AreNet (map side_moves w.sides.items) × IsNet w.out) }
-    ensures cost { IfOk result (λ w. steps.new ≤ steps.old + walk_pairs (map joint_in joins.now) (map sides_in joins.now) (map side_moves w.sides.items)) }
-    ensures rises { steps.old ≤ steps.new }
+/// Leaves the moves of the left sides alone.
+pub(crate) fn keep_left(alloc: Global, sides: &mut Vec<(Delta, Delta)>)
+    ensures { map side_moves sides.new.items ≡ map left_moves (map side_moves sides.old.items) }
 {
-    let own = own_moves(alloc, tests, deltas)?;
-    let (first, further) = split(own);
-    let moves = walk(alloc, joins, first, further, steps)?;
-    Ok(moves)
+    for side in sides.iter_mut() {
+        side.1 = Delta {
+            moves: Vec::new(alloc),
+        };
+    }
+}
+
+impl Plan {
+    // The moves of the first declaration's flat rows that pass its tests, in net, and those of each other one's.
+    pub(crate) fn own_moves(
+        &self,
+        alloc: Global,
+        deltas: Vec<Delta>,
+    ) -> Result<(Delta, Vec<Delta>), NoMemory>
+        requires { length deltas.items ≡ length (specs_from (query_in self.now) 0 (query_in self.now).decls) }
+        ensures moves { let q = query_in self.now in IfOk result (λ r. (nets : List (List SignedValue)) × AllZip SameNet deltas.items nets × (r.0 ≡ first_moves q q.decls nets) × (r.1.items ≡ further_moves q q.decls nets)) }
+        ensures net { IfOk result (λ r. IsNet r.0 × AllByRecursion IsNet r.1.items) }
+        ensures each { let q = query_in self.now in IfOk result (λ r. length r.1.items ≡ length (plan_joints q q.decls)) }
+    {
+        let own = own_moves(alloc, &self.tests, deltas)?;
+        Ok(split(own))
+    }
+
+    // How they walk through joins that are filled anew over the catalogue.
+    fn walk_anew<L: Ledger>(
+        &self,
+        alloc: Global,
+        catalogue: &Catalogue,
+        first: Delta,
+        further: Vec<Delta>,
+        steps: &mut Steps<L>,
+    ) -> Result<WalkMoves, NoMemory>
+        requires { let q = query_in self.now in length further.items ≡ length (plan_joints q q.decls) }
+        ensures walks { IfOk result (λ w. WalksOver catalogue.now.databases (query_in self.now) first further.items (map side_moves w.sides.items) w.out steps.old steps.new) }
+        ensures each { let q = query_in self.now in IfOk result (λ w. length w.sides.items ≡ length (plan_joints q q.decls)) }
+        ensures nets { IfOk result (λ w. IsNet first → AllByRecursion IsNet further.items → AreNet (map side_moves w.sides.items) × IsNet w.out) }
+        ensures rises { steps.old ≤ steps.new }
+    {
+        let joins = self.filled(alloc, catalogue)?;
+        let moves = walk(alloc, &joins, first, further, steps)?;
+        Ok(moves)
+    }
+
+    // And through those that the plan keeps, which tell all where no row is read, or no left side moves.
+    fn walk_kept<L: Ledger>(
+        &self,
+        alloc: Global,
+        first: Delta,
+        further: Vec<Delta>,
+        steps: &mut Steps<L>,
+    ) -> Result<WalkMoves, NoMemory>
+        requires each { let q = query_in self.now in length further.items ≡ length (plan_joints q q.decls) }
+        requires none { is_read (query_in self.now) ≡ true → first ≡ [] }
+        ensures walks { IfOk result (λ w. (c : CatalogueValue) → PlanStands c self.now → WalksOver c (query_in self.now) first further.items (map side_moves w.sides.items) w.out steps.old steps.new) }
+        ensures each { let q = query_in self.now in IfOk result (λ w. length w.sides.items ≡ length (plan_joints q q.decls)) }
+        ensures nets { IfOk result (λ w. IsNet first → AllByRecursion IsNet further.items → AreNet (map side_moves w.sides.items) × IsNet w.out) }
+        ensures rises { steps.old ≤ steps.new }
+    {
+        let moves = walk(alloc, &self.joins, first, further, steps)?;
+        Ok(moves)
+    }
+
+    // And through what comes to the joins over the catalogue, for which the plan stands.
+    pub(crate) fn walk_over<L: Ledger>(
+        &self,
+        alloc: Global,
+        catalogue: &Catalogue,
+        first: Delta,
+        further: Vec<Delta>,
+        steps: &mut Steps<L>,
+    ) -> Result<WalkMoves, NoMemory>
+        requires { let q = query_in self.now in length further.items ≡ length (plan_joints q q.decls) }
+        ensures walks { IfOk result (λ w. PlanStands catalogue.now.databases self.now → WalksOver catalogue.now.databases (query_in self.now) first further.items (map side_moves w.sides.items) w.out steps.old steps.new) }
+        ensures each { let q = query_in self.now in IfOk result (λ w. length w.sides.items ≡ length (plan_joints q q.decls)) }
+        ensures nets { IfOk result (λ w. IsNet first → AllByRecursion IsNet further.items → AreNet (map side_moves w.sides.items) × IsNet w.out) }
+        ensures rises { steps.old ≤ steps.new }
+    {
+        if self.reads && !first.moves.is_empty() {
+            return self.walk_anew(alloc, catalogue, first, further, steps);
+        }
+        self.walk_kept(alloc, first, further, steps)
+    }
 }

@@ -14,6 +14,7 @@ invariant_of-self c =
     record {
       profile = inv.profile;
       specs = inv.specs;
+      reads = inv.reads;
       tests = inv.tests;
       joints = joints_on c.self.inside inv c.ready.inside.joins.items c.commit_each.new.joins.items c.commit_each.ensures;
       output = inv.output;

@@ -7,16 +7,11 @@ use Rattle.plan_walk.specs.Stages.{joint_in}
 use Rattle.plan_walk.specs.Fills.{Fills, rows_in}
 use Rattle.plan_translate.specs.Parts.{own_tests}
 use Rattle.plan_translate.specs.Listed.{own_listed}
-use Rattle.plan_translate.specs.Plans.{query_in}
-use Rattle.plan_translate.proofs.Moving.{profile_in, output_in}
-use Rattle.plan_translate.proofs.Filled.{specs_long, some_specs, further_long, filled_in, facts_filled}
+use Rattle.plan_translate.proofs.Filled.{specs_long, each_further, filled_in}
 use Rattle.plan_translate.proofs.plan.Plan.filled.Goals as goal
 
 pub listed-requires-clause-each : goal.listed-requires-clause-each
 listed-requires-clause-each c = omega (arith, ap length c.deref.ensures.value, ap length c.deref-2.ensures.value, specs_long c.self.inside c.self.invariant)
-
-pub listed-requires-clause-some : goal.listed-requires-clause-some
-listed-requires-clause-some c = omega (arith, ap length c.deref.ensures.value, some_specs c.self.inside c.self.invariant)
 
 pub filled-requires : goal.filled-requires
 filled-requires c =
@@ -26,22 +21,7 @@ filled-requires c =
     let further : List (List Row) = rows_in c.in_ok-first.further.items in
     let listed : first ∷ further ≡ own_listed d i.specs.items (own_tests i.tests.items) =
     c.in_ok-first.ensures ∙ ap (λ ss. own_listed d ss (own_tests c.deref-2.result.now)) c.deref.ensures.value ∙ ap (λ ts. own_listed d i.specs.items (own_tests ts)) c.deref-2.ensures.value in
-    omega (arith, further_long i c.self.invariant d first further listed, ap length c.deref-3.ensures.value, length-map c.in_ok-first.further.items (λ (v : Vec Row Global). v.items))
-
-pub returns-clause-joints : goal.returns-clause-joints
-returns-clause-joints c =
-    let i = c.self.inside in
-    let p = c.args.self.now in
-    let d = c.args.catalogue.now.databases in
-    let first : List Row = c.in_ok-first.first.items in
-    let further : List (List Row) = rows_in c.in_ok-first.further.items in
-    let joins : List JoinValue = c.in_ok-chain.chain.joins.items in
-    let out : List Row = c.in_ok-chain.chain.out.items in
-    let listed : first ∷ further ≡ own_listed d i.specs.items (own_tests i.tests.items) =
-    c.in_ok-first.ensures ∙ ap (λ ss. own_listed d ss (own_tests c.deref-2.result.now)) c.deref.ensures.value ∙ ap (λ ts. own_listed d i.specs.items (own_tests ts)) c.deref-2.ensures.value in
-    let fills = subst (λ (js : List JoinValue). Fills (map joint_in js) first further joins out) c.deref-3.ensures.value c.in_ok-chain.ensures in
-    let all = filled_in i c.self.invariant d first further listed p c.self.view_is joins out fills in
-    all.joints
+    omega (arith, each_further i c.self.invariant d first further listed, ap length c.deref-3.ensures.value, length-map c.in_ok-first.further.items (λ (v : Vec Row Global). v.items))
 
 pub returns-clause-keeps : goal.returns-clause-keeps
 returns-clause-keeps c =
@@ -50,25 +30,9 @@ returns-clause-keeps c =
     let d = c.args.catalogue.now.databases in
     let first : List Row = c.in_ok-first.first.items in
     let further : List (List Row) = rows_in c.in_ok-first.further.items in
-    let joins : List JoinValue = c.in_ok-chain.chain.joins.items in
-    let out : List Row = c.in_ok-chain.chain.out.items in
+    let joins : List JoinValue = c.in_ok-joins.joins.items in
     let listed : first ∷ further ≡ own_listed d i.specs.items (own_tests i.tests.items) =
     c.in_ok-first.ensures ∙ ap (λ ss. own_listed d ss (own_tests c.deref-2.result.now)) c.deref.ensures.value ∙ ap (λ ts. own_listed d i.specs.items (own_tests ts)) c.deref-2.ensures.value in
-    let fills = subst (λ (js : List JoinValue). Fills (map joint_in js) first further joins out) c.deref-3.ensures.value c.in_ok-chain.ensures in
-    let all = filled_in i c.self.invariant d first further listed p c.self.view_is joins out fills in
+    let fills = subst (λ (js : List JoinValue). Fills (map joint_in js) first further joins) c.deref-3.ensures.value c.in_ok-joins.ensures in
+    let all = filled_in i c.self.invariant d first further listed p c.self.view_is joins fills in
     all.keeps
-
-pub returns-clause-facts : goal.returns-clause-facts
-returns-clause-facts c =
-    let i = c.self.inside in
-    let p = c.args.self.now in
-    let d = c.args.catalogue.now.databases in
-    let first : List Row = c.in_ok-first.first.items in
-    let further : List (List Row) = rows_in c.in_ok-first.further.items in
-    let joins : List JoinValue = c.in_ok-chain.chain.joins.items in
-    let out : List Row = c.in_ok-chain.chain.out.items in
-    let listed : first ∷ further ≡ own_listed d i.specs.items (own_tests i.tests.items) =
-    c.in_ok-first.ensures ∙ ap (λ ss. own_listed d ss (own_tests c.deref-2.result.now)) c.deref.ensures.value ∙ ap (λ ts. own_listed d i.specs.items (own_tests ts)) c.deref-2.ensures.value in
-    let fills = subst (λ (js : List JoinValue). Fills (map joint_in js) first further joins out) c.deref-3.ensures.value c.in_ok-chain.ensures in
-    let all = filled_in i c.self.invariant d first further listed p c.self.view_is joins out fills in
-    facts_filled d (query_in p) c.databases-databases.ensures.sound (profile_in i c.self.invariant p c.self.view_is) out c.in_ok-facts.facts.items all.gives (c.in_ok-facts.ensures (query_in p) (output_in i c.self.invariant p c.self.view_is))

@@ -1,29 +1,45 @@
-use Rattle.std.proofs.Common.{◌≡◌, List, length, map, arith, ap, sym, ◌∙◌, subst}
-use Rattle.join_delta.specs.Joins.{JoinValue}
+use Rattle.std.proofs.Common.{◌≡◌, List, Bool, cond, length, map, ap, sym, ◌∙◌, subst}
+use Rattle.std.proofs.lemmas.List.{length-map}
 use Rattle.operator_law.specs.declared.delta.Signed.{Signed}
-use Rattle.plan_walk.specs.Stages.{joint_in, sides_in, side_moves}
-use Rattle.plan_translate.specs.Parts.{own_tests, each_passing, WalksAll}
-use Rattle.plan_translate.specs.PlanFields.{query_inside}
+use Rattle.plan_law.specs.Net.{SameNet}
+use Rattle.plan_law.specs.Chain.{SideMoves}
+use Rattle.plan_law.specs.PlanRows.{plan_joints}
+use Rattle.plan_law.specs.PlanMoves.{fact_moves}
+use Rattle.plan_walk.specs.Stages.{side_moves}
+use Rattle.plan_walk.specs.declared.walks.WalkMoves.{WalkMoves}
+use Rattle.plan_translate.specs.Read.{left_moves, kept_moves}
+use Rattle.plan_translate.specs.Plans.{PlanMoveValue, query_in}
 use Rattle.plan_translate.proofs.Each.{Pair}
-use Rattle.plan_translate.proofs.Moving.{tests_in, joins_long, walked_in}
+use Rattle.plan_translate.proofs.Moving.{output_in, reads_in, walked_by}
 use Rattle.plan_translate.proofs.plan.Plan.moved.Goals as goal
-
-pub walked-requires-clause-each : goal.walked-requires-clause-each
-walked-requires-clause-each g c =
-    c.requires ∙ sym (tests_in c.self.inside c.self.invariant c.args.self.now c.self.view_is) ∙ ap length (sym c.deref.ensures.value)
-
-pub walked-requires-clause-joined : goal.walked-requires-clause-joined
-walked-requires-clause-joined g c = omega (arith, ap length c.deref.ensures.value, ap length c.deref-2.ensures.value, joins_long c.self.inside c.self.invariant)
+use Rattle.plan_translate.proofs.plan.Plan.moved.Goals.{then-self, else-self}
 
 pub returns-clause-walked : goal.returns-clause-walked
-returns-clause-walked g c =
+returns-clause-walked g c = λ c' flat_moved stands.
     let i = c.self.inside in
-    let walked = c.in_ok-walk.ensures in
-    let nets = walked.walks.0 in
-    let sides : List Pair = c.in_ok-walk.walk.sides.items in
-    let out : List Signed = c.in_ok-walk.walk.out in
+    let p = c.args.self.now in
+    let q = query_in p in
+    let d = c.args.catalogue.now.databases in
+    let walk : WalkMoves = c.in_ok-walk.walk in
+    let last : WalkMoves = c.if-self.walk in
+    let moves : List SideMoves = map side_moves walk.sides.items in
     let facts : List Signed = c.in_ok-facts.facts in
-    let tests = subst (λ ts. WalksAll (map joint_in c.deref-2.result.now) (map sides_in c.deref-2.result.now) (each_passing (own_tests ts) nets) (map side_moves sides) out) c.deref.ensures.value walked.walks.2 in
-    let walks = subst (λ (js : List JoinValue). WalksAll (map joint_in js) (map sides_in js) (each_passing (own_tests i.tests.items) nets) (map side_moves sides) out) c.deref-2.ensures.value tests in
-    let each : length sides ≡ length i.joins.items = walked.each ∙ ap length c.deref-2.ensures.value in
-    walked_in i c.self.invariant c.args.self.now c.self.view_is c.args.deltas.items nets sides out facts walked.walks.1 walks each walked.nets.0 walked.nets.1 (c.in_ok-facts.ensures.same (query_inside i) c.self.invariant.output) c.in_ok-facts.ensures.net
+    let own = c.in_ok-first.ensures in
+    let nets = c.in_ok-walk.ensures.nets own.net.0 own.net.1 in
+    let each : length moves ≡ length (plan_joints q q.decls) = length-map walk.sides.items side_moves ∙ c.in_ok-walk.ensures.each in
+    let reads = reads_in i c.self.invariant p c.self.view_is in
+    let kept : (map side_moves last.sides.items ≡ kept_moves q moves) × (last.out ≡ walk.out) =
+    elim c.if-self.branch [
+      | then-self w ↦ (
+        ap (λ (m : WalkMoves). map side_moves m.sides.items) w.walk-is ∙ w.keep_left.ensures ∙ sym (ap (λ (b : Bool). cond b (map left_moves moves) moves) (sym reads ∙ w.if-self.true)),
+        ap (λ (m : WalkMoves). m.out) w.walk-is,
+      )
+      | else-self w ↦ (
+        ap (λ (m : WalkMoves). map side_moves m.sides.items) w.walk-is ∙ sym (ap (λ (b : Bool). cond b (map left_moves moves) moves) (sym reads ∙ w.if-self.false)),
+        ap (λ (m : WalkMoves). m.out) w.walk-is,
+      )
+    ] in
+    let m : PlanMoveValue = record { sides = map side_moves last.sides.items; facts = facts } in
+    let same : SameNet (fact_moves q walk.out) facts = subst (λ (out : List Signed). SameNet (fact_moves q out) facts) kept.1 (c.in_ok-facts.ensures.same q (output_in i c.self.invariant p c.self.view_is)) in
+    walked_by d c' q c.args.deltas.items own.moves.0 c.in_ok-first.first c.in_ok-first.further.items moves walk.out c.args.steps.now c.walk_over.new.steps
+    own.moves.1 own.moves.2 own.moves.3 (c.in_ok-walk.ensures.walks stands) each nets.0 nets.1 m kept.0 same c.in_ok-facts.ensures.net flat_moved

@@ -1,4 +1,4 @@
-use Rattle.std.proofs.Common.{List, length, ap, ◌∙◌, subst}
+use Rattle.std.proofs.Common.{ℕ, List, length, ap, ◌∙◌, subst}
 use Rattle.std.specs.List.{AllZip}
 use Rattle.schema_model.specs.Changes.{after}
 use Rattle.schema_model.proofs.SoundAfter.{sound_after}
@@ -6,9 +6,10 @@ use Rattle.schema_delta.specs.declared.spec.FlatSpec.{FlatSpec}
 use Rattle.schema_delta.specs.Flat.{MovesFlat}
 use Rattle.plan_law.specs.PlanMoves.{FlatMoved}
 use Rattle.plan_translate.specs.Plans.{query_in}
+use Rattle.plan_translate.specs.Costs.{CountsPairs, IsRowBounded}
 use Rattle.plan_translate.proofs.Each.{zip_long}
 use Rattle.plan_translate.proofs.Stages.{plan_moves}
-use Rattle.plan_translate.proofs.Costs.{row_bounded}
+use Rattle.plan_translate.proofs.Costs.{counts_pairs, row_bounded}
 use Rattle.plan_translate.proofs.Moving.{profile_in, specs_in}
 use Rattle.plan_translate.proofs.plan.Plan.prepare.Goals as goal
 
@@ -25,8 +26,8 @@ returns-clause-moves g c =
     let specs = specs_in c.self.inside c.self.invariant p c.self.view_is in
     let flat_moved : FlatMoved d (after d change) (query_in p) c.in_ok-deltas.deltas.items = subst (λ (ss : List FlatSpec). AllZip (MovesFlat d change) ss c.in_ok-deltas.deltas.items) (c.deref.ensures.value ∙ specs) c.in_ok-deltas.ensures.moved in
     let sound = c.databases-databases.ensures.sound in
-    plan_moves d (after d change) p c.in_ok-moved.moved sound (sound_after d change sound c.requires.well_formed c.requires.accepted) (profile_in c.self.inside c.self.invariant p c.self.view_is)
-    (c.in_ok-moved.ensures.walked d (after d change) flat_moved c.requires.stands)
+    plan_moves d (after d change) (query_in p) c.in_ok-moved.moved _ _ sound (sound_after d change sound c.requires.well_formed c.requires.accepted) (profile_in c.self.inside c.self.invariant p c.self.view_is)
+    (c.in_ok-moved.ensures.walked (after d change) flat_moved c.requires.stands)
 
 pub returns-clause-row : goal.returns-clause-row
 returns-clause-row g c =
@@ -35,4 +36,15 @@ returns-clause-row g c =
     let change = c.args.change.now in
     let specs = specs_in c.self.inside c.self.invariant p c.self.view_is in
     let flat_moved : FlatMoved d (after d change) (query_in p) c.in_ok-deltas.deltas.items = subst (λ (ss : List FlatSpec). AllZip (MovesFlat d change) ss c.in_ok-deltas.deltas.items) (c.deref.ensures.value ∙ specs) c.in_ok-deltas.ensures.moved in
-    row_bounded d change p c.in_ok-moved.moved (profile_in c.self.inside c.self.invariant p c.self.view_is) (c.in_ok-moved.ensures.walked d (after d change) flat_moved c.requires.stands)
+    subst (λ (n : ℕ). IsRowBounded d (query_in p) change c.in_ok-moved.moved n c.moved.new.steps) c.flat_changes.ensures.steps
+    (row_bounded d change (query_in p) c.in_ok-moved.moved _ _ (profile_in c.self.inside c.self.invariant p c.self.view_is) (c.in_ok-moved.ensures.walked (after d change) flat_moved c.requires.stands))
+
+pub returns-clause-cost : goal.returns-clause-cost
+returns-clause-cost g c =
+    let p = c.args.self.now in
+    let d = c.args.catalogue.now.databases in
+    let change = c.args.change.now in
+    let specs = specs_in c.self.inside c.self.invariant p c.self.view_is in
+    let flat_moved : FlatMoved d (after d change) (query_in p) c.in_ok-deltas.deltas.items = subst (λ (ss : List FlatSpec). AllZip (MovesFlat d change) ss c.in_ok-deltas.deltas.items) (c.deref.ensures.value ∙ specs) c.in_ok-deltas.ensures.moved in
+    subst (λ (n : ℕ). CountsPairs d (after d change) (query_in p) c.in_ok-moved.moved n c.moved.new.steps) c.flat_changes.ensures.steps
+    (counts_pairs d (after d change) (query_in p) c.in_ok-moved.moved _ _ (c.in_ok-moved.ensures.walked (after d change) flat_moved c.requires.stands))

@@ -19,6 +19,7 @@ invariant_of-self c =
     record {
       profile = inv.profile;
       specs = inv.specs;
+      reads = inv.reads;
       tests = inv.tests;
       joints = joints_alike c.self.inside inv c.reserve_each.new.joins.items c.reserve_each.ensures.alike;
       output = inv.output;
@@ -26,7 +27,7 @@ invariant_of-self c =
     }
 
 pub returns-in_err-joins-clause-same : goal.returns-in_err-joins-clause-same
-returns-in_err-joins-clause-same c = stands_as c.self.inside c.args.self.now c.self.view_is c.reserve_each.new.joins.items None c.reserve_each.ensures.alike
+returns-in_err-joins-clause-same c = stands_as c.self.inside c.self.invariant c.args.self.now c.self.view_is c.reserve_each.new.joins.items None c.reserve_each.ensures.alike
 
 pub invariant_of-self-2 : goal.invariant_of-self-2
 invariant_of-self-2 c =
@@ -36,6 +37,7 @@ invariant_of-self-2 c =
     record {
       profile = inv.profile;
       specs = inv.specs;
+      reads = inv.reads;
       tests = inv.tests;
       joints = joints_alike c.self.inside inv c.reserve_each.new.joins.items c.reserve_each.ensures.alike;
       output = inv.output;
@@ -43,4 +45,4 @@ invariant_of-self-2 c =
     }
 
 pub returns-clause-same : goal.returns-clause-same
-returns-clause-same c = stands_as c.self.inside c.args.self.now c.self.view_is c.reserve_each.new.joins.items (Some (map side_moves c.of.result.value.items)) c.reserve_each.ensures.alike
+returns-clause-same c = stands_as c.self.inside c.self.invariant c.args.self.now c.self.view_is c.reserve_each.new.joins.items (Some (map side_moves c.of.result.value.items)) c.reserve_each.ensures.alike
