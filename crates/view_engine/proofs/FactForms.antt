@@ -1,5 +1,5 @@
 -- The facts of a view over a catalogue, as what its tables keep.
-use Rattle.std.proofs.Common.{◌≡◌, ◌<◌, ℕ, List, [], ◌∷◌, Option, Some, None, true, refl, sym, ◌∙◌, ap, subst, length, arith}
+use Rattle.std.proofs.Common.{◌≡◌, ◌<◌, ℕ, List, [], ◌∷◌, Option, Some, None, refl, sym, ◌∙◌, ap, subst, length}
 use Rattle.std.specs.Prelude.{◌^◌}
 use Rattle.std.specs.List.{AllByRecursion}
 use Rattle.std.proofs.lemmas.List.Elements.{All-from_recursion}
@@ -20,12 +20,11 @@ use Rattle.flow_law.specs.Script.{script}
 use Rattle.flow_law.specs.Stops.{IsStop}
 use Rattle.valuation_meaning.specs.Meaning.{facts, meaning, shape_of}
 use Rattle.valuation_meaning.specs.Refusal.{refusal}
-use Rattle.valuation_meaning.proofs.EvalLemmas.{facts_bear}
+use Rattle.valuation_meaning.proofs.EvalLemmas.{bear}
 use Rattle.fact_limits.proofs.FactsFew.{facts_few}
 use Rattle.fact_limits.proofs.FactsForm.{have_form, read_back, are_wide}
 use Rattle.operator_law.specs.declared.delta.Signed.{Signed}
-use Rattle.operator_law.specs.Bags.{MovesBag, SameBag, all_signed}
-use Rattle.operator_law.proofs.SignedRows.{come-up, go-up}
+use Rattle.operator_law.specs.Bags.{MovesBag}
 use Rattle.plan_law.specs.Net.{IsNet}
 use Rattle.plan_law.specs.PlanMoves.{fact_rows}
 use Rattle.plan_translate.specs.Moves.{MovesFacts}
@@ -61,10 +60,6 @@ bears_moved shape None ms h = tt
 bears_moved shape (Some label) [] h = tt
 bears_moved shape (Some label) (m ∷ ms) h = (h.0.0, bears_moved shape (Some label) ms h.1)
 
-none_bears : (o : Option Text) → BearLabel o []
-none_bears None = tt
-none_bears (Some label) = tt
-
 -- moves in net between rows of such facts
 form_moves : (shape : Shape) (ms : List Signed) (old new : List Row) → MovesBag old ms new → IsNet ms
     → AllByRecursion (λ (row : Row). length row ≡ fact_width shape) old → AllByRecursion (λ (row : Row). length row ≡ fact_width shape) new
@@ -77,17 +72,6 @@ form_moves shape ms old new moves net wide_old wide_new bear_old bear_new few = 
   few = few;
 }
 
--- rows that all come, in any order
-come_moves : (rows some_order : List Row) → SameBag rows some_order → MovesBag [] (all_signed true some_order) rows
-come_moves rows some_order same = λ f. omega (arith, come-up f some_order, go-up f some_order, same f)
-
-all_up : (rows : List Row) → AllByRecursion (λ (m : Signed). true ≡ m.up) (all_signed true rows)
-all_up [] = tt
-all_up (row ∷ rows) = (refl, all_up rows)
-
-come_net : (rows : List Row) → IsNet (all_signed true rows)
-come_net rows = record { comes = λ row. true; tells = all_up rows }
-
 module _ (c : CatalogueValue) (q : Query) (profile : IsViewOfProfile q) where
   pub in_rows : facts_in (shape_of q) (fact_rows c q) ≡ facts c q
   in_rows = read_back (shape_of q) (facts c q) (have_form c q profile)
@@ -96,7 +80,7 @@ module _ (c : CatalogueValue) (q : Query) (profile : IsViewOfProfile q) where
   wide_rows = are_wide (shape_of q) (facts c q) (have_form c q profile)
 
   bear_rows : BearLabel (shape_of q).label (facts_in (shape_of q) (fact_rows c q))
-  bear_rows = subst (BearLabel (shape_of q).label) (sym in_rows) (facts_bear c q)
+  bear_rows = subst (BearLabel (shape_of q).label) (sym in_rows) (bear c q (shape_of q) refl (facts c q) refl)
 
   few_rows : IsSound c → length (fact_rows c q) < 2 ^ 128
   few_rows sound = subst (λ (n : ℕ). n < 2 ^ 128) (ap length (sym in_rows) ∙ facts_length (shape_of q) (fact_rows c q)) (facts_few c q sound profile)
@@ -108,10 +92,6 @@ module _ (c : CatalogueValue) (q : Query) (profile : IsViewOfProfile q) where
 
   pub stop_rows : (s : Stop) → IsStop (shape_of q) (facts_in (shape_of q) (fact_rows c q)) s → IsViewStop c q s
   stop_rows s h = subst (λ (fs : List Fact). IsStop (shape_of q) fs s) in_rows h
-
-  pub come_form : IsSound c → (rows : List Row) → SameBag (fact_rows c q) rows → MovesForm (shape_of q) (all_signed true rows) [] (fact_rows c q)
-  come_form sound rows same =
-      form_moves (shape_of q) (all_signed true rows) [] (fact_rows c q) (come_moves (fact_rows c q) rows same) (come_net rows) tt wide_rows (none_bears (shape_of q).label) bear_rows (few_rows sound)
 
 module _ (c c' : CatalogueValue) (q : Query) (profile : IsViewOfProfile q) where
   pub move_form : IsSound c' → (ms : List Signed) → MovesFacts c c' q ms → MovesForm (shape_of q) ms (fact_rows c q) (fact_rows c' q)

@@ -5,3 +5,5 @@ pub mod FactForms
 pub mod Standing
 pub mod RowLimits
 mod SameRows
+mod Often
+mod Adding

@@ -2,7 +2,6 @@
 use Rattle.std.proofs.Common.{◌≡◌, ◌+◌, ℕ, List, [], ◌∷◌, Option, Some, None, refl, sym, ◌∙◌, ap, subst, map, length}
 use Rattle.std.specs.Prelude.{is_some}
 use Rattle.std.specs.Option.{option_or}
-use Rattle.std.specs.List.{All}
 use Rattle.std.specs.Prelude.{Result, Ok, Err, IfOk, IfErr}
 use Rattle.ss_text.specs.Texts.{Text, Row}
 use Rattle.flow_law.specs.declared.shape.Shape.{Shape}
@@ -11,7 +10,7 @@ use Rattle.flow_law.specs.declared.refused.Stop.{Stop}
 use Rattle.flow_law.specs.declared.refused.Stop.TheVariants as stop
 use Rattle.flow_law.specs.declared.refused.IllegalLabel.{IllegalLabel}
 use Rattle.flow_law.specs.Facts.{Fact, illegal, illegal_table, illegal_column, conflict, refusal_by}
-use Rattle.flow_law.specs.FactRows.{row_width, fact_width, cell_behind, fact_in}
+use Rattle.flow_law.specs.FactRows.{row_width, fact_width, cell_behind, fact_row, fact_in, IsFactOf}
 use Rattle.flow_law.specs.FactTables.{tables}
 use Rattle.flow_law.specs.Labelled.{AllBear, BearLabel}
 use Rattle.flow_law.specs.Script.{script}
@@ -20,7 +19,7 @@ use Rattle.operator_law.specs.declared.delta.Signed.{Signed}
 use Rattle.unfold_op.specs.FactMoves.{facts_in, facts_moved}
 use Rattle.unfold_op.specs.OneTables.{OneTableValue}
 use Rattle.split_op.specs.Tables.{ScriptLines}
-use Rattle.split_op.specs.Wholes.{labelled, KeepsWhole, CanKeepWhole, BearsLabel, CanPrepareWhole}
+use Rattle.split_op.specs.Wholes.{labelled, KeepsWhole, CanKeepWhole, CanAddWhole, BearsLabel, CanPrepareWhole}
 use Rattle.view_engine.specs.Forms.{KeepsOne, MovesForm, CanKeepTables}
 
 -- a row has the same cell, and as many texts, where both forms have a variable column or neither has
@@ -115,9 +114,6 @@ module _ (shape : Shape) (label : Text) (t : OneTableValue) where
     pub can_prepare_one : (ms : List Signed) (new : List Row) → MovesForm shape ms old new → CanPrepareWhole label t ms
     can_prepare_one ms new m = record { bears = bears_one ms new m; old = old; new = new; keeps = h.keeps; moves = m.moves; few = m.few }
 
-    pub wide_one : (rows : List Row) → All (λ (row : Row). length row ≡ fact_width shape) rows → All (λ (row : Row). length row ≡ fact_width t.shape) rows
-    wide_one rows wide = λ k d lt. wide k d lt ∙ sym (width_alike t.shape shape h.columns.constants h.columns.variable)
-
     pub can_keep_one : (new : List Row) → CanKeepTables shape new → CanKeepWhole label t.shape new
     can_keep_one new can = record {
       can = record { few = can.few; legal = legal_column t.shape (facts_in t.shape new) (same_illegal new ∙ can.legal); clean = ap conflict (same_facts new) ∙ can.clean };
@@ -134,6 +130,24 @@ module _ (shape : Shape) (label : Text) (t : OneTableValue) where
       };
       keeps = k;
     }
+
+    -- a fact that comes to the table, by its key and its cell
+    module _ (f : Fact) (key : Row) (cell : Option (Text × Text)) (key_is : key ≡ f.key) (cell_is : cell ≡ f.cell) (form : IsFactOf shape f) (can : CanKeepTables shape (fact_row f ∷ old)) where
+      abbrev own : Fact
+      own = record { label = label; key = key; cell = cell }
+
+      own_is : f ≡ own
+      own_is = λ i. record { label = (can_keep_one (fact_row f ∷ old) can).bear.0 i; key = sym key_is i; cell = sym cell_is i }
+
+      pub can_add_one : CanAddWhole label t own old
+      can_add_one = record {
+        keeps = h.keeps;
+        form = subst (IsFactOf t.shape) own_is (record { key = form.key ∙ ap length (sym h.columns.constants); cell = form.cell ∙ sym h.columns.variable });
+        can = subst (λ (g : Fact). CanKeepWhole label t.shape (fact_row g ∷ old)) own_is (can_keep_one (fact_row f ∷ old) can);
+      }
+
+      pub kept_one : (other : Text) (s : OneTableValue) → label ≡ other → t.shape ≡ s.shape → KeepsWhole other s (fact_row own ∷ old) → KeepsOne shape other s (fact_row f ∷ old)
+      kept_one other s l e k = keeps_on other s l e (fact_row f ∷ old) (subst (λ (g : Fact). KeepsWhole other s (fact_row g ∷ old)) (sym own_is) k)
 
 -- what holds of a value holds of what is made of it
 pub told_ok : {T E : Type 0} (P Q : T → Type 0) (r : Result T E) → ((v : T) → P v → Q v) → IfOk r P → IfOk r Q

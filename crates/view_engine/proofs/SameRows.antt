@@ -1,9 +1,7 @@
 -- Tables keep the same facts in any order.
-use Rattle.std.proofs.Common.{◌≡◌, ◌+◌, ◌∷◌, [], ℕ, Bool, List, Some, None, true, false, cond, refl, sym, ◌∙◌, ap, subst, length, arith}
-use Rattle.std.specs.Prelude.{not, ◌||◌, nat_lt, option_map}
+use Rattle.std.proofs.Common.{◌≡◌, ◌+◌, [], ℕ, List, Some, None, refl, sym, ◌∙◌, ap, subst, map, arith, append-nil}
+use Rattle.std.specs.Prelude.{not, option_map}
 use Rattle.std.specs.Option.{option_or}
-use Rattle.std.specs.List.{AllByRecursion, list_any}
-use Rattle.std.proofs.lemmas.List.Elements.{recursion_from_All, All-from_recursion}
 use Rattle.ss_text.specs.Texts.{Text, Row}
 use Rattle.ss_text.specs.Label.{is_table_label, is_column_label}
 use Rattle.ss_text.proofs.KeyLemmas.{text_order}
@@ -14,17 +12,18 @@ use Rattle.view_def.specs.Query.{Query}
 use Rattle.view_def.specs.Profile.{IsViewOfProfile}
 use Rattle.flow_law.specs.declared.shape.Shape.{Shape}
 use Rattle.flow_law.specs.declared.refused.IllegalLabel.{IllegalLabel}
-use Rattle.flow_law.specs.Facts.{Fact, Pair, illegal, illegal_table, illegal_column}
-use Rattle.flow_law.specs.FactRows.{fact_width, fact_in}
+use Rattle.flow_law.specs.Facts.{Fact, Pair, illegal, illegal_table, illegal_column, conflict}
+use Rattle.flow_law.specs.FactRows.{fact_row, IsFactOf}
 use Rattle.flow_law.specs.Labelled.{BearLabel}
 use Rattle.flow_law.proofs.RefusedLemmas.{pair_total, pair_same}
 use Rattle.flow_law.proofs.SameFacts.{conflict_same}
-use Rattle.valuation_meaning.specs.Meaning.{shape_of}
+use Rattle.fact_tables.specs.Counted.{EachAsOften}
+use Rattle.valuation_meaning.specs.Meaning.{facts, shape_of}
 use Rattle.valuation_meaning.specs.Refusal.{refusal}
-use Rattle.operator_law.specs.declared.delta.Signed.{Signed}
-use Rattle.operator_law.specs.Bags.{MovesBag, SameBag, weigh, all_signed}
+use Rattle.valuation_meaning.proofs.EvalLemmas.{bear}
+use Rattle.fact_limits.proofs.FactsForm.{have_form, read_back}
+use Rattle.operator_law.specs.Bags.{MovesBag, SameBag}
 use Rattle.plan_law.specs.PlanMoves.{fact_rows}
-use Rattle.unfold_op.specs.FactMoves.{facts_in, facts_moved}
 use Rattle.unfold_op.specs.OneTables.{OneTableValue}
 use Rattle.unfold_op.proofs.BagMoves.{totals_move}
 use Rattle.split_op.proofs.SplitKeeps.{same_kept, same_all}
@@ -32,9 +31,10 @@ use Rattle.split_op.specs.Splits.{part_of}
 use Rattle.view_engine.specs.declared.tables.ViewTables.{ViewTables}
 use Rattle.view_engine.specs.declared.tables.ViewTables.TheVariants.{OneOfRows, OneOfCells, EachOfRows, EachOfCells}
 use Rattle.view_engine.specs.Forms.{seen, KeepsOne, KeepsTables, CanKeepTables, CanFillTables}
-use Rattle.view_engine.proofs.FactForms.{come_form, can_keep}
+use Rattle.view_engine.proofs.FactForms.{can_keep, in_rows}
 use Rattle.view_engine.proofs.OneForms.{can_keep_one}
 use Rattle.view_engine.proofs.EachForms.{can_keep_each}
+use Rattle.view_engine.proofs.Often.{same_rows, same_elements, each_holds, bear_same}
 
 module _ (fs gs : List Fact) (same : SameElements fs gs) where
   tables_same : illegal_table fs ≡ illegal_table gs
@@ -47,48 +47,26 @@ module _ (fs gs : List Fact) (same : SameElements fs gs) where
   unfolding illegal
   illegal_same shape = λ i. option_or (tables_same i) (columns_same shape.constants i)
 
--- the facts of the same rows
-any_weighs : (shape : Shape) (p : Fact → Bool) (rows : List Row) → nat_lt 0 (weigh (λ (row : Row). cond (p (fact_in shape row)) 1 0) rows) ≡ list_any p (facts_in shape rows)
-any_weighs shape p [] = refl
-any_weighs shape p (row ∷ rows) = by_test (p (fact_in shape row)) (weigh (λ (r : Row). cond (p (fact_in shape r)) 1 0) rows) (any_weighs shape p rows)
-  where
-    by_test : (b : Bool) (n : ℕ) → nat_lt 0 n ≡ list_any p (facts_in shape rows) → nat_lt 0 (cond b 1 0 + n) ≡ (b || list_any p (facts_in shape rows))
-    by_test true n rest = grind arith
-    by_test false n rest =
-        let none : cond false 1 0 + n ≡ n = omega arith in
-        ap (nat_lt 0) none ∙ rest
-
-elements_same : (shape : Shape) (xs ys : List Row) → SameBag xs ys → SameElements (facts_in shape xs) (facts_in shape ys)
-elements_same shape xs ys same = record { same = λ p. sym (any_weighs shape p xs) ∙ ap (nat_lt 0) (same (λ (row : Row). cond (p (fact_in shape row)) 1 0)) ∙ any_weighs shape p ys }
-
-all_come : (shape : Shape) (rows : List Row) → facts_moved shape (all_signed true rows) ≡ facts_in shape rows
-all_come shape [] = refl
-all_come shape (row ∷ rows) = ap (λ (fs : List Fact). fact_in shape row ∷ fs) (all_come shape rows)
-
-each_row : (P : Row → Type 0) (rows : List Row) → AllByRecursion (λ (m : Signed). P m.row) (all_signed true rows) → AllByRecursion P rows
-each_row P [] h = tt
-each_row P (row ∷ rows) h = (h.0, each_row P rows h.1)
-
 pub same_moves : (xs ys : List Row) → SameBag xs ys → MovesBag xs [] ys
 same_moves xs ys same f = ap (λ (n : ℕ). n + 0) (same f)
 
--- the fact rows of a view, in any order, can be kept where none are
-pub can_fill : (c : CatalogueValue) (q : Query) → IsViewOfProfile q → IsSound c → refusal c q ≡ None → (rows : List Row) → SameBag (fact_rows c q) rows → (t : ViewTables) → KeepsTables (shape_of q) t [] → CanFillTables (shape_of q) t rows
-can_fill c q profile sound allowed rows same t none =
+-- the facts of a view, in any order, can be kept where none are
+pub can_fill : (c : CatalogueValue) (q : Query) → IsViewOfProfile q → IsSound c → refusal c q ≡ None → (fs : List Fact) → EachAsOften (facts c q) fs → (t : ViewTables) → KeepsTables (shape_of q) t [] → CanFillTables (shape_of q) t fs
+can_fill c q profile sound allowed fs often t none =
     let shape = shape_of q in
-    let form = come_form c q profile sound rows same in
+    let form = each_holds (facts c q) fs often (IsFactOf shape) (have_form c q profile) in
     let can = can_keep c q profile sound allowed in
-    let moves = same_moves (fact_rows c q) rows same in
-    let elements = elements_same shape (fact_rows c q) rows same in
+    let elements = same_elements (facts c q) fs often in
+    let read = read_back shape fs form in
     record {
-      none = none;
-      wide = All-from_recursion (λ (row : Row). length row ≡ fact_width shape) rows (each_row (λ (row : Row). length row ≡ fact_width shape) rows (recursion_from_All (λ (m : Signed). length m.row ≡ fact_width shape) (all_signed true rows) form.wide));
-      can = record {
-        few = omega (arith, can.few, totals_move (fact_rows c q) rows [] moves);
-        legal = sym (illegal_same (facts_in shape (fact_rows c q)) (facts_in shape rows) elements shape) ∙ can.legal;
-        clean = sym (conflict_same (facts_in shape (fact_rows c q)) (facts_in shape rows) elements) ∙ can.clean;
-        bear = subst (BearLabel shape.label) (all_come shape rows) form.bear;
-      };
+      keeps = none;
+      form = form;
+      can = subst (CanKeepTables shape) (sym (append-nil (map fact_row fs))) (record {
+        few = omega (arith, can.few, totals_move (fact_rows c q) (map fact_row fs) [] (same_moves (fact_rows c q) (map fact_row fs) (same_rows (facts c q) fs often)));
+        legal = ap (illegal shape) read ∙ sym (illegal_same (facts c q) fs elements shape) ∙ ap (illegal shape) (sym (in_rows c q profile)) ∙ can.legal;
+        clean = ap conflict read ∙ sym (conflict_same (facts c q) fs elements) ∙ ap conflict (sym (in_rows c q profile)) ∙ can.clean;
+        bear = subst (BearLabel shape.label) (sym read) (bear_same (facts c q) fs often shape.label (bear c q shape refl (facts c q) refl));
+      });
     }
 
 -- tables that keep facts keep them in any order

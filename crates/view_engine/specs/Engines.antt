@@ -15,7 +15,6 @@ use Rattle.valuation_meaning.specs.Refusal.{refusal}
 use Rattle.plan_law.specs.PlanMoves.{fact_rows}
 use Rattle.plan_law.specs.Marks.{touched_by, flat_moved_by}
 use Rattle.plan_translate.specs.Plans.{query_in, PlanStands, PlanMoves}
-use Rattle.plan_translate.specs.Costs.{pairs_moved}
 use Rattle.view_engine.specs.declared.engine.Engine.{Engine}
 use Rattle.view_engine.specs.declared.moved.EngineMove.{EngineMove}
 use Rattle.view_engine.specs.declared.moved.EngineReady.{EngineReady}
@@ -46,10 +45,6 @@ pub record EngineMoves (c c' : CatalogueValue) (q : Query) (m : EngineMove) : Ty
   pub plan : PlanMoves c c' q m.plan
   pub allowed : refusal c' q ≡ None
   pub lines_are : lines_in m ≡ script (meaning c q) (meaning c' q)
-
--- the steps of a move
-abbrev pub steps_of : Engine → EngineMove → ℕ
-steps_of e m = pairs_moved e.plan m.plan
 
 -- four for each partial combination that holds a flat row of the changed row, and four for each such flat row
 abbrev pub four_each : CatalogueValue → Query → Change → ℕ

@@ -1,12 +1,12 @@
 -- What the tables of a view keep, whatever their form, and how moves of facts change them.
-use Rattle.std.specs.Prelude.{◌≡◌, ◌<◌, ◌^◌, Bool, true, false, List, [], Option, Some, None, length}
-use Rattle.std.specs.List.{All}
+use Rattle.std.specs.Prelude.{◌≡◌, ◌<◌, ◌^◌, Bool, true, false, List, [], ◌++◌, map, Option, Some, None, length}
+use Rattle.std.specs.List.{All, AllByRecursion}
 use Rattle.ss_text.specs.Texts.{Text, Row}
 use Rattle.flow_law.specs.declared.shape.Shape.{Shape}
 use Rattle.flow_law.specs.declared.line.TableLine.{TableLine}
 use Rattle.flow_law.specs.declared.refused.Stop.{Stop}
-use Rattle.flow_law.specs.Facts.{illegal, conflict}
-use Rattle.flow_law.specs.FactRows.{fact_width}
+use Rattle.flow_law.specs.Facts.{Fact, illegal, conflict}
+use Rattle.flow_law.specs.FactRows.{fact_row, fact_width, IsFactOf}
 use Rattle.flow_law.specs.Labelled.{BearLabel}
 use Rattle.flow_law.specs.Stops.{IsStop}
 use Rattle.operator_law.specs.declared.delta.Signed.{Signed}
@@ -51,11 +51,15 @@ pub record CanKeepTables (shape : Shape) (rows : List Row) : Type 0 where
   pub clean : conflict (facts_in shape rows) ≡ None
   pub bear : BearLabel shape.label (facts_in shape rows)
 
--- the facts in these rows, of this form, can be kept where none are
-pub record CanFillTables (shape : Shape) (t : ViewTables) (rows : List Row) : Type 0 where
-  pub none : KeepsTables shape t []
-  pub wide : All (λ (row : Row). length row ≡ fact_width shape) rows
-  pub can : CanKeepTables shape rows
+-- these facts, of this form, can be kept beside those in rows that are
+pub record CanAddTables (shape : Shape) (t : ViewTables) (facts : List Fact) (rows : List Row) : Type 0 where
+  pub keeps : KeepsTables shape t rows
+  pub form : AllByRecursion (IsFactOf shape) facts
+  pub can : CanKeepTables shape (map fact_row facts ++ rows)
+
+-- and where none are
+abbrev pub CanFillTables : Shape → ViewTables → List Fact → Type 0
+CanFillTables shape t facts = CanAddTables shape t facts []
 
 -- moves of facts of this form take rows to others, which can be counted
 pub record MovesForm (shape : Shape) (ms : List Signed) (old new : List Row) : Type 0 where

@@ -2,12 +2,14 @@
 ghost use Rattle.std.specs.Prelude.{◌≡◌, ◌≤◌, [], None, IfOk, OnOk};
 ghost use Rattle.view_def.specs.Query.{query_of};
 ghost use Rattle.view_def.specs.Profile.{IsViewOfProfile};
-ghost use Rattle.valuation_meaning.specs.Meaning.{shape_of};
+ghost use Rattle.fact_tables.specs.Counted.{EachAsOften, each_fact};
+ghost use Rattle.valuation_meaning.specs.Meaning.{facts as view_facts, shape_of};
 ghost use Rattle.valuation_meaning.specs.Refusal.{refusal};
 ghost use Rattle.view_engine.specs.Forms.{KeepsTables};
 ghost use Rattle.view_engine.specs.Engines.{view_in, EngineStands};
 
 use crate::{Engine, ViewTables};
+use fact_tables::{AllFacts, FactCell};
 use plan_translate::translate;
 use schema_model::Catalogue;
 use ss_text::{NoMemory, Steps};
@@ -27,15 +29,18 @@ fn tables_of(alloc: Global, view: &View) -> Result<ViewTables, NoMemory>
 }
 
 impl Engine {
-    /// The engine of a view that is not refused over a catalogue, for which the engine stands.
-    pub fn open<L: Ledger>(
+    /// The engine of a view that is not refused over a catalogue, for which the engine stands. The facts are the view's over
+    /// the catalogue.
+    pub fn open<C: FactCell, L: Ledger>(
         alloc: Global,
         catalogue: &Catalogue,
         view: &View,
+        facts: AllFacts<'_, C>,
         steps: &mut Steps<L>,
     ) -> Result<Engine, NoMemory>
         requires profile { IsViewOfProfile (query_of view.now) }
         requires allowed { refusal catalogue.now.databases (query_of view.now) ≡ None }
+        requires facts { EachAsOften (view_facts catalogue.now.databases (query_of view.now)) (each_fact facts) }
         ensures view { IfOk result (λ engine. view_in engine ≡ query_of view.now) }
         ensures stands { IfOk result (EngineStands catalogue.now.databases) }
         ensures steps { OnOk result (steps.new ≡ steps.old) }
@@ -45,7 +50,7 @@ impl Engine {
         let _databases = catalogue.databases();
         let mut tables = tables_of(alloc, view)?;
         let mut plan = translate(alloc, view)?;
-        let facts = plan.fill(alloc, catalogue)?;
+        plan.fill(alloc, catalogue)?;
         tables.fill(alloc, facts)?;
         Ok(Engine { plan, tables })
     }

@@ -7,7 +7,8 @@ ghost use Rattle.schema_model.specs.Changes.{after, after_all, is_well_formed};
 ghost use Rattle.schema_model.specs.Refusals.{fault, group_fault};
 ghost use Rattle.schema_model.specs.Sound.{IsSound};
 ghost use Rattle.plan_translate.specs.Plans.{PlanMoves};
-ghost use Rattle.view_engine.specs.Engines.{view_in, EngineStands, EngineMoves, IsViewStop, steps_of, row_limit};
+ghost use Rattle.plan_translate.specs.Costs.{CountsPairs};
+ghost use Rattle.view_engine.specs.Engines.{view_in, EngineStands, EngineMoves, IsViewStop, row_limit};
 
 use crate::{Engine, EngineMove};
 use flow_law::Stop;
@@ -51,7 +52,7 @@ impl Engine {
         requires stands { EngineStands catalogue.now.databases self.now }
         ensures moves { IfOk result (EngineMoves catalogue.now.databases (after catalogue.now.databases change.now) (view_in self.now)) }
         ensures stops { IfErr result (IsViewStop (after catalogue.now.databases change.now) (view_in self.now)) }
-        ensures cost { IfOk result (λ m. steps.new ≤ steps.old + steps_of self.now m) }
+        ensures cost { IfOk result (λ m. CountsPairs catalogue.now.databases (after catalogue.now.databases change.now) (view_in self.now) m.plan steps.old steps.new) }
         ensures within { result ≢ Err Stop.NoMemory → ForSome (row_limit catalogue.now.databases (view_in self.now) change.now) (λ n. steps.new ≤ steps.old + n) }
         ensures rises { steps.old ≤ steps.new }
     {
@@ -74,7 +75,7 @@ impl Engine {
         requires stands { EngineStands catalogue.now.databases self.now }
         ensures moves { IfOk result (EngineMoves catalogue.now.databases (after_all catalogue.now.databases changes.now) (view_in self.now)) }
         ensures stops { IfErr result (IsViewStop (after_all catalogue.now.databases changes.now) (view_in self.now)) }
-        ensures cost { IfOk result (λ m. steps.new ≤ steps.old + steps_of self.now m) }
+        ensures cost { IfOk result (λ m. CountsPairs catalogue.now.databases (after_all catalogue.now.databases changes.now) (view_in self.now) m.plan steps.old steps.new) }
         ensures rises { steps.old ≤ steps.new }
     {
         let _databases = catalogue.databases();

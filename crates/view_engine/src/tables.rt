@@ -1,12 +1,15 @@
 //! The tables of a view, by the form that they have.
-ghost use Rattle.std.specs.Prelude.{◌≡◌, [], List, IfOk, IfErr, OnOk, true, false};
+ghost use Rattle.std.specs.Prelude.{◌≡◌, [], ◌∷◌, ◌++◌, List, map, IfOk, IfErr, OnOk, true, false};
 ghost use Rattle.std.specs.Option.{ForSome};
 ghost use Rattle.ss_text.specs.Texts.{Row as RowValue};
 ghost use Rattle.ss_text.specs.Label.{is_table_label};
 ghost use Rattle.flow_law.specs.declared.shape.Shape.{Shape as ShapeValue};
+ghost use Rattle.flow_law.specs.FactRows.{fact_row};
+ghost use Rattle.fact_tables.specs.Counted.{each_fact};
 ghost use Rattle.operator_law.specs.Bags.{MovesBag};
-ghost use Rattle.view_engine.specs.Forms.{KeepsTables, CanKeepTables, CanFillTables, MovesTables, TellsLines, StopsSo, IsReadyFor, made_for, is_one};
+ghost use Rattle.view_engine.specs.Forms.{KeepsTables, CanKeepTables, CanAddTables, CanFillTables, MovesTables, TellsLines, StopsSo, IsReadyFor, made_for, is_one};
 
+use fact_tables::{AllFacts, Fact, FactCell};
 use flow_law::{Shape, Stop, TableLine};
 use operator_law::{Delta, Kept, Operator};
 use split_op::{Split, SplitReady, Whole};
@@ -172,16 +175,34 @@ impl ViewTables {
         }
     }
 
-    /// Keeps the facts in these rows, where none are kept. After `NoMemory` the tables keep no facts that are known.
-    pub fn fill(&mut self, alloc: Global, facts: Vec<Row>) -> Result<(), NoMemory>
-        requires { (shape : ShapeValue) × CanFillTables shape self.old facts.items }
-        ensures { OnOk result ((shape : ShapeValue) → CanFillTables shape self.old facts.items → KeepsTables shape self.new facts.items) }
+    // Keeps a fact beside those that are kept. After `NoMemory` the tables keep no facts that are known.
+    fn add<C: FactCell>(&mut self, alloc: Global, fact: &Fact<'_, C>) -> Result<(), NoMemory>
+        requires { (shape : ShapeValue) × (rows : List RowValue) × CanAddTables shape self.old (fact.now ∷ []) rows }
+        ensures { OnOk result ((shape : ShapeValue) (rows : List RowValue) → CanAddTables shape self.old (fact.now ∷ []) rows → KeepsTables shape self.new (fact_row fact.now ∷ rows)) }
     {
+        let key = fact.copy_key(alloc)?;
+        let cell = fact.copy_cell()?;
         match self {
-            ViewTables::OneOfRows(whole) => whole.fill(alloc, facts)?,
-            ViewTables::OneOfCells(whole) => whole.fill(alloc, facts)?,
-            ViewTables::EachOfRows(split, _) => split.fill(alloc, facts)?,
-            ViewTables::EachOfCells(split, _) => split.fill(alloc, facts)?,
+            ViewTables::OneOfRows(whole) => whole.add(key, cell)?,
+            ViewTables::OneOfCells(whole) => whole.add(key, cell)?,
+            ViewTables::EachOfRows(split, _) => split.add(alloc, fact.label().text(), key, cell)?,
+            ViewTables::EachOfCells(split, _) => split.add(alloc, fact.label().text(), key, cell)?,
+        }
+        Ok(())
+    }
+
+    /// Keeps all these facts, where none are kept, the last first. After `NoMemory` the tables keep no facts that are known.
+    pub fn fill<C: FactCell>(
+        &mut self,
+        alloc: Global,
+        facts: AllFacts<'_, C>,
+    ) -> Result<(), NoMemory>
+        requires { (shape : ShapeValue) × CanFillTables shape self.old (each_fact facts) }
+        ensures { OnOk result ((shape : ShapeValue) → CanFillTables shape self.old (each_fact facts.entry) → KeepsTables shape self.new (map fact_row (each_fact facts.entry))) }
+    {
+        let mut left = facts;
+        while let Some(fact) = left.take_last() {
+            self.add(alloc, &fact)?;
         }
         Ok(())
     }
