@@ -1,5 +1,5 @@
 -- Sorted facts once each, and those that come again, are as often as all of them.
-use Rattle.std.proofs.Common.{◌≡◌, ◌+◌, ◌<◌, ◌≤◌, ℕ, Bool, true, false, cond, List, [], ◌∷◌, ◌++◌, length, drop, get_or, refl, sym, ap, ◌∙◌, arith}
+use Rattle.std.proofs.Common.{◌≡◌, ◌+◌, ◌<◌, ℕ, Bool, true, false, cond, List, [], ◌∷◌, ◌++◌, length, refl, sym, ap, ◌∙◌, arith}
 use Rattle.std.specs.List.{sum_by}
 use Rattle.std.specs.List.Sorted.{IsPermutation, IsSorted}
 use Rattle.std.specs.Ordering.{eq_by_cmp}
@@ -11,13 +11,6 @@ use Rattle.flow_law.specs.FactOrder.{fact_cmp, fact_total}
 use Rattle.flow_law.proofs.SameFacts.{fact_same}
 use Rattle.fact_tables.specs.Counted.{EachAsOften, repeats_in}
 use Rattle.fact_tables.proofs.SortedLemmas.{tail_sorted, equal_is, one_more}
-
--- the repeats of facts with two at the front, and without
-pub two_repeat : (fs : List Fact) (f g : Fact) → 2 ≤ length fs → f ≡ get_or fs 0 f → g ≡ get_or fs 1 g
-    → repeats_in fs ≡ cond (eq_by_cmp fact_cmp f g) (g ∷ repeats_in (drop 1 fs)) (repeats_in (drop 1 fs))
-two_repeat [] f g le first second = absurd (omega arith)
-two_repeat (x ∷ []) f g le first second = absurd (omega arith)
-two_repeat (x ∷ y ∷ fs) f g le first second = rw (first, second) refl
 
 pub none_repeat : (fs : List Fact) → length fs < 2 → repeats_in fs ≡ []
 none_repeat [] lt = refl

@@ -58,9 +58,6 @@ module _ (i : Inside) (is : IsPlan i) where
       let joins : length i.joins.items ≡ length (joints_with (bases_of q)) = sym (length-map i.joins.items joint_in) ∙ ap length is.joints ∙ sym (ap length (plan_joints_with q is.profile)) in
       omega (arith, bases_long, with, bases, joins)
 
-  pub joints_long : length i.joins.items ≡ length (plan_joints q q.decls)
-  joints_long = sym (length-map i.joins.items joint_in) ∙ ap length is.joints
-
   -- a plan that reads rows has one join
   pub one_join : is_read q ≡ true → length i.joins.items ≡ 1
   one_join read = omega (arith, read_two (specs_from q 0 q.decls) read, tests_long, joins_long)

@@ -7,13 +7,11 @@ use Rattle.flow_law.specs.declared.shape.Shape.{Shape}
 use Rattle.flow_law.specs.Facts.{Fact}
 use Rattle.flow_law.specs.FactRows.{fact_row}
 use Rattle.flow_law.specs.Labelled.{AllBear}
-use Rattle.unfold_op.specs.FactMoves.{facts_in}
 use Rattle.unfold_op.specs.OneTables.{OneTableValue, KeepsFacts, CanAdd, CanKeep}
-use Rattle.split_op.specs.Labels.{label_in, rows_of}
+use Rattle.split_op.specs.Labels.{rows_of}
 use Rattle.split_op.specs.Parts.{SameColumns, KeepsPart, KeepsParts}
-use Rattle.split_op.specs.Splits.{SplitValue, KeepsSplit, part_of}
+use Rattle.split_op.specs.Splits.{SplitValue, part_of}
 use Rattle.split_op.specs.Added.{CanAddPart, CanAddSplit}
-use Rattle.split_op.specs.Wholes.{CanAddWhole}
 use Rattle.split_op.proofs.Columns.{same_facts, same_form, can_keep_columns}
 use Rattle.split_op.proofs.SplitMoves.{bear_own, can_keep_label}
 
@@ -74,12 +72,3 @@ module _ {I : Type 0} (table : I → OneTableValue) (s : SplitValue I) (fact : F
       by_test : (b : Bool) → text_eq q fact.label ≡ b → KeepsPart table s.shape (now q) (cond b (fact_row fact ∷ rows_of q rows) (rows_of q rows))
       by_test true e = subst (λ (l : Text). KeepsPart table s.shape (now l) (fact_row fact ∷ rows_of l rows)) (sym (equal_is text_order q fact.label e)) own
       by_test false e = subst (λ (o : Option I). KeepsPart table s.shape o (rows_of q rows)) (sym (others q (turned text_order fact.label q ∙ e))) (h.keeps.parts q)
-
--- a fact of the one table
-pub can_add_whole : (label : Text) (t : OneTableValue) (fact : Fact) (rows : List Row) → fact.label ≡ label → CanAddWhole label t fact rows → CanAdd t fact rows
-can_add_whole label t fact rows same h = record {
-  keeps = h.keeps.keeps;
-  form = h.form;
-  bear = subst (λ (l : Text). AllBear l (facts_in t.shape (fact_row fact ∷ rows))) (sym same) h.can.bear;
-  can = h.can.can;
-}

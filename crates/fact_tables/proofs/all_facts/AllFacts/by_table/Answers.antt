@@ -1,6 +1,5 @@
 use Rattle.std.proofs.Common.{subst}
 use Rattle.flow_law.specs.InOrder.{AreTables}
-use Rattle.flow_law.specs.Tables.{TablesValue}
 use Rattle.flow_law.proofs.FactTableLemmas.{tables_in_order}
 use Rattle.fact_tables.specs.Counted.{AllFactsValue}
 use Rattle.fact_tables.proofs.all_facts.AllFacts.by_table.Goals as goal

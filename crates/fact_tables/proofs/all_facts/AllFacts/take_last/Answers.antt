@@ -1,4 +1,3 @@
-use Rattle.std.proofs.Common.{◌∙◌}
 use Rattle.fact_tables.proofs.OrderLemmas.{strict_left, bear_left}
 use Rattle.fact_tables.proofs.all_facts.AllFacts.take_last.Goals as goal
 
