@@ -3,11 +3,16 @@ ghost use Rattle.std.specs.Prelude.{◌≡◌, ◌<◌, ◌∷◌, ◌++◌, ◌
 ghost use Rattle.std.specs.List.{AllByRecursion};
 ghost use Rattle.row_shelves.specs.Shelves.{all_rows, IsShelf, OpenAt};
 
+use crate::row_shelf::FULL;
 use crate::{KeptRow, RowShelf};
 use ss_text::NoMemory;
 use std::alloc::Global;
 
-/// Adds a row behind all others: on the last shelf, or on a new one where the row would fill the last.
+/// So many places of a shelf stay free where rows come in order: rows that come between them later find room, where a
+/// full shelf would be cut in two by the first of them.
+const SPARE: usize = FULL / 8;
+
+/// Adds a row behind all others: on the last shelf, or on a new one where the last has few places left.
 pub(crate) fn append(
     alloc: Global,
     shelves: &mut Vec<RowShelf>,
@@ -26,7 +31,7 @@ pub(crate) fn append(
     Ok(())
 }
 
-// Whether the last shelf has room for more than one row.
+// Whether the last shelf has room for more rows than are spared.
 fn ends_open(shelves: &[RowShelf]) -> bool
     ensures some { IsTrue result → 0 < length shelves.now }
     ensures room { IsTrue result → OpenAt shelves.now (length shelves.now - 1) }
@@ -36,8 +41,7 @@ fn ends_open(shelves: &[RowShelf]) -> bool
         return false;
     }
     let shelf = &shelves[count - 1];
-    let (rows, capacity) = (shelf.len(), shelf.capacity());
-    rows < capacity && rows + 1 < capacity
+    shelf.capacity() - shelf.len() > SPARE
 }
 
 fn append_last(shelves: &mut Vec<RowShelf>, row: KeptRow)

@@ -8,37 +8,6 @@ ghost use Rattle.row_shelves.specs.Blanks.{IsNewShelf};
 use crate::RowShelf;
 use crate::row_shelf::FULL;
 
-// Moves the last row of a shelf to the front of another.
-fn move_last(shelf: &mut RowShelf, tail: &mut RowShelf)
-    requires some { 0 < vec_len shelf.old }
-    requires room { vec_len tail.old < vec_capacity tail.old }
-    ensures both { shelf.new.items ++ tail.new.items ≡ shelf.old.items ++ tail.old.items }
-    ensures shelf_len { vec_len shelf.new + 1 ≡ vec_len shelf.old }
-    ensures tail_len { vec_len tail.new ≡ vec_len tail.old + 1 }
-    ensures shelf_capacity { vec_capacity shelf.new ≡ vec_capacity shelf.old }
-    ensures tail_capacity { vec_capacity tail.old ≤ vec_capacity tail.new }
-{
-    let Some(row) = shelf.pop() else {
-        unreachable!()
-    };
-    tail.insert(0, row);
-}
-
-// Moves so many last rows of a shelf to the front of another, in their order.
-fn move_lasts(shelf: &mut RowShelf, tail: &mut RowShelf, count: usize)
-    requires some { count ≤ vec_len shelf.old }
-    requires room { vec_len tail.old + count ≤ vec_capacity tail.old }
-    ensures both { shelf.new.items ++ tail.new.items ≡ shelf.old.items ++ tail.old.items }
-    ensures shelf_len { vec_len shelf.new + count ≡ vec_len shelf.old }
-    ensures tail_len { vec_len tail.new ≡ vec_len tail.old + count }
-    ensures shelf_capacity { vec_capacity shelf.new ≡ vec_capacity shelf.old }
-    ensures tail_capacity { vec_capacity tail.old ≤ vec_capacity tail.new }
-{
-    for _ in 0..count {
-        move_last(shelf, tail);
-    }
-}
-
 // Cuts a long shelf in two: half of what a shelf has room for goes to the new one.
 fn split(shelves: &mut Vec<RowShelf>, place: usize, mut tail: RowShelf)
     requires there { place < length shelves.old.items }
@@ -53,7 +22,7 @@ fn split(shelves: &mut Vec<RowShelf>, place: usize, mut tail: RowShelf)
     ensures capacity { vec_capacity shelves.new ≡ vec_capacity shelves.old }
 {
     let shelf = &mut shelves[place];
-    move_lasts(shelf, &mut tail, FULL / 2);
+    shelf.cut(shelf.len() - FULL / 2, &mut tail);
     let Ok(()) = shelves.insert(place + 1, tail) else {
         unreachable!()
     };

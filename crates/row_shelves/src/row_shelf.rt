@@ -3,7 +3,7 @@
 //! A search for the shelf of a key compares with the first keys of many shelves. Mostly their fronts decide, which stand
 //! in the vector of the shelves, so that no row is fetched. What may make another row the first sets the front anew;
 //! what changes cells and columns leaves the keys, and so the front.
-ghost use Rattle.std.specs.Prelude.{◌≡◌, ◌<◌, ◌≤◌, ◌∷◌, ◌++◌, ◌+◌, [], map, insert, remove, length, slice_index_or, option_to_list, IfOk, OnOk, IsSome, ◌↔◌, ℕ};
+ghost use Rattle.std.specs.Prelude.{◌≡◌, ◌<◌, ◌≤◌, ◌∷◌, ◌++◌, ◌+◌, [], map, insert, remove, take, drop, length, slice_index_or, IfOk, OnOk, ℕ};
 ghost use Rattle.std.specs.List.{All};
 ghost use Rattle.std.specs.Vec.{vec_len, vec_capacity};
 ghost use Rattle.ss_text.specs.Texts.{row_cmp};
@@ -98,16 +98,20 @@ impl RowShelf {
         self.front = front_of_first(&self.rows);
     }
 
-    /// Takes the last row out.
-    pub(crate) fn pop(&mut self) -> Option<KeptRow>
-        ensures items { self.old.items ≡ self.new.items ++ option_to_list result }
-        ensures variant { IsSome result ↔ (0 < vec_len self.old) }
-        ensures len { vec_len self.new + length (option_to_list result) ≡ vec_len self.old }
+    /// Moves the rows from a place on to a shelf without any, which has room for them.
+    pub(crate) fn cut(&mut self, place: usize, tail: &mut RowShelf)
+        requires place { place ≤ vec_len self.old }
+        requires none { vec_len tail.old ≡ 0 }
+        requires room { vec_len self.old ≤ place + vec_capacity tail.old }
+        ensures both { self.new.items ++ tail.new.items ≡ self.old.items }
+        ensures len { vec_len self.new ≡ place }
+        ensures tail_len { place + vec_len tail.new ≡ vec_len self.old }
         ensures capacity { vec_capacity self.new ≡ vec_capacity self.old }
+        ensures tail_capacity { vec_capacity tail.new ≡ vec_capacity tail.old }
     {
-        let last = self.rows.pop();
+        move_rows(&mut self.rows, place, &mut tail.rows);
         self.front = front_of_first(&self.rows);
-        last
+        tail.front = front_of_first(&tail.rows);
     }
 
     /// Puts a row at this place, for which there is room.
@@ -182,6 +186,20 @@ impl RowShelf {
         ensures capacity { vec_capacity self.new ≡ vec_capacity self.old }
     {
         remove_cells(&mut self.rows, place);
+    }
+}
+
+// Moves the rows from a place on behind those of another vector, which has room for them.
+fn move_rows(rows: &mut Vec<KeptRow>, place: usize, tail: &mut Vec<KeptRow>)
+    requires place { place ≤ vec_len rows.old }
+    requires room { vec_len rows.old + vec_len tail.old ≤ place + vec_capacity tail.old }
+    ensures left { rows.new.items ≡ take place rows.old.items }
+    ensures moved { tail.new.items ≡ tail.old.items ++ drop place rows.old.items }
+    ensures capacity { vec_capacity rows.new ≡ vec_capacity rows.old }
+    ensures tail_capacity { vec_capacity tail.new ≡ vec_capacity tail.old }
+{
+    for row in rows.drain(place..) {
+        tail.push_reserved(row);
     }
 }
 
