@@ -1,5 +1,5 @@
 -- What the first bytes of a file say of all of them.
-use Rattle.std.proofs.Common.{◌≡◌, ◌<◌, ◌≤◌, ◌+◌, ◌++◌, ◌∙◌, ℕ, List, Option, Some, None, refl, sym, ap, subst, length, take, drop, min, unwrap_or, option_map, arith}
+use Rattle.std.proofs.Common.{◌≡◌, ◌<◌, ◌≤◌, ◌++◌, ◌∙◌, ℕ, List, Option, Some, None, refl, sym, ap, length, take, drop, min, unwrap_or, option_map, arith}
 use Rattle.std.proofs.lemmas.List.{take-append-drop, length-take, take_all}
 use Rattle.outside.specs.Counts.{Rose}
 use Rattle.csv_catalog.specs.declared.judge.FileFault.{FileFault}

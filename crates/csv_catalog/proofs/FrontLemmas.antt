@@ -1,6 +1,5 @@
 -- What the first bytes of a file show of it.
-use Rattle.std.proofs.Common.{◌≡◌, ◌<◌, ◌≤◌, ◌+◌, ◌∷◌, ◌++◌, ◌∙◌, [], ℕ, List, Bool, Option, Some, None, true, false, refl, sym, ap, subst, inl, inr, length, drop, unwrap_or, arith, append_assoc}
-use Rattle.std.specs.Prelude.{cond}
+use Rattle.std.proofs.Common.{◌≡◌, ◌<◌, ◌≤◌, ◌+◌, ◌∷◌, ◌++◌, ◌∙◌, [], ℕ, List, Some, None, refl, ap, inl, inr, length, drop, unwrap_or, arith, append_assoc}
 use Rattle.std.proofs.lemmas.Bool.{cases_Bool}
 use Rattle.csv.specs.Machine.{Read, step, is_end, ends_at_end, next_record, fields_after, field_after}
 use Rattle.csv.specs.Reading.{Reached, default_config, strip_bom, is_bom}

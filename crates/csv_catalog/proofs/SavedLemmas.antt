@@ -1,9 +1,7 @@
 -- What the saving of a relation does, where it is there and where it is gone.
-use Rattle.std.proofs.Common.{◌≡◌, ◌∷◌, [], Option, None, Some, sym, ap, subst}
-use Rattle.std.specs.Prelude.{Result}
+use Rattle.std.proofs.Common.{◌≡◌, Option, None, Some, sym, ap}
 use Rattle.std.specs.Option.{option_map_or}
-use Rattle.effects.specs.declared.stop.Stop.{Stop}
-use Rattle.effects.specs.Effects.{Effect, Write, Remove, World, Does}
+use Rattle.effects.specs.Effects.{Effect, Write, Remove}
 use Rattle.schema_model.specs.declared.pair.Pair.{Pair}
 use Rattle.schema_model.specs.Catalogue.{RelationValue, CatalogueValue, relation_of}
 use Rattle.ss_text.specs.Texts.{Text}
@@ -28,7 +26,3 @@ module _ (c : CatalogueValue) (p : Pair) where
 
     pub saved_as_remove : None ≡ relation_of c p.db p.rel → pair_saved c p ≡ Remove folder file
     saved_as_remove e = rw (at, named) (saved_remove e)
-
--- the same effect under two names
-pub does_as : {A : Type 0} (e f : Effect) (w v : World) (r : Result A Stop) → e ≡ f → Does (f ∷ []) w v r → Does (e ∷ []) w v r
-does_as e f w v r same did = subst (λ (x : Effect). Does (x ∷ []) w v r) (sym same) did

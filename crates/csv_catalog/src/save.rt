@@ -1,8 +1,8 @@
 //! The saving of what has changed.
-ghost use Rattle.std.specs.Prelude.{◌≡◌, Some, true, ◌≢◌, ◌∷◌, ◌++◌, [], not, filter, IfOk, IfErr, option_map};
+ghost use Rattle.std.specs.Prelude.{◌≡◌, Some, true, ◌∷◌, ◌++◌, [], not, filter, IfOk, option_map};
 ghost use Rattle.std.specs.Option.{option_copied};
-ghost use Rattle.effects.specs.Effects.{Does, Remove, world_of};
-ghost use Rattle.effects.specs.Blame.{StoreBlames};
+ghost use Rattle.effects.specs.Effects.{Remove};
+ghost use Rattle.effects.specs.Performing.{Performs};
 ghost use Rattle.schema_model.specs.Catalogue.{relation_of};
 ghost use Rattle.schema_model.specs.States.{plain_relation};
 ghost use Rattle.std.specs.List.{list_all};
@@ -31,11 +31,8 @@ pub fn save_changed<F: Folders>(
     databases: &[Text],
     pairs: &[Pair],
 ) -> Result<(), Stop>
-    ensures does { (o : _) → Does (saved catalogue.now.databases databases.now pairs.now) (world_of (F.state store.old) o) (world_of (F.state store.new) o) result }
+    ensures performs { Performs (saved catalogue.now.databases databases.now pairs.now) (F.state store.old) (F.state store.new) result }
     ensures holds { IfOk result (λ _. (t u : Tree) → (F.state store.old).tree ≡ Some t → (F.state store.new).tree ≡ Some u → list_all is_table_label databases.now ≡ true → HoldsSaved catalogue.now.databases databases.now pairs.now t u) }
-    ensures reads { (F.state store.new).read_faults ≡ (F.state store.old).read_faults }
-    ensures no_read { IfErr result (λ e. e ≢ Stop.ReadFault) }
-    ensures blames { StoreBlames (F.state store.old) (F.state store.new) result }
 {
     save_steps(alloc, store, catalogue, databases, pairs)?;
     Ok(())
@@ -50,10 +47,7 @@ fn save_steps<F: Folders>(
     databases: &[Text],
     pairs: &[Pair],
 ) -> Result<(), Stop>
-    ensures does { (o : _) → Does (saved catalogue.now.databases databases.now pairs.now) (world_of (F.state store.old) o) (world_of (F.state store.new) o) result }
-    ensures reads { (F.state store.new).read_faults ≡ (F.state store.old).read_faults }
-    ensures no_read { IfErr result (λ e. e ≢ Stop.ReadFault) }
-    ensures blames { StoreBlames (F.state store.old) (F.state store.new) result }
+    ensures { Performs (saved catalogue.now.databases databases.now pairs.now) (F.state store.old) (F.state store.new) result }
 {
     let there = those_there(alloc, catalogue, databases)?;
     let gone = those_gone(alloc, catalogue, databases)?;
@@ -111,10 +105,7 @@ fn save_there<F: Folders>(
     there: &[Text],
     pairs: &[Pair],
 ) -> Result<(), Stop>
-    ensures does { (o : _) → Does (folders_made there.now ++ pairs_saved catalogue.now.databases pairs.now) (world_of (F.state store.old) o) (world_of (F.state store.new) o) result }
-    ensures reads { (F.state store.new).read_faults ≡ (F.state store.old).read_faults }
-    ensures no_read { IfErr result (λ e. e ≢ Stop.ReadFault) }
-    ensures blames { StoreBlames (F.state store.old) (F.state store.new) result }
+    ensures { Performs (folders_made there.now ++ pairs_saved catalogue.now.databases pairs.now) (F.state store.old) (F.state store.new) result }
 {
     make_folders(alloc, store, there)?;
     save_pairs(alloc, store, catalogue, pairs)?;
@@ -124,10 +115,7 @@ fn save_there<F: Folders>(
 // Makes the folders of these databases, in order, where they are missing.
 #[tactic(auto, using(effects::proofs::EffectLemmas::each_stops, effects::proofs::EffectLemmas::each_ends, effects::proofs::EffectLemmas::doing_all))]
 fn make_folders<F: Folders>(alloc: Global, store: &mut F, databases: &[Text]) -> Result<(), Stop>
-    ensures does { (o : _) → Does (folders_made databases.now) (world_of (F.state store.old) o) (world_of (F.state store.new) o) result }
-    ensures reads { (F.state store.new).read_faults ≡ (F.state store.old).read_faults }
-    ensures no_read { IfErr result (λ e. e ≢ Stop.ReadFault) }
-    ensures blames { StoreBlames (F.state store.old) (F.state store.new) result }
+    ensures { Performs (folders_made databases.now) (F.state store.old) (F.state store.new) result }
 {
     for db in databases {
         make_database(alloc, store, db)?;
@@ -137,10 +125,7 @@ fn make_folders<F: Folders>(alloc: Global, store: &mut F, databases: &[Text]) ->
 
 #[tactic(auto, using(effects::proofs::EffectLemmas::none_off, effects::proofs::EffectLemmas::nothing_yet))]
 fn make_database<F: Folders>(alloc: Global, store: &mut F, db: &Text) -> Result<bool, Stop>
-    ensures does { (o : _) → Does (folders_made (db.now ∷ [])) (world_of (F.state store.old) o) (world_of (F.state store.new) o) result }
-    ensures reads { (F.state store.new).read_faults ≡ (F.state store.old).read_faults }
-    ensures no_read { IfErr result (λ e. e ≢ Stop.ReadFault) }
-    ensures blames { StoreBlames (F.state store.old) (F.state store.new) result }
+    ensures { Performs (folders_made (db.now ∷ [])) (F.state store.old) (F.state store.new) result }
 {
     let folder = database_folder(alloc, db)?;
     make_folder(alloc, store, &folder)
@@ -149,10 +134,7 @@ fn make_database<F: Folders>(alloc: Global, store: &mut F, db: &Text) -> Result<
 // Removes the folders of these databases, in order, where nothing is left in them.
 #[tactic(auto, using(effects::proofs::EffectLemmas::each_stops, effects::proofs::EffectLemmas::each_ends, effects::proofs::EffectLemmas::doing_all))]
 fn remove_folders<F: Folders>(alloc: Global, store: &mut F, databases: &[Text]) -> Result<(), Stop>
-    ensures does { (o : _) → Does (folders_removed databases.now) (world_of (F.state store.old) o) (world_of (F.state store.new) o) result }
-    ensures reads { (F.state store.new).read_faults ≡ (F.state store.old).read_faults }
-    ensures no_read { IfErr result (λ e. e ≢ Stop.ReadFault) }
-    ensures blames { StoreBlames (F.state store.old) (F.state store.new) result }
+    ensures { Performs (folders_removed databases.now) (F.state store.old) (F.state store.new) result }
 {
     for db in databases {
         remove_database(alloc, store, db)?;
@@ -162,10 +144,7 @@ fn remove_folders<F: Folders>(alloc: Global, store: &mut F, databases: &[Text]) 
 
 #[tactic(auto, using(effects::proofs::EffectLemmas::none_off, effects::proofs::EffectLemmas::nothing_yet))]
 fn remove_database<F: Folders>(alloc: Global, store: &mut F, db: &Text) -> Result<bool, Stop>
-    ensures does { (o : _) → Does (folders_removed (db.now ∷ [])) (world_of (F.state store.old) o) (world_of (F.state store.new) o) result }
-    ensures reads { (F.state store.new).read_faults ≡ (F.state store.old).read_faults }
-    ensures no_read { IfErr result (λ e. e ≢ Stop.ReadFault) }
-    ensures blames { StoreBlames (F.state store.old) (F.state store.new) result }
+    ensures { Performs (folders_removed (db.now ∷ [])) (F.state store.old) (F.state store.new) result }
 {
     let folder = database_folder(alloc, db)?;
     remove_folder(alloc, store, &folder)
@@ -179,10 +158,7 @@ fn save_pairs<F: Folders>(
     catalogue: &Catalogue,
     pairs: &[Pair],
 ) -> Result<(), Stop>
-    ensures does { (o : _) → Does (pairs_saved catalogue.now.databases pairs.now) (world_of (F.state store.old) o) (world_of (F.state store.new) o) result }
-    ensures reads { (F.state store.new).read_faults ≡ (F.state store.old).read_faults }
-    ensures no_read { IfErr result (λ e. e ≢ Stop.ReadFault) }
-    ensures blames { StoreBlames (F.state store.old) (F.state store.new) result }
+    ensures { Performs (pairs_saved catalogue.now.databases pairs.now) (F.state store.old) (F.state store.new) result }
 {
     for pair in pairs {
         save_pair(alloc, store, catalogue, pair)?;
@@ -198,10 +174,7 @@ fn save_pair<F: Folders>(
     catalogue: &Catalogue,
     pair: &Pair,
 ) -> Result<(), Stop>
-    ensures does { (o : _) → Does (pair_saved catalogue.now.databases pair.now ∷ []) (world_of (F.state store.old) o) (world_of (F.state store.new) o) result }
-    ensures reads { (F.state store.new).read_faults ≡ (F.state store.old).read_faults }
-    ensures no_read { IfErr result (λ e. e ≢ Stop.ReadFault) }
-    ensures blames { StoreBlames (F.state store.old) (F.state store.new) result }
+    ensures { Performs (pair_saved catalogue.now.databases pair.now ∷ []) (F.state store.old) (F.state store.new) result }
 {
     let folder = database_folder(alloc, &pair.db)?;
     let file = relation_file(alloc, &pair.rel)?;
@@ -214,10 +187,7 @@ fn save_pair<F: Folders>(
 
 // Removes a file.
 fn removed<F: Folders>(alloc: Global, store: &mut F, folder: &Text, file: &Text) -> Result<(), Stop>
-    ensures does { (o : _) → Does (Remove folder.now file.now ∷ []) (world_of (F.state store.old) o) (world_of (F.state store.new) o) result }
-    ensures reads { (F.state store.new).read_faults ≡ (F.state store.old).read_faults }
-    ensures no_read { IfErr result (λ e. e ≢ Stop.ReadFault) }
-    ensures blames { StoreBlames (F.state store.old) (F.state store.new) result }
+    ensures { Performs (Remove folder.now file.now ∷ []) (F.state store.old) (F.state store.new) result }
 {
     match remove_file(alloc, store, folder, file) {
         Ok(_) => Ok(()),

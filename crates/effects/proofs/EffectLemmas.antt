@@ -9,6 +9,7 @@ use Rattle.outside.specs.States.{StoreState, SinkState}
 use Rattle.outside.specs.Tree.{Tree, folder_path, BrokeOff, FolderBrokeOff, MayBreakOff, FolderMayBreakOff}
 use Rattle.outside.specs.Reading.{OnlyRead}
 use Rattle.effects.specs.Effects.{Effect, Write, Remove, MakeFolder, RemoveFolder, Print, Contents, stored_of, contents, after, performed, Torn, Partly, Does, Doing, world_of}
+use Rattle.effects.specs.Performing.{Performs, Performing}
 use Rattle.effects.specs.declared.stop.Stop.{Stop}
 
 pub performed_append : (es fs : List Effect) (c : Contents) → performed (es ++ fs) c ≡ performed fs (performed es c)
@@ -121,6 +122,22 @@ module _ {A : Type 0} (f : A → Effect) where
 
   pub each_ends : (xs : List A) (i : ℕ) (all : List Effect) (old now : Contents) → i ≡ length xs → Doing all (map f (drop i xs)) old now → now ≡ performed all old
   each_ends xs i all old now e d = doing_end all old now (subst (λ (ys : List A). Doing all (map f ys) old now) (ap (λ n. drop n xs) e ∙ drop-length xs) d)
+
+pub performing_starts : (es : List Effect) (s : StoreState) → Performing es es s s
+performing_starts es s = record { doing = λ o. doing_all es (contents (world_of s o)); reads = refl; writes = omega arith }
+
+-- one more of the calls in a loop that changes a file or a folder for each element
+pub performing_more : {X A : Type 0} (f : X → Effect) (xs : List X) (i : ℕ) (x : X) (all : List Effect) (old now new : StoreState) (a : A) → i < length xs → x ≡ get_or xs i x → Performing all (map f (drop i xs)) old now → Performs (f x ∷ []) now new (Ok a)
+    → Performing all (map f (drop (i + 1) xs)) old new
+performing_more f xs i x all old now new a lt is so_far did = record {
+  doing = λ o. each_done f xs i x all (contents (world_of old o)) (contents (world_of now o)) (contents (world_of new o)) lt is (so_far.doing o) (did.does o);
+  reads = did.reads ∙ so_far.reads;
+  writes = omega (arith, so_far.writes, did.blames.writes);
+}
+
+-- the same effects under two names
+pub performs_as : {A : Type 0} (es fs : List Effect) (old new : StoreState) (r : Result A Stop) → es ≡ fs → Performs fs old new r → Performs es old new r
+performs_as es fs old new r same did = subst (λ (es : List Effect). Performs es old new r) (sym same) did
 
 pub first_off : (e : Effect) (es : List Effect) (old new : Contents) → Partly (e ∷ []) old new → Partly (e ∷ es) old new
 first_off e es old new h = partly_more (e ∷ []) es old new h

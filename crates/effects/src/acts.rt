@@ -5,6 +5,7 @@ ghost use Rattle.outside.specs.Reading.{OnlyRead};
 ghost use Rattle.outside.specs.Tree.{Tree, file_at, files_of, has_folder, has_empty_folder};
 ghost use Rattle.effects.specs.Effects.{Write, Remove, MakeFolder, RemoveFolder, Print, Does, world_of};
 ghost use Rattle.effects.specs.Blame.{StoreBlames, SinkBlames};
+ghost use Rattle.effects.specs.Performing.{Performs};
 
 use crate::Stop;
 use outside::{Folders, Sink, StoreFault};
@@ -41,11 +42,8 @@ pub fn write_file<F: Folders>(
     file: &Text,
     bytes: &[u8],
 ) -> Result<(), Stop>
-    ensures does { (o : _) → Does (Write folder.now file.now bytes.now ∷ []) (world_of (F.state store.old) o) (world_of (F.state store.new) o) result }
+    ensures performs { Performs (Write folder.now file.now bytes.now ∷ []) (F.state store.old) (F.state store.new) result }
     ensures counted { IfOk result (λ _. (F.state store.new).writes ≡ risen ((F.state store.old).writes) 1) }
-    ensures reads { (F.state store.new).read_faults ≡ (F.state store.old).read_faults }
-    ensures no_read { IfErr result (λ e. e ≢ Stop.ReadFault) }
-    ensures blames { StoreBlames (F.state store.old) (F.state store.new) result }
 {
     match store.write(alloc, folder, file, bytes) {
         Ok(()) => Ok(()),
@@ -63,11 +61,8 @@ pub fn remove_file<F: Folders>(
     file: &Text,
 ) -> Result<bool, Stop>
     ensures was { IfOk result (λ was. (t : Tree) → (F.state store.old).tree ≡ Some t → was ≡ is_some (file_at t folder.now file.now)) }
-    ensures does { (o : _) → Does (Remove folder.now file.now ∷ []) (world_of (F.state store.old) o) (world_of (F.state store.new) o) result }
+    ensures performs { Performs (Remove folder.now file.now ∷ []) (F.state store.old) (F.state store.new) result }
     ensures counted { IfOk result (λ was. (F.state store.new).writes ≡ (if was then risen ((F.state store.old).writes) 1 else (F.state store.old).writes)) }
-    ensures reads { (F.state store.new).read_faults ≡ (F.state store.old).read_faults }
-    ensures no_read { IfErr result (λ e. e ≢ Stop.ReadFault) }
-    ensures blames { StoreBlames (F.state store.old) (F.state store.new) result }
 {
     match store.remove(alloc, folder, file) {
         Ok(was) => Ok(was),
@@ -80,11 +75,8 @@ pub fn remove_file<F: Folders>(
 #[tactic(auto, using(crate::proofs::EffectLemmas::unmoved, crate::proofs::EffectLemmas::torn_make_folder), unfolding(crate::specs::Effects::contents))]
 pub fn make_folder<F: Folders>(alloc: Global, store: &mut F, folder: &Text) -> Result<bool, Stop>
     ensures made { IfOk result (λ made. (t : Tree) → (F.state store.old).tree ≡ Some t → made ≡ not (has_folder t folder.now)) }
-    ensures does { (o : _) → Does (MakeFolder folder.now ∷ []) (world_of (F.state store.old) o) (world_of (F.state store.new) o) result }
+    ensures performs { Performs (MakeFolder folder.now ∷ []) (F.state store.old) (F.state store.new) result }
     ensures counted { IfOk result (λ made. (F.state store.new).writes ≡ (if made then risen ((F.state store.old).writes) 1 else (F.state store.old).writes)) }
-    ensures reads { (F.state store.new).read_faults ≡ (F.state store.old).read_faults }
-    ensures no_read { IfErr result (λ e. e ≢ Stop.ReadFault) }
-    ensures blames { StoreBlames (F.state store.old) (F.state store.new) result }
 {
     match store.make_folder(alloc, folder) {
         Ok(made) => Ok(made),
@@ -97,11 +89,8 @@ pub fn make_folder<F: Folders>(alloc: Global, store: &mut F, folder: &Text) -> R
 #[tactic(auto, using(crate::proofs::EffectLemmas::unmoved, crate::proofs::EffectLemmas::torn_remove_folder), unfolding(crate::specs::Effects::contents))]
 pub fn remove_folder<F: Folders>(alloc: Global, store: &mut F, folder: &Text) -> Result<bool, Stop>
     ensures was { IfOk result (λ was. (t : Tree) → (F.state store.old).tree ≡ Some t → was ≡ has_empty_folder t folder.now) }
-    ensures does { (o : _) → Does (RemoveFolder folder.now ∷ []) (world_of (F.state store.old) o) (world_of (F.state store.new) o) result }
+    ensures performs { Performs (RemoveFolder folder.now ∷ []) (F.state store.old) (F.state store.new) result }
     ensures counted { IfOk result (λ was. (F.state store.new).writes ≡ (if was then risen ((F.state store.old).writes) 1 else (F.state store.old).writes)) }
-    ensures reads { (F.state store.new).read_faults ≡ (F.state store.old).read_faults }
-    ensures no_read { IfErr result (λ e. e ≢ Stop.ReadFault) }
-    ensures blames { StoreBlames (F.state store.old) (F.state store.new) result }
 {
     match store.remove_folder(alloc, folder) {
         Ok(gone) => Ok(gone),

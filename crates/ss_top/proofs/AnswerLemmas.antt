@@ -119,9 +119,8 @@ pub unread_view : (o n : OpenValue) (row fields : Row) (f : ChangeFault) → IsA
 unread_view o n row fields f h some g is = is ∙ ap (λ x. (by_change o row x).view) (unread (change_of row) f h some)
 
 -- what is saved of a session
-pub saves : {A : Type 0} (w v : World) (r : Result A Stop) (s : SessionState) (c : CatalogueValue) (dbs : List Text) (pairs : List Pair) → c ≡ s.catalogue → dbs ≡ s.changed.databases → pairs ≡ s.changed.relations → Does (saved c dbs pairs) w v r → Does (saving s) w v r
-saves w v r s c dbs pairs e f g did =
-    subst (λ (x : CatalogueValue). Does (saved x s.changed.databases s.changed.relations) w v r) e (subst (λ (x : List Text). Does (saved c x s.changed.relations) w v r) f (subst (λ (x : List Pair). Does (saved c dbs x) w v r) g did))
+pub saves : (s : SessionState) (c : CatalogueValue) (dbs : List Text) (pairs : List Pair) → c ≡ s.catalogue → dbs ≡ s.changed.databases → pairs ≡ s.changed.relations → saving s ≡ saved c dbs pairs
+saves s c dbs pairs e f g = rw (e, f, g) refl
 
 -- effects behind others
 behind : {A : Type 0} (es fs : List Effect) (before mid v : World) (r : Result A Stop) → contents mid ≡ performed es (contents before) → Does fs mid v r → Does (es ++ fs) before v r

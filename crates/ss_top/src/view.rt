@@ -5,7 +5,8 @@ ghost use Rattle.std.specs.List.Sorted.{IsStrictlySortedBy};
 ghost use Rattle.ss_text.specs.Texts.{is_in, text_cmp};
 ghost use Rattle.tab_lines.specs.Lines.{has_feed};
 ghost use Rattle.effects.specs.Effects.{Does, world_of};
-ghost use Rattle.effects.specs.Blame.{Blames, SinkBlames, StoreBlames};
+ghost use Rattle.effects.specs.Blame.{Blames, SinkBlames};
+ghost use Rattle.effects.specs.Performing.{Performs};
 ghost use Rattle.schema_model.specs.Changes.{is_well_formed};
 ghost use Rattle.schema_model.specs.Reading.{change_of};
 ghost use Rattle.schema_model.specs.Refusals.{fault};
@@ -240,9 +241,7 @@ impl OpenView {
 
     // Saves the relations and databases that were named.
     fn save_named<F: Folders>(&self, alloc: Global, store: &mut F) -> Result<(), Stop>
-        ensures does { (o : _) → Does (saving self.now.session) (world_of (F.state store.old) o) (world_of (F.state store.new) o) result }
-        ensures no_read { IfErr result (λ e. e ≢ Stop.ReadFault) }
-        ensures blames { StoreBlames (F.state store.old) (F.state store.new) result }
+        ensures { Performs (saving self.now.session) (F.state store.old) (F.state store.new) result }
     {
         let session = &self.session;
         save_changed(

@@ -1,6 +1,6 @@
 -- Records that are written field by field.
 use Rattle.std.proofs.Common.{◌≡◌, ◌≢◌, ◌==◌, ◌||◌, ◌&&◌, ◌<◌, ◌≤◌, ◌+◌, ◌-◌, ◌^◌, ◌++◌, ◌∙◌, ◌∷◌, [], ℕ, zero, suc, ltb, cond, List, Bool, true, false, not, inl, inr, Option, Some, None, refl, sym, ap, subst, length, take, drop, get_or, append_assoc, append-nil, length-append, length-drop, arith}
-use Rattle.std.specs.Prelude.{min, slice_get, if◌then◌else◌}
+use Rattle.std.specs.Prelude.{min, if◌then◌else◌}
 use Rattle.std.specs.Global.{Vec}
 use Rattle.std.proofs.lemmas.Bool.{cases_Bool, eq-eqb, eqb-true, ne_eqb, false≢true, ltb-true, ltb-false}
 use Rattle.std.proofs.lemmas.List.{take_more, take_all, drop_all}

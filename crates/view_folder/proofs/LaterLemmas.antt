@@ -13,7 +13,7 @@ use Rattle.ss_text.proofs.KeyLemmas.{text_order, equal_itself, equal_is}
 use Rattle.outside.specs.Counts.{risen}
 use Rattle.outside.specs.Tree.{Tree, Place, file_at}
 use Rattle.effects.specs.declared.stop.Stop.{Stop}
-use Rattle.effects.specs.Effects.{World, world_of, Does, Effect, Write, Remove, Stored, Contents, stored_of, contents, after, performed, writing, removing}
+use Rattle.effects.specs.Effects.{world_of, Does, Write, Remove, Stored, Contents, stored_of, contents, after, performed, writing, removing}
 use Rattle.outside.specs.States.{StoreState, SinkState}
 use Rattle.flow_law.specs.declared.shape.Shape.{Shape}
 use Rattle.flow_law.specs.Tables.{TableValue, TablesValue, table_of, labels_of}
@@ -99,10 +99,6 @@ synced_write d shape ts l text e = by_text d shape ts l ∙ ap (λ (o : Option T
 
 pub synced_remove : (d : Text) (shape : Shape) (ts : TablesValue) (l : Text) → None ≡ option_map (table_text shape) (table_of ts l) → label_synced d shape ts l ≡ Remove d (file_name l)
 synced_remove d shape ts l e = by_text d shape ts l ∙ ap (λ (o : Option Text). option_map_or (λ (x : Text). Write d (file_name l) x) o (Remove d (file_name l))) (sym e)
-
--- the same effect under two names
-pub does_as : {A : Type 0} (e f : Effect) (w v : World) (r : Result A Stop) → e ≡ f → Does (f ∷ []) w v r → Does (e ∷ []) w v r
-does_as e f w v r same did = subst (λ (x : Effect). Does (x ∷ []) w v r) (sym same) did
 
 module _ (d : Text) (shape : Shape) (ts : TablesValue) where
   -- after the sync of a label, and of labels
@@ -240,10 +236,6 @@ pub named_hold : (d : Text) (shape : Shape) (ts : TablesValue) (ls : List Text) 
     → IfOk r (λ _. (t u : Tree) → old.tree ≡ Some t → new.tree ≡ Some u → HoldsNamed d shape ts ls t u)
 named_hold d shape ts ls old new (Ok n) does = λ t u was is. named_held d shape ts ls old new nothing_held t u was is (does nothing_held)
 named_hold d shape ts ls old new (Err e) does = tt
-
--- the same sync under equal names
-pub does_named : {A : Type 0} (d e : Text) (shape : Shape) (ts : TablesValue) (ls : List Text) (w v : World) (r : Result A Stop) → d ≡ e → Does (later_sync d shape ts ls) w v r → Does (later_sync e shape ts ls) w v r
-does_named d e shape ts ls w v r p h = subst (λ (x : Text). Does (later_sync x shape ts ls) w v r) p h
 
 -- the counts after one more label
 pub counted_more : (w mid new n m : ℕ) (b : Bool) → new ≡ cond b (risen mid 1) mid → mid ≡ risen w n → m ≡ from_bool b → new ≡ risen w (n + m)

@@ -1,11 +1,10 @@
 //! The later sync.
-ghost use Rattle.std.specs.Prelude.{◌≡◌, ◌≢◌, [], ◌∷◌, Some, IfOk, IfErr, if◌then◌else◌};
+ghost use Rattle.std.specs.Prelude.{◌≡◌, [], ◌∷◌, Some, IfOk, if◌then◌else◌};
 ghost use Rattle.std.specs.List.Sorted.{IsStrictlySortedBy};
 ghost use Rattle.ss_text.specs.Texts.{text_cmp};
 ghost use Rattle.outside.specs.Counts.{risen};
 ghost use Rattle.outside.specs.Tree.{Tree};
-ghost use Rattle.effects.specs.Effects.{Does, world_of};
-ghost use Rattle.effects.specs.Blame.{StoreBlames};
+ghost use Rattle.effects.specs.Performing.{Performs};
 ghost use Rattle.view_folder.specs.Files.{view_folder};
 ghost use Rattle.view_folder.specs.TableFiles.{FitShape};
 ghost use Rattle.view_folder.specs.Sync.{label_synced, later_sync, is_counted, later_count, HoldsNamed};
@@ -30,13 +29,10 @@ pub fn sync<F: Folders, T: TableTexts>(
     labels: &[Text],
 ) -> Result<usize, Stop>
     requires { FitShape shape.now (T.tables tables.now) }
-    ensures does { (o : _) → Does (later_sync (view_folder view_db.now) shape.now (T.tables tables.now) labels.now) (world_of (F.state store.old) o) (world_of (F.state store.new) o) result }
+    ensures performs { Performs (later_sync (view_folder view_db.now) shape.now (T.tables tables.now) labels.now) (F.state store.old) (F.state store.new) result }
     ensures holds { IfOk result (λ _. (t u : Tree) → (F.state store.old).tree ≡ Some t → (F.state store.new).tree ≡ Some u → HoldsNamed (view_folder view_db.now) shape.now (T.tables tables.now) labels.now t u) }
     ensures writes { IfOk result (λ n. (F.state store.new).writes ≡ risen ((F.state store.old).writes) n) }
     ensures count { IfOk result (λ n. (t : Tree) → (F.state store.old).tree ≡ Some t → IsStrictlySortedBy text_cmp labels.now → n ≡ later_count (view_folder view_db.now) (T.tables tables.now) labels.now t) }
-    ensures reads { (F.state store.new).read_faults ≡ (F.state store.old).read_faults }
-    ensures no_read { IfErr result (λ e. e ≢ Stop.ReadFault) }
-    ensures blames { StoreBlames (F.state store.old) (F.state store.new) result }
 {
     let folder = folder_of_view(alloc, view_db)?;
     sync_labels(alloc, store, &folder, shape, tables, labels)
@@ -53,12 +49,9 @@ fn sync_labels<F: Folders, T: TableTexts>(
     labels: &[Text],
 ) -> Result<usize, Stop>
     requires { FitShape shape.now (T.tables tables.now) }
-    ensures does { (o : _) → Does (later_sync folder.now shape.now (T.tables tables.now) labels.now) (world_of (F.state store.old) o) (world_of (F.state store.new) o) result }
+    ensures performs { Performs (later_sync folder.now shape.now (T.tables tables.now) labels.now) (F.state store.old) (F.state store.new) result }
     ensures writes { IfOk result (λ n. (F.state store.new).writes ≡ risen ((F.state store.old).writes) n) }
     ensures count { IfOk result (λ n. (t : Tree) → (F.state store.old).tree ≡ Some t → IsStrictlySortedBy text_cmp labels.now → n ≡ later_count folder.now (T.tables tables.now) labels.now t) }
-    ensures reads { (F.state store.new).read_faults ≡ (F.state store.old).read_faults }
-    ensures no_read { IfErr result (λ e. e ≢ Stop.ReadFault) }
-    ensures blames { StoreBlames (F.state store.old) (F.state store.new) result }
 {
     let mut count = 0;
     for label in labels {
@@ -78,12 +71,9 @@ fn sync_label<F: Folders, T: TableTexts>(
     label: &Text,
 ) -> Result<bool, Stop>
     requires { FitShape shape.now (T.tables tables.now) }
-    ensures does { (o : _) → Does (label_synced folder.now shape.now (T.tables tables.now) label.now ∷ []) (world_of (F.state store.old) o) (world_of (F.state store.new) o) result }
+    ensures performs { Performs (label_synced folder.now shape.now (T.tables tables.now) label.now ∷ []) (F.state store.old) (F.state store.new) result }
     ensures was { IfOk result (λ was. (t : Tree) → (F.state store.old).tree ≡ Some t → was ≡ is_counted folder.now (T.tables tables.now) t label.now) }
     ensures counted { IfOk result (λ was. (F.state store.new).writes ≡ (if was then risen ((F.state store.old).writes) 1 else (F.state store.old).writes)) }
-    ensures reads { (F.state store.new).read_faults ≡ (F.state store.old).read_faults }
-    ensures no_read { IfErr result (λ e. e ≢ Stop.ReadFault) }
-    ensures blames { StoreBlames (F.state store.old) (F.state store.new) result }
 {
     let file = file_name(alloc, label)?;
     let Some(text) = tables.text_of(alloc, shape, label)? else {

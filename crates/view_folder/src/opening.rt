@@ -1,10 +1,11 @@
 //! The opening sync.
-ghost use Rattle.std.specs.Prelude.{◌≡◌, List, ℕ, ◌≢◌, ◌≤◌, ◌&&◌, not, length, Some, IfOk, IfErr, IsErrOf, filter, [], ◌∷◌, ◌++◌, OnOk, if◌then◌else◌};
+ghost use Rattle.std.specs.Prelude.{◌≡◌, List, ℕ, ◌≤◌, ◌&&◌, not, length, Some, IfOk, IsErrOf, filter, [], ◌∷◌, ◌++◌, OnOk, if◌then◌else◌};
 ghost use Rattle.outside.specs.Counts.{risen};
 ghost use Rattle.outside.specs.Reading.{OnlyRead};
 ghost use Rattle.outside.specs.Tree.{Tree, files_of};
 ghost use Rattle.effects.specs.Effects.{Does, world_of};
 ghost use Rattle.effects.specs.Blame.{StoreBlames};
+ghost use Rattle.effects.specs.Performing.{Performs};
 ghost use Rattle.view_folder.specs.Files.{is_named, has_name, is_csv_name, other_names, view_folder, AreViewFiles, Apart, AreThere};
 ghost use Rattle.view_folder.specs.TableFiles.{FitShape, table_files};
 ghost use Rattle.view_folder.specs.Sync.{written, removed, opening_sync, opening_count, HoldsExactly};
@@ -114,10 +115,8 @@ fn write_files<F: Folders>(
     folder: &Text,
     files: &[File],
 ) -> Result<(), Stop>
-    ensures does { (o : _) → Does (written folder.now files.now) (world_of (F.state store.old) o) (world_of (F.state store.new) o) result }
+    ensures performs { Performs (written folder.now files.now) (F.state store.old) (F.state store.new) result }
     ensures writes { IfOk result (λ _. (F.state store.new).writes ≡ risen ((F.state store.old).writes) (length files.now)) }
-    ensures no_read { IfErr result (λ e. e ≢ Stop.ReadFault) }
-    ensures blames { StoreBlames (F.state store.old) (F.state store.new) result }
 {
     for file in files {
         write_file(alloc, store, folder, &file.name, file.bytes.as_slice())?;
@@ -133,12 +132,10 @@ fn remove_files<F: Folders>(
     folder: &Text,
     names: &[Text],
 ) -> Result<usize, Stop>
-    ensures does { (o : _) → Does (removed folder.now names.now) (world_of (F.state store.old) o) (world_of (F.state store.new) o) result }
+    ensures performs { Performs (removed folder.now names.now) (F.state store.old) (F.state store.new) result }
     ensures each { IfOk result (λ n. (t : Tree) → (F.state store.old).tree ≡ Some t → Apart names.now → AreThere folder.now names.now t → n ≡ length names.now) }
     ensures few { IfOk result (λ n. n ≤ length names.now) }
     ensures writes { IfOk result (λ n. (F.state store.new).writes ≡ risen ((F.state store.old).writes) n) }
-    ensures no_read { IfErr result (λ e. e ≢ Stop.ReadFault) }
-    ensures blames { StoreBlames (F.state store.old) (F.state store.new) result }
 {
     let mut count = 0;
     for name in names {

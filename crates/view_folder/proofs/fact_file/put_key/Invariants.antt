@@ -1,4 +1,4 @@
-use Rattle.std.proofs.Common.{◌≤◌, ℕ, List, ◌++◌, take, drop}
+use Rattle.std.proofs.Common.{ℕ, List, ◌++◌, take, drop}
 use Rattle.ss_text.specs.Texts.{Row}
 use Rattle.view_folder.specs.Fields.{IsWithin}
 use Rattle.view_folder.proofs.fact_file.put_key.Given as goal

@@ -1,19 +1,17 @@
-use Rattle.std.proofs.Common.{ap, None, arith, refl, ◌∙◌}
+use Rattle.std.proofs.Common.{ap, None, arith}
 use Rattle.outside.specs.States.{SinkState}
 use Rattle.effects.specs.Effects.{Stored, stored_of}
-use Rattle.effects.proofs.EffectLemmas.{each_done, doing_all}
+use Rattle.effects.proofs.EffectLemmas.{performing_starts, performing_more}
 use Rattle.view_folder.specs.Sync.{label_synced}
 use Rattle.view_folder.proofs.LaterLemmas.{counting_starts, counting_more, counting_done, counted_more, few_more}
 use Rattle.view_folder.proofs.later.sync_labels.Goals as goal
 
 pub loop-label-init : goal.loop-label-init
 loop-label-init g c = record {
-  doing = λ o. doing_all _ _;
+  performing = performing_starts _ _;
   counting = λ s h. counting_starts c.args.folder.now c.args.shape.now (g.T.TableTexts.tables c.args.tables.now) c.args.labels.now s _ h;
   counted = omega arith;
   few = omega arith;
-  reads = refl;
-  writes = omega arith;
 }
 
 pub loop-label-preserved : goal.loop-label-preserved
@@ -25,13 +23,11 @@ loop-label-preserved g c =
     let i = c.loop-label.label-index in
     let n = c.loop-label.count in
     record {
-      doing = λ o. each_done (label_synced c.args.folder.now c.args.shape.now (g.T.TableTexts.tables c.args.tables.now)) _ i c.label-item.result _ _ _ _ (omega arith) c.label-item.is (so_far.doing o) (did.does o);
+      performing = performing_more (label_synced c.args.folder.now c.args.shape.now (g.T.TableTexts.tables c.args.tables.now)) _ i c.label-item.result _ _ _ _ _ (omega arith) c.label-item.is so_far.performing did.performs;
       counting = λ s h. counting_more c.args.folder.now c.args.shape.now (g.T.TableTexts.tables c.args.tables.now) c.args.labels.now s i n c.from.result (state c.loop-label.store) (state c.sync_label.new.store) sink c.label-item.result c.in_ok-sync_label.field-0
-          (omega arith) c.label-item.is (so_far.counting s h) (did.does sink) did.was c.from.ensures;
+          (omega arith) c.label-item.is (so_far.counting s h) (did.performs.does sink) did.was c.from.ensures;
       counted = counted_more (state c.args.store.now).writes (state c.loop-label.store).writes _ n c.from.result c.in_ok-sync_label.field-0 did.counted so_far.counted c.from.ensures;
       few = few_more n i c.from.result c.in_ok-sync_label.field-0 so_far.few c.from.ensures;
-      reads = did.reads ∙ so_far.reads;
-      writes = omega (arith, so_far.writes, did.blames.writes);
     }
 
 pub returns-clause-count : goal.returns-clause-count
