@@ -1,5 +1,5 @@
 -- Runs over an input that is read line by line.
-use Rattle.std.proofs.Common.{◌≡◌, ◌<◌, ◌≤◌, ◌+◌, ◌-◌, ◌⊎◌, ◌==◌, ◌||◌, ℕ, Bool, true, false, List, [], ◌∷◌, ◌++◌, length, Option, None, Some, inl, inr, refl, sym, ap, ◌∙◌, subst, append_assoc, arith, length-append}
+use Rattle.std.proofs.Common.{◌≡◌, ◌<◌, ◌≤◌, ◌+◌, ◌-◌, ◌⊎◌, ◌==◌, ◌||◌, ℕ, Bool, true, false, List, [], ◌∷◌, ◌++◌, length, Option, None, Some, inl, inr, refl, sym, ap, ◌∙◌, subst, append_assoc, arith, length-append, append-nil}
 use Rattle.std.specs.Prelude.{Result, Ok, Err, IsErrOf}
 use Rattle.outside.specs.Streams.{before}
 use Rattle.outside.specs.Counts.{Rose}
@@ -18,7 +18,7 @@ use Rattle.tab_lines.proofs.LineLemmas.{whole_first, whole_none, lines_first, li
 use Rattle.course.specs.declared.status.Verdict.{Verdict}
 use Rattle.course.specs.declared.status.Halt.TheVariants as halt
 use Rattle.course.specs.Answering.{Reply, Continues, Ending, effects_of, prefixed, follow, course, Answered, Ended, CutOff, Ran, TookLittle, IsReadOut, BlamesRun, halt_of}
-use Rattle.course.proofs.AnsweringLemmas.{append_none, Mid, further, goes, halts, stops, mid_course, mid_halt, mid_stop, mid_idle, mid_end, mid_no_more, course_goes_on, line_goes_on, as_halt}
+use Rattle.course.proofs.AnsweringLemmas.{Mid, further, goes, halts, stops, mid_course, mid_halt, mid_stop, mid_idle, mid_end, mid_no_more, course_goes_on, line_goes_on, as_halt}
 
 -- the bytes of the lines that were answered: all that was taken but for what the reader holds, which one read gave
 pub record Front (taken : List ℕ) (lines : List (List ℕ)) (reader : LinesState) : Type 0 where
@@ -122,7 +122,7 @@ pub record Seen (bytes : List ℕ) : Type 0 where
   pub one_read : length piece ≤ 65536
 
 seen_by : (left part : List ℕ) → length left ≤ 65536 → IsTakenLine left part → Seen (left ++ part)
-seen_by left part short (inl none) = record { line = []; piece = left; are = ap (λ (t : List ℕ). left ++ t) none ∙ append_none left; one_line = refl; one_read = short }
+seen_by left part short (inl none) = record { line = []; piece = left; are = ap (λ (t : List ℕ). left ++ t) none ∙ append-nil left; one_line = refl; one_read = short }
 seen_by left part short (inr (earlier, last, split, clear, few)) = record {
   line = left ++ earlier;
   piece = last;
@@ -152,7 +152,7 @@ still_short seen line new s h = elim h.1 [
 line_seen : (seen line : List ℕ) (new : LinesState) → Seen seen → Answers (Ok (Line line)) seen new → Seen seen
 line_seen seen line new s h = elim h.1 [
   | inl whole ↦ record { line = line; piece = 10 ∷ new.left; are = whole; one_line = h.0; one_read = let behind : length (10 ∷ new.left) ≤ length s.piece = feed_after s.line s.piece line new.left s.one_line (sym s.are ∙ whole) in omega (arith, behind, s.one_read) }
-  | inr last ↦ record { line = line; piece = []; are = last.0 ∙ sym (append_none line); one_line = h.0; one_read = omega arith }
+  | inr last ↦ record { line = line; piece = []; are = last.0 ∙ sym (append-nil line); one_line = h.0; one_read = omega arith }
 ]
 
 -- no line is left of an input that ended and was answered
@@ -170,13 +170,13 @@ front_more taken left part line lines later reader new f s h next = elim f.at_li
     | inl whole ↦ record {
       bytes = f.bytes ++ line ++ 10 ∷ [];
       seen = taken_is whole ∙ sym (append_assoc (f.bytes ++ line) (10 ∷ []) new.left);
-      lines_are = sym (ap lines_of (sym (append_none (f.bytes ++ line ++ 10 ∷ []))) ∙ more_lines at_line [] ∙ append_none (lines ++ line ∷ []));
+      lines_are = sym (ap lines_of (sym (append-nil (f.bytes ++ line ++ 10 ∷ []))) ∙ more_lines at_line [] ∙ append-nil (lines ++ line ∷ []));
       at_line = inr (more_lines at_line);
       short = still_short (reader.left ++ part) line new s h;
     }
     | inr last ↦ record {
       bytes = f.bytes ++ line;
-      seen = ap (λ (t : List ℕ). t ++ part) f.seen ∙ append_assoc f.bytes reader.left part ∙ ap (λ (t : List ℕ). f.bytes ++ t) last.0 ∙ sym (append_none (f.bytes ++ line)) ∙ ap (λ (t : List ℕ). f.bytes ++ line ++ t) (sym last.2);
+      seen = ap (λ (t : List ℕ). t ++ part) f.seen ∙ append_assoc f.bytes reader.left part ∙ ap (λ (t : List ℕ). f.bytes ++ t) last.0 ∙ sym (append-nil (f.bytes ++ line)) ∙ ap (λ (t : List ℕ). f.bytes ++ line ++ t) (sym last.2);
       lines_are = sym (at_line line ∙ ap (λ (t : List (List ℕ)). lines ++ t) (lines_last line h.0 ∙ some_line line last.1));
       at_line = inl (last.3, last.2);
       short = still_short (reader.left ++ part) line new s h;
@@ -242,7 +242,7 @@ module _ {A : Type 0} (step : A → List ℕ → Reply A) (finish : A → Ending
       remains = s.told;
       effects = at.effects;
       state = state;
-      answered = ap (λ (ls : List (List ℕ)). follow step ls (Continues [] start)) (at.whole (s.going cut.no_end) s.part ∙ ap (λ (t : List (List ℕ)). at.lines ++ t) (whole_none (reader.left ++ s.part) cut.no_line) ∙ append_none at.lines) ∙ at.answered;
+      answered = ap (λ (ls : List (List ℕ)). follow step ls (Continues [] start)) (at.whole (s.going cut.no_end) s.part ∙ ap (λ (t : List (List ℕ)). at.lines ++ t) (whole_none (reader.left ++ s.part) cut.no_line) ∙ append-nil at.lines) ∙ at.answered;
       done = at.done;
     },
     omega (arith, at.count, s.count, length-append at.taken s.part),
@@ -332,7 +332,7 @@ module _ {A : Type 0} (step : A → List ℕ → Reply A) (finish : A → Ending
   end_all old state reader new_reader later now m within =
       let ended = m.step_made.answers.2 in
       let none : m.more ≡ [] = m.step_made.end m.at.end ended in
-      let all : bytes ≡ m.at.taken ++ m.step_made.part = m.at.split ∙ ap (λ (t : List ℕ). m.at.taken ++ t) (m.step_made.split ∙ ap (λ (t : List ℕ). m.step_made.part ++ t) none ∙ append_none m.step_made.part) in
+      let all : bytes ≡ m.at.taken ++ m.step_made.part = m.at.split ∙ ap (λ (t : List ℕ). m.at.taken ++ t) (m.step_made.split ∙ ap (λ (t : List ℕ). m.step_made.part ++ t) none ∙ append-nil m.step_made.part) in
       record {
         read = λ effects last goes. (m.step_made.told ∙ ap Some none, omega (arith, ap length all, length-append m.at.taken m.step_made.part, m.at.count, m.step_made.count, within.ended ended));
       }

@@ -13,6 +13,7 @@ use Rattle.csv_catalog.specs.declared.fault.LoadFault.{LoadFault}
 use Rattle.csv_catalog.specs.FileFaults.{file_fault, rows_of, told_fault}
 use Rattle.csv_catalog.specs.Loaded.{File, file_in, files_read, relation_of, files_fault, by_name}
 use Rattle.csv_catalog.specs.Reading.{all_placed, rows_counted}
+use Rattle.csv_catalog.proofs.JudgedLemmas.{or_some}
 
 pub placed_none : (kept rs : List RelationValue) → rs ≡ [] → (all_placed rs kept ≡ kept) × (rows_counted rs ≡ 0)
 unfolding all_placed
@@ -28,16 +29,13 @@ placed_one kept r rs e = rw (e, sum_by-cons (λ (x : RelationValue). length x.ro
 or_none : {A : Type 0} (a b : Option A) → a ≡ None → option_or a b ≡ b
 or_none a b e = rw e refl
 
-or_some : {A : Type 0} (a b : Option A) (x : A) → a ≡ Some x → option_or a b ≡ Some x
-or_some a b x e = rw e refl
-
-or_parts : {A : Type 0} (a : Option A) → option_or a None ≡ a
-or_parts None = refl
-or_parts (Some x) = refl
+pub or_nothing : {A : Type 0} (a : Option A) → option_or a None ≡ a
+or_nothing None = refl
+or_nothing (Some x) = refl
 
 fault_one : (db : Text) (count : ℕ) (file : File) → files_fault db count (file ∷ []) ≡ option_map (told_fault db file.0) (file_fault count file.1)
 unfolding files_fault
-fault_one db count file = or_parts _
+fault_one db count file = or_nothing _
 
 -- past a file without a fault, and at one with a fault
 fault_more : (db : Text) (count : ℕ) (o : Option File) (files : List File) → files_fault db count (cons_option o []) ≡ None → files_fault db count (cons_option o files) ≡ files_fault db (count + rows_counted (map relation_of (cons_option o []))) files
@@ -52,7 +50,7 @@ unfolding files_fault
 fault_here db count None files e h = cc h
 fault_here db count (Some file) files e h = or_some _ _ e (sym (fault_one db count file) ∙ h)
 
-cons_is : {A : Type 0} (o : Option A) (xs : List A) → cons_option o xs ≡ cons_option o [] ++ xs
+pub cons_is : {A : Type 0} (o : Option A) (xs : List A) → cons_option o xs ≡ cons_option o [] ++ xs
 cons_is None xs = refl
 cons_is (Some x) xs = refl
 

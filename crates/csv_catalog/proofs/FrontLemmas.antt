@@ -1,6 +1,7 @@
 -- What the first bytes of a file show of it.
-use Rattle.std.proofs.Common.{◌≡◌, ◌<◌, ◌≤◌, ◌+◌, ◌∷◌, ◌++◌, ◌∙◌, [], ℕ, List, Some, None, refl, ap, inl, inr, length, drop, unwrap_or, arith, append_assoc}
+use Rattle.std.proofs.Common.{◌≡◌, ◌<◌, ◌≤◌, ◌+◌, ◌∷◌, ◌++◌, ◌∙◌, [], ℕ, List, Some, None, refl, ap, inl, inr, length, drop, arith, append_assoc}
 use Rattle.std.proofs.lemmas.Bool.{cases_Bool}
+use Rattle.schema_model.proofs.ReadyLemmas.{same_some}
 use Rattle.csv.specs.Machine.{Read, step, is_end, ends_at_end, next_record, fields_after, field_after}
 use Rattle.csv.specs.Reading.{Reached, default_config, strip_bom, is_bom}
 use Rattle.csv.specs.declared.parser.State.{State}
@@ -14,22 +15,19 @@ use Rattle.csv_catalog.specs.Judged.{fault_so_far, next_fault}
 use Rattle.csv_catalog.proofs.AllRecords.{shorter, counted_front}
 use Rattle.csv_catalog.proofs.JudgedLemmas.{next_refused}
 
-held : {A : Type 0} (a b : A) → Some a ≡ Some b → a ≡ b
-held a b e = ap (λ o. unwrap_or o a) e
-
 -- a record with bytes behind it stays as it is where more follow them
 record_more : (s : State) (f : List (List ℕ)) (p xs more : List ℕ) (r : Read) → next_record default_config s f p xs ≡ Some r → 0 < length r.2
     → next_record default_config s f p (xs ++ more) ≡ Some (r.0, r.1, r.2 ++ more)
 unfolding next_record
 record_more s f p [] more r e some = elim (cases_Bool (ends_at_end s)) [
-  | inl ends ↦ absurd (none (ap (λ (q : Read). length q.2) (held _ _ (rw ends at e))) some)
+  | inl ends ↦ absurd (none (ap (λ (q : Read). length q.2) (same_some _ _ (rw ends at e))) some)
   | inr on ↦ cc (rw on at e)
 ]
   where
     none : 0 ≡ length r.2 → 0 < length r.2 → ⊥
     none z h = omega arith
 record_more s f p (c ∷ rest) more r e some = elim (cases_Bool (is_end (step default_config s c).1)) [
-  | inl ends ↦ rw ends (ap (λ (q : Read). Some (q.0, q.1, q.2 ++ more)) (held _ _ (rw ends at e)))
+  | inl ends ↦ rw ends (ap (λ (q : Read). Some (q.0, q.1, q.2 ++ more)) (same_some _ _ (rw ends at e)))
   | inr on ↦ rw on (record_more (step default_config s c).0 (fields_after (step default_config s c).1 f p) (field_after (step default_config s c).1 c p) rest more r (rw on at e) some)
 ]
 

@@ -9,7 +9,7 @@ use Rattle.std.specs.FinMap as map_of
 use Rattle.std.specs.Cmp.{tied_itself}
 use Rattle.std.specs.Cmp.Lexicographic.{nat_list_cmp_total, texts_ties}
 use Rattle.std.proofs.lemmas.List.Folds.{list_any-append}
-use Rattle.std.proofs.lemmas.Bool.{false_from_ne_true, or_right, and_parts, true≢false, eqb-true}
+use Rattle.std.proofs.lemmas.Bool.{false_from_ne_true, or_right, and_parts, true≢false, eqb-true, and_from}
 use Rattle.std.proofs.lemmas.List.{append_cancel_left, append_cancel_right}
 use Rattle.std.proofs.lemmas.Map.Lookups.{exact_bytes}
 use Rattle.std.proofs.lemmas.Slice.Eq.{bytes_eq-Decides}
@@ -22,7 +22,7 @@ use Rattle.outside.specs.States.{StoreState, SinkState}
 use Rattle.outside.proofs.TreeLemmas.{kept_made, child_full}
 use Rattle.outside.proofs.WholeLemmas.{made_folder}
 use Rattle.effects.specs.Effects.{Effect, Write, Remove, Stored, Contents, stored_of, contents, world_of, performed, writing, removing, making_folder, removing_folder}
-use Rattle.effects.proofs.EffectLemmas.{performed_append}
+use Rattle.effects.proofs.EffectLemmas.{performed_append, told_tree}
 use Rattle.schema_model.specs.declared.pair.Pair.{Pair}
 use Rattle.schema_model.specs.Catalogue.{RelationValue, CatalogueValue, relation_of}
 use Rattle.csv_catalog.specs.Loaded.{database_folder}
@@ -157,7 +157,7 @@ kept_cleared (db ∷ dbs) t d none h =
     not_both b t f = absurd (cc)
 
 -- whether there is no child of a folder among folders
-no_child : (f : Text) (ks : List Text) → ((d : Text) → is_in d ks ≡ true → child_name f d ≡ None) → children_in f ks ≡ []
+pub no_child : (f : Text) (ks : List Text) → ((d : Text) → is_in d ks ≡ true → child_name f d ≡ None) → children_in f ks ≡ []
 no_child f [] h = refl
 no_child f (k ∷ ks) h =
     let here : child_name f k ≡ None = h k (ap (λ b. b || is_in k ks) ((bytes_eq-Decides k k).1 refl)) in
@@ -236,14 +236,14 @@ removed_or_full f t =
     gone_first a b c e = rw e refl
 
 -- a database lies in no other's folder
-no_slash : (bytes : Text) → list_all is_table_byte bytes ≡ true → list_any (λ b. b == 47) bytes ≡ false
+pub no_slash : (bytes : Text) → list_all is_table_byte bytes ≡ true → list_any (λ b. b == 47) bytes ≡ false
 no_slash [] h = refl
 no_slash (b ∷ bs) h =
     let parts = and_parts (is_table_byte b) (list_all is_table_byte bs) h in
     let other : (b == 47) ≡ false = false_from_ne_true _ (λ e. true≢false (sym parts.0 ∙ ap is_table_byte (eqb-true b 47 e))) in
     rw (other, no_slash bs parts.1) refl
 
-label_bytes : (label : Text) → is_table_label label ≡ true → list_all is_table_byte label ≡ true
+pub label_bytes : (label : Text) → is_table_label label ≡ true → list_all is_table_byte label ≡ true
 unfolding is_table_label
 label_bytes label h = (and_parts (has_label_length label && not (slice_index label 0 == 46)) (list_all is_table_byte label) (and_parts (has_label_length label && not (slice_index label 0 == 46) && list_all is_table_byte label) (is_utf8 label) h).0).1
 
@@ -292,14 +292,11 @@ labels_pass p q [] h = refl
 labels_pass p q (db ∷ dbs) h =
     let parts = and_parts (q db) (list_all q dbs) h in
     elim (p db) as (λ b. list_all q (cond b (db ∷ filter p dbs) (filter p dbs)) ≡ true) [
-      | true ↦ both (q db) (list_all q (filter p dbs)) parts.0 (labels_pass p q dbs parts.1)
+      | true ↦ and_from (q db) (list_all q (filter p dbs)) parts.0 (labels_pass p q dbs parts.1)
       | false ↦ labels_pass p q dbs parts.1
     ]
-  where
-    both : (a b : Bool) → a ≡ true → b ≡ true → (a && b) ≡ true
-    both a b p q = rw (p, q) refl
 
-in_folders : (xs : List Text) (x : Text) → is_in (database_folder x) (map database_folder xs) ≡ is_in x xs
+pub in_folders : (xs : List Text) (x : Text) → is_in (database_folder x) (map database_folder xs) ≡ is_in x xs
 in_folders [] x = refl
 in_folders (y ∷ ys) x = ap (λ b. b || is_in (database_folder x) (map database_folder ys)) (same_front (codes "sources/") x y) ∙ ap (λ b. bytes_eq x y || b) (in_folders ys x)
   where
@@ -366,11 +363,6 @@ reaches_all c dbs pairs =
     reaches_both (folders_made (those_there c dbs) ++ pairs_saved c pairs) (folders_removed (those_gone c dbs)) (λ t. all_saved c pairs (made (those_there c dbs) t)) (cleared (those_gone c dbs))
     (reaches_both (folders_made (those_there c dbs)) (pairs_saved c pairs) (made (those_there c dbs)) (all_saved c pairs) (reaches_made (those_there c dbs)) (reaches_saved c pairs)) (reaches_cleared (those_gone c dbs))
 
--- where a store told its tree before and after
-tree_is : (o : Option Tree) (n : ℕ) (s : Stored) → stored_of o n ≡ Some s → o ≡ Some s.tree
-tree_is None n s e = absurd (cc)
-tree_is (Some t) n s e = ap (λ (o : Option Stored). option_map (λ (x : Stored). x.tree) o) e
-
 pub all_held : (c : CatalogueValue) (dbs : List Text) (pairs : List Pair) (old new : StoreState) (o : SinkState) (t u : Tree) → old.tree ≡ Some t → new.tree ≡ Some u → list_all is_table_label dbs ≡ true
     → contents (world_of new o) ≡ performed (saved c dbs pairs) (contents (world_of old o)) → HoldsSaved c dbs pairs t u
 unfolding contents
@@ -379,7 +371,7 @@ all_held c dbs pairs old new o t u was is labels did =
     let last = reaches_all c dbs pairs s o.held in
     let stored : stored_of new.tree new.writes ≡ Some last.0 =
     ap (λ (x : Contents). x.stored) (did ∙ ap (λ (tree : Option Tree). performed (saved c dbs pairs) (record { stored = stored_of tree old.writes; held = o.held })) was ∙ last.1) in
-    let same : tree_saved c dbs pairs t ≡ u = ap (λ (x : Option Tree). unwrap_or x u) (ap Some (sym last.2) ∙ sym (tree_is new.tree new.writes last.0 stored) ∙ is) in
+    let same : tree_saved c dbs pairs t ≡ u = ap (λ (x : Option Tree). unwrap_or x u) (ap Some (sym last.2) ∙ sym (told_tree new.tree new.writes last.0 stored) ∙ is) in
     subst (HoldsSaved c dbs pairs t) same (holds_saved c dbs pairs t labels)
 
 pub nothing_held : SinkState

@@ -1,6 +1,6 @@
 -- Counts of faults, call by call.
 use Rattle.std.proofs.Common.{arith, inl, inr}
-use Rattle.std.specs.Prelude.{Result, Ok, Err}
+use Rattle.std.specs.Prelude.{Result, Ok, Err, ◌≢◌}
 use Rattle.outside.specs.States.{StoreState, SinkState}
 use Rattle.effects.specs.Effects.{World, world_of}
 use Rattle.effects.specs.Blame.{Steady, StopCause, StoreStop, SinkStop, Blames, StoreBlames, SinkBlames}
@@ -34,3 +34,9 @@ sheet_blamed A B w s old new e h b = record { steady = steady_sheet w s old new 
 
 pub no_blame : {A : Type 0} (w v : World) (a : A) → Steady w v → Blames w v (Ok a)
 no_blame w v a s = record { steady = s; because = tt }
+
+-- a call on the sink does not fail in reading
+pub sink_no_read : {A : Type 0} (old new : SinkState) (e : Stop) → SinkBlames {A = A} old new (Err e) → e ≢ stop.ReadFault
+sink_no_read old new stop.ReadFault b is = b.because
+sink_no_read old new stop.WriteFault b is = absurd (cc)
+sink_no_read old new stop.NoMemory b is = absurd (cc)

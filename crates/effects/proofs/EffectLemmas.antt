@@ -1,5 +1,5 @@
 -- Effects that follow one another, and what broke off.
-use Rattle.std.proofs.Common.{◌≡◌, ℕ, suc, map, get_or, add-one, drop-cons, ◌+◌, ◌≤◌, List, [], ◌∷◌, ◌++◌, length, take, drop, Option, None, Some, Result, Ok, Err, ◌⊎◌, inl, inr, refl, sym, ap, ◌∙◌, subst, append_assoc, arith, ◌-◌, ◌<◌, length-drop}
+use Rattle.std.proofs.Common.{◌≡◌, ℕ, suc, map, get_or, add-one, drop-cons, ◌+◌, ◌≤◌, List, [], ◌∷◌, ◌++◌, length, take, drop, Option, None, Some, Result, Ok, Err, ◌⊎◌, inl, inr, refl, sym, ap, ◌∙◌, subst, append_assoc, arith, ◌-◌, ◌<◌, length-drop, append-nil, option_map}
 use Rattle.std.proofs.Math.Seq.{take-add, drop-length}
 use Rattle.std.proofs.lemmas.List.{take_rest, take-append-le}
 use Rattle.std.proofs.Math.Seq.{take-append-add}
@@ -8,7 +8,7 @@ use Rattle.outside.specs.Streams.{with_bytes}
 use Rattle.outside.specs.States.{StoreState, SinkState}
 use Rattle.outside.specs.Tree.{Tree, folder_path, BrokeOff, FolderBrokeOff, MayBreakOff, FolderMayBreakOff}
 use Rattle.outside.specs.Reading.{OnlyRead}
-use Rattle.effects.specs.Effects.{Effect, Write, Remove, MakeFolder, RemoveFolder, Print, Contents, stored_of, contents, after, performed, Torn, Partly, Does, Doing, world_of}
+use Rattle.effects.specs.Effects.{Effect, Write, Remove, MakeFolder, RemoveFolder, Print, Contents, stored_of, contents, after, performed, Torn, Partly, Does, Doing, world_of, Stored}
 use Rattle.effects.specs.Performing.{Performs, Performing}
 use Rattle.effects.specs.declared.stop.Stop.{Stop}
 
@@ -70,6 +70,11 @@ pub torn_remove_folder : (folder : List ℕ) (old new : StoreState) (o : SinkSta
 unfolding Partly contents
 torn_remove_folder folder old new o h e = inr (inl (torn (FolderBrokeOff [] folder) old.tree new.tree old.writes new.writes h.untold h.told e, refl))
 
+-- what is stored has the tree that was told
+pub told_tree : (o : Option Tree) (n : ℕ) (s : Stored) → stored_of o n ≡ Some s → o ≡ Some s.tree
+told_tree None n s e = absurd (cc)
+told_tree (Some t) n s e = ap (λ (o : Option Stored). option_map (λ (x : Stored). x.tree) o) e
+
 pub torn_print : (bytes : List ℕ) (n : ℕ) (s : StoreState) (old new : SinkState) → new.held ≡ with_bytes (take n bytes) old.held → Partly (Print bytes ∷ []) (contents (world_of s old)) (contents (world_of s new))
 unfolding Partly contents
 torn_print bytes n s old new h = inr (inl (n, rw h refl))
@@ -102,12 +107,8 @@ doing_one_stops all e rest old now new d h = doing_stops all (e ∷ []) rest old
 pub doing_idle : (all rest : List Effect) (old now : Contents) → Doing all rest old now → Partly all old now
 doing_idle all rest old now d = rw d.are (partly_later d.did rest old now now d.done (nothing_yet rest now now refl))
 
-append_none : (xs : List Effect) → xs ++ [] ≡ xs
-append_none [] = refl
-append_none (x ∷ xs) = ap (λ t. x ∷ t) (append_none xs)
-
 pub doing_end : (all : List Effect) (old now : Contents) → Doing all [] old now → now ≡ performed all old
-doing_end all old now d = d.done ∙ ap (λ es. performed es old) (sym (d.are ∙ append_none d.did))
+doing_end all old now d = d.done ∙ ap (λ es. performed es old) (sym (d.are ∙ append-nil d.did))
 
 -- a loop that does one effect for each element: what is left is that of the elements that are left
 module _ {A : Type 0} (f : A → Effect) where
@@ -148,7 +149,7 @@ then_off e es old mid new is h = partly_later (e ∷ []) es old mid new is h
 pub none_off : (es : List Effect) (old new : Contents) → Partly [] old new → Partly es old new
 none_off es old new h = partly_more [] es old new h
 
-with_more : (a b : List ℕ) (o : Option (List ℕ)) → with_bytes b (with_bytes a o) ≡ with_bytes (a ++ b) o
+pub with_more : (a b : List ℕ) (o : Option (List ℕ)) → with_bytes b (with_bytes a o) ≡ with_bytes (a ++ b) o
 with_more a b None = refl
 with_more a b (Some held) = ap Some (append_assoc held a b)
 

@@ -1,16 +1,15 @@
 -- The tree that effects leave, and what they count.
-use Rattle.std.proofs.Common.{◌≡◌, ◌≢◌, ◌+◌, ◌∷◌, ◌++◌, ◌∙◌, ◌==◌, [], ℕ, zero, suc, Bool, true, false, cond, ◌||◌, List, Option, Some, None, is_some, refl, sym, ap, subst, map, take, length, arith, append_assoc}
-use Rattle.std.specs.Prelude.{option_map, slice_index, codes}
+use Rattle.std.proofs.Common.{◌≡◌, ◌+◌, ◌∷◌, ◌++◌, ◌∙◌, ◌==◌, [], ℕ, zero, suc, Bool, true, false, cond, ◌||◌, List, Option, Some, None, is_some, refl, sym, ap, take, length, arith}
+use Rattle.std.specs.Prelude.{option_map, slice_index}
 use Rattle.std.specs.FinMap as map_of
 use Rattle.std.specs.List.{AllByRecursion, list_any}
-use Rattle.std.specs.Ordering.{eq_by_cmp, is_eq}
+use Rattle.std.specs.Ordering.{eq_by_cmp}
 use Rattle.std.specs.Cmp.Lexicographic.{nat_list_cmp_total, texts_ties}
-use Rattle.std.proofs.lemmas.Bool.{eqb-true, false_from_ne_true, true≢false}
+use Rattle.std.proofs.lemmas.Bool.{eqb-true, false_from_ne_true}
 use Rattle.std.proofs.lemmas.List.Folds.{list_any-append}
 use Rattle.ss_text.specs.Texts.{Text, text_cmp, text_eq, is_in}
-use Rattle.ss_text.proofs.KeyLemmas.{text_order, equal_itself}
 use Rattle.outside.specs.Counts.{risen}
-use Rattle.outside.specs.Tree.{Tree, Place, file_at, has_folder, has_empty_folder, fronts, folder_path, with_folders, with_file, without_file, with_folder, without_folder}
+use Rattle.outside.specs.Tree.{Tree, file_at, has_folder, has_empty_folder, fronts, folder_path, with_folders}
 use Rattle.outside.specs.Whole.{IsWhole}
 use Rattle.outside.proofs.TreeLemmas.{get_made}
 use Rattle.outside.proofs.WholeLemmas.{whole_with_file, whole_without_file, whole_with_folder, whole_without_folder}
@@ -104,7 +103,7 @@ MakesNot d (MakeFolder folder) = is_in d (folder_path folder) ≡ false
 MakesNot d (RemoveFolder folder) = Unit {0}
 MakesNot d (Print bytes) = Unit {0}
 
-any_same : (d : Text) (fs : List Text) → list_any (eq_by_cmp text_cmp d) fs ≡ is_in d fs
+pub any_same : (d : Text) (fs : List Text) → list_any (eq_by_cmp text_cmp d) fs ≡ is_in d fs
 any_same d [] = refl
 any_same d (f ∷ fs) = ap (λ b. b || list_any (eq_by_cmp text_cmp d) fs) (sym (texts_ties d f)) ∙ ap (λ b. text_eq d f || b) (any_same d fs)
 

@@ -1,18 +1,18 @@
 -- A change leaves each relation and each database that it does not name.
-use Rattle.std.proofs.Common.{◌≡◌, ◌∷◌, ◌++◌, ◌∙◌, [], Bool, true, false, cond, not, ◌&&◌, ◌||◌, List, Option, Some, None, is_some, refl, sym, ap, subst, map}
+use Rattle.std.proofs.Common.{◌≡◌, ◌∷◌, ◌++◌, ◌∙◌, [], Bool, true, false, cond, not, ◌||◌, List, Option, Some, None, is_some, refl, sym, ap, subst, map}
 use Rattle.std.specs.Prelude.{option_map, option_and_then, filter}
-use Rattle.std.specs.List.{AllByRecursion, list_any, list_all}
+use Rattle.std.specs.List.{list_all}
 use Rattle.std.specs.Option.{option_map_or}
 use Rattle.std.specs.Ordering.{eq_by_cmp, is_eq}
-use Rattle.std.proofs.lemmas.Bool.{and_parts, true≢false, false_from_ne_true}
+use Rattle.std.proofs.lemmas.Bool.{false_from_ne_true, or_parts}
 use Rattle.std.proofs.lemmas.Cmp.{tied_itself}
 use Rattle.ss_text.specs.Texts.{Text, Row, text_eq, is_in}
 use Rattle.ss_text.specs.Label.{is_table_label}
 use Rattle.ss_text.specs.Places.{changed_where}
 use Rattle.ss_text.proofs.KeyLemmas.{text_order, equal_itself, Lacks}
-use Rattle.outside.specs.Tree.{Place, place_cmp}
+use Rattle.outside.specs.Tree.{place_cmp}
 use Rattle.outside.proofs.PlaceLemmas.{place_total}
-use Rattle.schema_model.specs.Catalogue.{RelationValue, DatabaseValue, CatalogueValue, relation_value, database_value, relation_name, database_name, relation_in, database_of, relation_of, relations_of, with_row}
+use Rattle.schema_model.specs.Catalogue.{RelationValue, DatabaseValue, CatalogueValue, relation_value, database_value, relation_name, database_name, relation_in, database_of, relation_of, with_row}
 use Rattle.schema_model.specs.Changes.{after, at_database, at_relation, at_relation_in, with_relations, less_row, with_attribute, less_attribute, renamed_attribute, placed, without, renamed, placed_database, without_database, renamed_database}
 use Rattle.schema_model.specs.Pairs.{pair}
 use Rattle.schema_model.specs.Refusals.{fault}
@@ -21,10 +21,11 @@ use Rattle.schema_model.specs.declared.change.Change.{Change}
 use Rattle.schema_model.specs.declared.change.Change.TheVariants.{Insert, Delete, AddAttribute, DropAttribute, RenameAttribute, CreateRelation, DropRelation, RenameRelation, CreateDatabase, DropDatabase, RenameDatabase}
 use Rattle.schema_model.specs.declared.pair.Pair.{Pair}
 use Rattle.schema_model.proofs.Asks.{create_has, rename_relation_has, create_database_has, drop_database_has, rename_database_has}
+use Rattle.schema_model.proofs.ReadyLemmas.{same_some}
 use Rattle.csv_catalog.specs.Saved.{is_there}
 use Rattle.csv_catalog.specs.SavedTree.{place_of, is_place_among}
 use Rattle.view_session.specs.Named.{named_relations, named_databases, relations_as}
-use Rattle.kept_sources.proofs.NamedLemmas.{same_text, differs_back, named, named_with, found_in}
+use Rattle.kept_sources.proofs.NamedLemmas.{same_text, differs_back, named, named_with, found_in, each_legal}
 
 -- lists of named things, changed
 module _ {A : Type 0} (key : A → Text) where
@@ -87,19 +88,15 @@ module _ {A : Type 0} (key : A → Text) where
 not_both : (b : Bool) → b ≡ true → b ≡ false → ⊥
 not_both b t f = absurd (cc)
 
-or_false : (a b : Bool) → (a || b) ≡ false → (a ≡ false) × (b ≡ false)
-or_false true b e = absurd (cc)
-or_false false b e = (refl, e)
-
 among_itself : (p q : Pair) → p.db ≡ q.db → p.rel ≡ q.rel → eq_by_cmp place_cmp (place_of p) (place_of q) ≡ true
 among_itself p q db rel = ap (λ (x : Text). eq_by_cmp place_cmp (place_of p) (place_of (pair x q.rel))) (sym db) ∙ ap (λ (x : Text). eq_by_cmp place_cmp (place_of p) (place_of (pair p.db x))) (sym rel) ∙ ap is_eq (tied_itself place_total (place_of p))
 
 is_another : (p q : Pair) (qs : List Pair) → is_place_among (q ∷ qs) (place_of p) ≡ false → text_eq q.db p.db ≡ true → text_eq p.rel q.rel ≡ false
 is_another p q qs h db = false_from_ne_true _ (λ rel.
-    not_both (eq_by_cmp place_cmp (place_of p) (place_of q)) (among_itself p q (sym (same_text q.db p.db db)) (same_text p.rel q.rel rel)) (or_false (eq_by_cmp place_cmp (place_of p) (place_of q)) (is_place_among qs (place_of p)) h).0)
+    not_both (eq_by_cmp place_cmp (place_of p) (place_of q)) (among_itself p q (sym (same_text q.db p.db db)) (same_text p.rel q.rel rel)) (or_parts (eq_by_cmp place_cmp (place_of p) (place_of q)) (is_place_among qs (place_of p)) h).0)
 
 others_too : (p q : Pair) (qs : List Pair) → is_place_among (q ∷ qs) (place_of p) ≡ false → is_place_among qs (place_of p) ≡ false
-others_too p q qs h = (or_false (eq_by_cmp place_cmp (place_of p) (place_of q)) (is_place_among qs (place_of p)) h).1
+others_too p q qs h = (or_parts (eq_by_cmp place_cmp (place_of p) (place_of q)) (is_place_among qs (place_of p)) h).1
 
 -- a relation that is not among those of a list is not in it
 not_listed : (name : Text) (p : Pair) (rs : List RelationValue) → p.db ≡ name → is_place_among (map (λ (r : RelationValue). pair name r.name) rs) (place_of p) ≡ false → named relation_name p.rel rs ≡ None
@@ -111,7 +108,7 @@ not_listed name p (r ∷ rs) is h =
 none_first : (p : Pair) (qs rs : List Pair) → is_place_among (qs ++ rs) (place_of p) ≡ false → (is_place_among qs (place_of p) ≡ false) × (is_place_among rs (place_of p) ≡ false)
 none_first p [] rs h = (refl, h)
 none_first p (q ∷ qs) rs h =
-    let parts = or_false (eq_by_cmp place_cmp (place_of p) (place_of q)) (is_place_among (qs ++ rs) (place_of p)) h in
+    let parts = or_parts (eq_by_cmp place_cmp (place_of p) (place_of q)) (is_place_among (qs ++ rs) (place_of p)) h in
     let rest = none_first p qs rs parts.1 in
     (rw (parts.0, rest.0) refl, rest.1)
 
@@ -140,9 +137,6 @@ one_changed c db rel f p keeps h =
     relation_still c db (at_relation_in rel f) (λ x. refl) p.db p.rel (λ e d found.
     let other : text_eq rel p.rel ≡ false = differs_back p.rel rel (is_another p (pair db rel) [] h e) in
     named_changed relation_name rel p.rel f d.relations keeps ∙ rw other refl)
-
-same_some : {A : Type 0} (a b : A) → Some a ≡ Some b → a ≡ b
-same_some a b h = ap (λ o. option_map_or (λ x. x) o a) h
 
 -- a database found by the name of another
 found_as : (c : CatalogueValue) (db k : Text) (d e : DatabaseValue) → text_eq db k ≡ true → database_of c db ≡ Some d → database_of c k ≡ Some e → e ≡ d
@@ -255,7 +249,7 @@ module _ (c : CatalogueValue) (p : Pair) where
 -- and databases
 module _ (c : CatalogueValue) (k : Text) where
   one_of : (db : Text) → is_in k (db ∷ []) ≡ false → text_eq k db ≡ false
-  one_of db h = (or_false (text_eq k db) false h).0
+  one_of db h = (or_parts (text_eq k db) false h).0
 
   pub database_stays : (g : Change) → fault c g ≡ None → is_in k (named_databases g) ≡ false → is_there (after c g) k ≡ is_there c k
   database_stays (Insert db rel row) none h = there_still c db (at_relation_in rel (with_row row)) (λ x. refl) k
@@ -272,21 +266,18 @@ module _ (c : CatalogueValue) (k : Text) where
   database_stays (DropDatabase db) none h = ap is_some (named_without database_name db k c ∙ rw (differs_back k db (one_of db h)) refl)
   database_stays (RenameDatabase db to) none h =
       let has = rename_database_has c db to none in
-      let parts = or_false (text_eq k db) (text_eq k to || false) h in
+      let parts = or_parts (text_eq k db) (text_eq k to || false) h in
       let new : DatabaseValue = database_value to has.d.relations in
       let is : renamed_database db to c ≡ placed_database new (without_database db c) = ap (λ o. option_map_or (λ (d : DatabaseValue). placed_database (record d { name = to }) (without_database db c)) o c) has.database in
       let gone : database_of (without_database db c) to ≡ None = named_without database_name db to c ∙ either (text_eq db to) (database_of c to) has.free in
       ap is_some (ap (λ (x : CatalogueValue). database_of x k) is ∙ named_with database_name k new (without_database db c) (lacks_missing database_name to (without_database db c) gone)
-      ∙ rw (or_false (text_eq k to) false parts.1).0 (named_without database_name db k c ∙ rw (differs_back k db parts.0) refl))
+      ∙ rw (or_parts (text_eq k to) false parts.1).0 (named_without database_name db k c ∙ rw (differs_back k db parts.0) refl))
     where
       either : (b : Bool) (o : Option DatabaseValue) → o ≡ None → cond b None o ≡ None
       either true o e = refl
       either false o e = e
 
 -- names of a sound catalogue are labels
-each_legal : {A : Type 0} (key : A → Text) (xs : List A) → list_all is_table_label (map key xs) ≡ true → AllByRecursion (λ x. is_table_label (key x) ≡ true) xs
-each_legal key [] h = tt
-each_legal key (x ∷ xs) h = let parts = and_parts (is_table_label (key x)) (list_all is_table_label (map key xs)) h in (parts.0, each_legal key xs parts.1)
 
 pub legal_there : (c : CatalogueValue) (db : Text) → IsSound c → is_there c db ≡ true → is_table_label db ≡ true
 legal_there c db s h = by_found (database_of c db) refl h

@@ -2,8 +2,6 @@
 use Rattle.std.proofs.Common.{◌≡◌, ◌≤◌, ◌+◌, ◌∷◌, ◌∙◌, [], ℕ, Bool, true, false, cond, ◌&&◌, List, Option, Some, None, is_some, refl, sym, ap, subst, suc, length, map, arith}
 use Rattle.std.specs.Prelude.{nat_lt, option_map, Result, Ok, Err, sum_by}
 use Rattle.std.specs.List.{AllByRecursion, list_all, cons_option}
-use Rattle.std.specs.Option.{option_or}
-use Rattle.std.specs.FinMap as map_of
 use Rattle.std.proofs.lemmas.Bool.{and_parts, true≢false}
 use Rattle.std.proofs.lemmas.Bool.Decides.{nat_tests}
 use Rattle.std.proofs.lemmas.List.{length-map}
@@ -13,19 +11,21 @@ use Rattle.ss_text.specs.Label.{is_table_label}
 use Rattle.ss_text.specs.Ascending.{ascending}
 use Rattle.outside.specs.Tree.{Tree, file_at, has_folder}
 use Rattle.outside.specs.Whole.{IsWhole}
-use Rattle.schema_model.specs.Catalogue.{RelationValue, DatabaseValue, CatalogueValue, relation_value, relation_name, database_name, database_names, relation_in, database_of, relation_of, rows_in, row_count}
+use Rattle.schema_model.specs.Catalogue.{RelationValue, CatalogueValue, relation_value, relation_name, database_names, database_of, relation_of, rows_in, row_count}
 use Rattle.schema_model.specs.Sound.{AreNames, IsRelation, IsDatabase, IsSound}
 use Rattle.schema_model.specs.declared.Which.TheVariants.{Databases, Relations}
 use Rattle.csv_catalog.specs.declared.fault.LoadFault.{LoadFault}
 use Rattle.csv_catalog.specs.declared.fault.LoadFault.TheVariants as load
 use Rattle.csv_catalog.specs.FileFaults.{file_fault, rows_of, header_of, told_fault}
-use Rattle.csv_catalog.specs.Loaded.{File, database_folder, label_of, is_relation_file, databases_in, files_in, file_in, files_read, database_files, relation_of as relation_of_file, by_name, database_in, catalogue_in, files_fault, database_fault, databases_fault, first_refusal, unless_refused, loaded, sources_folder}
+use Rattle.csv_catalog.specs.Loaded.{database_folder, label_of, is_relation_file, databases_in, files_in, files_read, database_files, relation_of as relation_of_file, by_name, database_in, catalogue_in, files_fault, database_fault, databases_fault, first_refusal, unless_refused, loaded, sources_folder}
 use Rattle.csv_catalog.specs.Records.{records_of}
 use Rattle.csv_catalog.specs.Saved.{relation_file, is_there}
 use Rattle.csv_catalog.proofs.AllRecords.{records_have_fields}
 use Rattle.csv_catalog.proofs.FaultLemmas.{sound_relation}
 use Rattle.csv_catalog.proofs.LoadLemmas.{names_legal}
-use Rattle.kept_sources.proofs.NamedLemmas.{AllDiffer, ascending_by_name, length_ascending, sum_ascending, all_ascending}
+use Rattle.csv_catalog.proofs.JudgedLemmas.{both_none}
+use Rattle.view_folder.proofs.FormLemmas.{none_mapped}
+use Rattle.kept_sources.proofs.NamedLemmas.{ascending_by_name, length_ascending, sum_ascending, all_ascending}
 use Rattle.kept_sources.proofs.TreeLemmas.{folders_ascend}
 use Rattle.kept_sources.proofs.FileLemmas.{read_at, read_all, file_legal, files_legal, database_differ, found_relation, found_database}
 
@@ -77,13 +77,6 @@ relation_loaded t c db rel h whole legal_db legal =
         rw found (sym (no_file t (database_folder db) rel whole e))
 
 -- it is sound: the relations of files without a fault
-both_none : {A : Type 0} (a b : Option A) → option_or a b ≡ None → (a ≡ None) × (b ≡ None)
-both_none None b e = (refl, e)
-both_none (Some x) b e = absurd (cc e)
-
-mapped_none : {A B : Type 0} (f : A → B) (o : Option A) → option_map f o ≡ None → o ≡ None
-mapped_none f None e = refl
-mapped_none f (Some x) e = absurd (cc e)
 
 plus_none : (n : ℕ) → n ≤ 1000000 → n + 0 ≤ 1000000
 plus_none n h = omega arith
@@ -105,7 +98,7 @@ module _ (t : Tree) (db folder : Text) where
       by_file None e rest = rest count few e
       by_file (Some bytes) e rest =
           let parts = both_none (option_map (told_fault db f) (file_fault count (records_of bytes))) (files_fault db (count + length (rows_of (records_of bytes))) (files_read t folder fs)) e in
-          let one = sound_relation (label_of f) count (records_of bytes) (records_have_fields bytes) few (mapped_none (told_fault db f) (file_fault count (records_of bytes)) parts.0) in
+          let one = sound_relation (label_of f) count (records_of bytes) (records_have_fields bytes) few (none_mapped (told_fault db f) (file_fault count (records_of bytes)) parts.0) in
           let more = rest (count + length (rows_of (records_of bytes))) one.1 parts.1 in
           ((one.0, more.0), grouped count (length (rows_of (records_of bytes))) _ _ (sum_by-cons (λ (r : RelationValue). length r.rows) (relation_of_file (f, records_of bytes)) (read_all t folder fs)) more.1)
 

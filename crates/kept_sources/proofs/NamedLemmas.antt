@@ -1,16 +1,18 @@
 -- Lists whose elements have different names: what is found in them, and in what order they come to stand.
-use Rattle.std.proofs.Common.{◌≡◌, ◌≤◌, ◌+◌, ◌∷◌, ◌∙◌, [], ℕ, Bool, true, false, cond, List, Option, Some, None, refl, sym, ap, subst, suc, length, map, arith}
-use Rattle.std.specs.Prelude.{◌||◌, ◌&&◌, filter, find, sum_by, unwrap_or}
-use Rattle.std.specs.List.{AllByRecursion, list_any, list_all}
+use Rattle.std.proofs.Common.{◌≡◌, ◌+◌, ◌∷◌, ◌∙◌, [], ℕ, Bool, true, false, cond, List, Option, Some, None, refl, sym, ap, subst, suc, length, map, arith}
+use Rattle.std.specs.Prelude.{◌||◌, ◌&&◌, filter, find, sum_by}
+use Rattle.std.specs.List.{AllByRecursion, list_all}
 use Rattle.std.specs.List.Sorted.{IsStrictlySortedBy}
 use Rattle.std.specs.declared.cmp.Ordering.{Ordering}
 use Rattle.std.specs.declared.cmp.Ordering.TheVariants.{Less, Equal, Greater}
-use Rattle.std.specs.Ordering.{ordering_reverse, is_eq}
-use Rattle.std.proofs.lemmas.Bool.{false_from_ne_true, true≢false}
+use Rattle.std.specs.Ordering.{is_eq}
+use Rattle.std.proofs.lemmas.Bool.{false_from_ne_true, true≢false, and_parts}
 use Rattle.std.proofs.lemmas.List.Sums.{sum_by-cons}
 use Rattle.ss_text.specs.Texts.{Text, text_cmp, text_eq, is_in}
 use Rattle.ss_text.specs.Ascending.{by_order, with_element, ascending}
-use Rattle.ss_text.proofs.KeyLemmas.{text_order, equal_itself, equal_is, Lacks, lacks_after, lacks_find, less_turned, greater_turned, less_differs, greater_differs}
+use Rattle.ss_text.proofs.KeyLemmas.{text_order, equal_itself, equal_is, Lacks, lacks_after, lacks_find, greater_turned, less_differs}
+use Rattle.ss_text.specs.Label.{is_table_label}
+use Rattle.schema_model.proofs.ReadyLemmas.{same_some}
 
 pub same_text : (a b : Text) → text_eq a b ≡ true → a ≡ b
 same_text a b h = equal_is text_order a b h
@@ -64,9 +66,6 @@ module _ {A : Type 0} (key : A → Text) where
   none_below : (x y : A) (ys : List A) → text_cmp (key x) (key y) ≡ Less → AllByRecursion (λ k. text_cmp (key y) k ≡ Less) (map key ys) → named (key x) (y ∷ ys) ≡ None
   none_below x y ys e h = lacks_find text_order key (key x) (y ∷ ys) (lacks_after text_order key (key x) x (y ∷ ys) refl (e, below_more (key x) (key y) (map key ys) e h))
 
-  same_one : {B : Type 0} (x y : B) → Some x ≡ Some y → x ≡ y
-  same_one x y e = ap (λ o. unwrap_or o x) e
-
   -- two lists that ascend by their names, and in which each name finds the same
   pub same_named : (xs ys : List A) → AscendByName xs → AscendByName ys → ((k : Text) → named k xs ≡ named k ys) → xs ≡ ys
   unfolding IsStrictlySortedBy
@@ -89,7 +88,7 @@ module _ {A : Type 0} (key : A → Text) where
       by_case Greater e rest = absurd (some_none y (sym (first_named y ys) ∙ sym (h (key y)) ∙ none_below y x xs (greater_turned text_order (key x) (key y) e) s.0))
       by_case Equal e rest =
           let is : key x ≡ key y = text_order.same (key x) (key y) e in
-          let one : x ≡ y = same_one x y (sym (first_named x xs) ∙ h (key x) ∙ ap (λ b. cond b (Some y) (named (key x) ys)) (ap (λ (k : Text). text_eq k (key y)) is ∙ equal_itself text_order (key y))) in
+          let one : x ≡ y = same_some x y (sym (first_named x xs) ∙ h (key x) ∙ ap (λ b. cond b (Some y) (named (key x) ys)) (ap (λ (k : Text). text_eq k (key y)) is ∙ equal_itself text_order (key y))) in
           ap (λ (z : A). z ∷ xs) one ∙ ap (λ (zs : List A). y ∷ zs) (rest (later is))
 
   -- elements of different names
@@ -203,7 +202,7 @@ module _ {A : Type 0} (key : A → Text) where
   found_in P k [] x each h = absurd (cc)
   found_in P k (y ∷ ys) x each h =
       elim (text_eq k (key y)) as (λ b. text_eq k (key y) ≡ b → cond b (Some y) (named k ys) ≡ Some x → P x × (key x ≡ k)) [
-        | true ↦ λ e is. let one : y ≡ x = same_one y x is in subst (λ (z : A). P z × (key z ≡ k)) one (each.0, sym (same_text k (key y) e))
+        | true ↦ λ e is. let one : y ≡ x = same_some y x is in subst (λ (z : A). P z × (key z ≡ k)) one (each.0, sym (same_text k (key y) e))
         | false ↦ λ _ is. found_in P k ys x each.1 is
       ] refl h
 
@@ -222,3 +221,8 @@ same_texts xs ys s t h = same_named (λ x. x) xs ys (subst (IsStrictlySortedBy t
           | true ↦ λ e. ap Some (sym (same_text k z e))
           | false ↦ λ _. found k zs
         ] refl
+
+-- names that are legal one by one
+pub each_legal : {A : Type 0} (key : A → Text) (xs : List A) → list_all is_table_label (map key xs) ≡ true → AllByRecursion (λ x. is_table_label (key x) ≡ true) xs
+each_legal key [] h = tt
+each_legal key (x ∷ xs) h = let parts = and_parts (is_table_label (key x)) (list_all is_table_label (map key xs)) h in (parts.0, each_legal key xs parts.1)

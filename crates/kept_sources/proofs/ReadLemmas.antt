@@ -1,11 +1,11 @@
 -- Folders whose files are those of a sound catalogue are loaded as it.
-use Rattle.std.proofs.Common.{◌≡◌, ◌≤◌, ◌<◌, ◌+◌, ◌∷◌, ◌++◌, ◌∙◌, ◌==◌, [], ℕ, Bool, true, false, cond, not, ◌&&◌, ◌||◌, List, Option, Some, None, is_some, refl, sym, ap, subst, suc, length, map, arith, append_assoc}
-use Rattle.std.specs.Prelude.{nat_lt, nat_le, option_map, bytes_eq, filter, Result, Ok, sum_by}
-use Rattle.std.specs.List.{AllByRecursion, list_all, list_any, cons_option, IsDistinct}
+use Rattle.std.proofs.Common.{◌≡◌, ◌≤◌, ◌+◌, ◌∷◌, ◌++◌, ◌∙◌, [], ℕ, Bool, true, false, cond, ◌&&◌, ◌||◌, List, Option, Some, None, is_some, refl, sym, ap, subst, suc, length, map, arith, append_assoc}
+use Rattle.std.specs.Prelude.{nat_le, option_map, bytes_eq, filter, Ok, sum_by}
+use Rattle.std.specs.List.{AllByRecursion, list_all, cons_option, IsDistinct}
 use Rattle.std.specs.List.Sorted.{IsStrictlySortedBy}
 use Rattle.std.specs.Option.{option_or}
 use Rattle.std.specs.declared.cmp.Ordering.TheVariants.{Less, Equal, Greater}
-use Rattle.std.proofs.lemmas.Bool.{and_parts, true≢false, le-ltb, eqb-true, false_from_ne_true}
+use Rattle.std.proofs.lemmas.Bool.{and_parts, true≢false, le-ltb, or_right}
 use Rattle.std.proofs.lemmas.Bool.Decides.{nat_tests, Decides-eqb}
 use Rattle.std.proofs.lemmas.List.{length-map}
 use Rattle.std.proofs.lemmas.List.Sums.{sum_by-cons}
@@ -15,16 +15,15 @@ use Rattle.ss_text.specs.Label.{is_table_label}
 use Rattle.ss_text.specs.Ascending.{by_order, with_element, ascending}
 use Rattle.ss_text.proofs.KeyLemmas.{text_order, equal_itself, Lacks}
 use Rattle.outside.specs.Tree.{Tree, file_at, files_of, subfolders_of, has_folder}
-use Rattle.schema_model.specs.Catalogue.{RelationValue, DatabaseValue, CatalogueValue, relation_value, database_value, relation_name, database_name, database_names, relation_names, relation_in, database_of, relation_of, rows_in, row_count}
-use Rattle.schema_model.specs.Sound.{AreNames, IsHeader, IsRelation, IsDatabase, IsSound}
-use Rattle.csv_catalog.specs.declared.fault.LoadFault.{LoadFault}
-use Rattle.csv_catalog.specs.FileFaults.{repeated_after, first_repeated, row_fault, rows_fault, header_fault, file_fault, rows_of, header_of, told_fault}
-use Rattle.csv_catalog.specs.Loaded.{sources_folder, database_folder, label_of, is_relation_file, databases_in, files_in, file_in, files_read, database_files, relation_of as relation_of_file, by_name, database_in, catalogue_in, files_fault, database_fault, databases_fault, first_refusal, loaded}
+use Rattle.schema_model.specs.Catalogue.{RelationValue, DatabaseValue, CatalogueValue, relation_value, database_value, relation_name, database_name, database_names, relation_in, database_of, relation_of, rows_in, row_count}
+use Rattle.schema_model.specs.Sound.{IsHeader, IsRelation, IsDatabase, IsSound}
+use Rattle.csv_catalog.specs.FileFaults.{repeated_after, rows_fault, header_fault, file_fault, rows_of, header_of, told_fault}
+use Rattle.csv_catalog.specs.Loaded.{sources_folder, database_folder, label_of, is_relation_file, databases_in, files_in, files_read, database_files, relation_of as relation_of_file, by_name, database_in, catalogue_in, files_fault, database_fault, databases_fault, loaded}
 use Rattle.csv_catalog.specs.Records.{records_of}
-use Rattle.csv_catalog.specs.Saved.{relation_file, is_there}
+use Rattle.csv_catalog.specs.Saved.{is_there}
 use Rattle.view_folder.proofs.FolderLemmas.{there}
-use Rattle.kept_sources.proofs.NamedLemmas.{differs_back, in_kept, named, same_named, found_in, AllDiffer, by_key, ascending_by_name, length_ascending, sum_ascending}
-use Rattle.kept_sources.proofs.TreeLemmas.{files_ascend, folders_ascend}
+use Rattle.kept_sources.proofs.NamedLemmas.{differs_back, in_kept, named, same_named, found_in, AllDiffer, by_key, ascending_by_name, length_ascending, sum_ascending, each_legal}
+use Rattle.kept_sources.proofs.TreeLemmas.{folders_ascend}
 use Rattle.kept_sources.proofs.FileLemmas.{read_at, read_all, database_differ, found_relation, found_database}
 use Rattle.kept_sources.proofs.LoadedLemmas.{names_of}
 
@@ -118,12 +117,8 @@ module _ {A : Type 0} (key : A → Text) (P : A → Type 0) where
 -- each listed file is read
 read_count : (t : Tree) (folder : Text) (files : List Text) → ((f : Text) → is_in f files ≡ true → is_some (file_at t folder f) ≡ true) → length (files_read t folder files) ≡ length files
 read_count t folder [] h = refl
-read_count t folder (f ∷ fs) h = by_file (file_at t folder f) (h f (ap (λ b. b || is_in f fs) (equal_itself text_order f))) (read_count t folder fs (λ g i. h g (later (text_eq g f) (is_in g fs) i)))
+read_count t folder (f ∷ fs) h = by_file (file_at t folder f) (h f (ap (λ b. b || is_in f fs) (equal_itself text_order f))) (read_count t folder fs (λ g i. h g (or_right (text_eq g f) (is_in g fs) i)))
   where
-    later : (a b : Bool) → b ≡ true → (a || b) ≡ true
-    later true b e = refl
-    later false b e = e
-
     by_file : (o : Option (List ℕ)) → is_some o ≡ true → length (files_read t folder fs) ≡ length fs → length (cons_option (option_map (λ (bytes : List ℕ). (f, records_of bytes)) o) (files_read t folder fs)) ≡ suc (length fs)
     by_file None some e = absurd (cc some)
     by_file (Some bytes) some e = ap suc e
@@ -164,10 +159,6 @@ module _ (t : Tree) where
 module _ (u : Tree) (c : CatalogueValue) (s : IsSound c)
     (folders : (db : Text) → is_table_label db ≡ true → is_there c db ≡ has_folder u (database_folder db))
     (files : (db rel : Text) → is_table_label db ≡ true → is_table_label rel ≡ true → relation_of c db rel ≡ read_at u (database_folder db) rel) where
-  each_legal : {A : Type 0} (key : A → Text) (xs : List A) → list_all is_table_label (map key xs) ≡ true → AllByRecursion (λ x. is_table_label (key x) ≡ true) xs
-  each_legal key [] h = tt
-  each_legal key (x ∷ xs) h = let parts = and_parts (is_table_label (key x)) (list_all is_table_label (map key xs)) h in (parts.0, each_legal key xs parts.1)
-
   none_named : {A : Type 0} (key : A → Text) (k : Text) (xs : List A) → list_all is_table_label (map key xs) ≡ true → is_table_label k ≡ false → named key k xs ≡ None
   none_named key k xs legal not_k = by_found (named key k xs) refl
     where

@@ -1,51 +1,50 @@
 -- What the sources hold while changes are made and saved.
-use Rattle.std.proofs.Common.{◌≡◌, ◌≢◌, ◌∷◌, ◌++◌, ◌∙◌, ◌==◌, [], ℕ, Bool, true, false, cond, not, ◌&&◌, ◌||◌, List, Option, Some, None, is_some, refl, sym, ap, subst, map, length, append_assoc, arith, ◌≤◌}
-use Rattle.std.specs.Prelude.{codes, filter, option_map, option_and_then, unwrap_or, Result, Ok, IsTrue}
+use Rattle.std.proofs.Common.{◌≡◌, ◌≢◌, ◌∷◌, ◌++◌, ◌∙◌, ◌==◌, [], ℕ, Bool, true, false, cond, not, ◌&&◌, ◌||◌, List, Option, Some, None, is_some, refl, sym, ap, subst, length, append_assoc, arith, ◌≤◌}
+use Rattle.std.specs.Prelude.{codes, option_map, option_and_then, unwrap_or, Ok, IsTrue}
 use Rattle.std.specs.FinMap as map_of
 use Rattle.std.specs.List.{AllByRecursion, list_any, list_all}
-use Rattle.std.specs.Option.{option_map_or, option_or}
-use Rattle.std.specs.Ordering.{eq_by_cmp, is_eq}
+use Rattle.std.specs.Option.{option_map_or}
+use Rattle.std.specs.Ordering.{eq_by_cmp}
 use Rattle.std.specs.Cmp.{IsTotalOrder, on_total, then_total}
 use Rattle.std.specs.Cmp.Lexicographic.{nat_list_cmp_total}
 use Rattle.std.specs.declared.cmp.Ordering.TheVariants.{Less, Equal, Greater}
-use Rattle.std.proofs.lemmas.Bool.{and_parts, or_right, true≢false, false_from_ne_true}
+use Rattle.std.proofs.lemmas.Bool.{and_parts, or_right, true≢false, false_from_ne_true, or_parts, and_from, or_left, not_from_false}
 use Rattle.std.proofs.lemmas.List.{append_cancel_left}
 use Rattle.std.proofs.lemmas.List.Folds.{list_any-append}
 use Rattle.ss_text.specs.Texts.{Text, Row, text_cmp, text_eq, is_in}
 use Rattle.ss_text.specs.Label.{is_table_label}
 use Rattle.ss_text.specs.Ascending.{by_order, with_element, ascending}
-use Rattle.ss_text.proofs.KeyLemmas.{text_order, equal_itself}
+use Rattle.ss_text.proofs.KeyLemmas.{text_order}
 use Rattle.ss_text.proofs.SetLemmas.{same_ascending}
-use Rattle.outside.specs.States.{StoreState, SinkState}
-use Rattle.outside.specs.Tree.{Tree, Place, place_cmp, file_at, files_of, child_name, folder_path, has_folder, has_empty_folder, with_file, without_file}
+use Rattle.outside.specs.Tree.{Tree, Place, place_cmp, file_at, files_of, child_name, folder_path, has_folder, has_empty_folder}
 use Rattle.outside.specs.Whole.{IsWhole}
 use Rattle.outside.specs.WholeLaw.{is_eq_true, place_exact}
 use Rattle.outside.proofs.PlaceLemmas.{place_total}
 use Rattle.outside.proofs.TreeLemmas.{child_full, kept_made, write_broke_off}
-use Rattle.effects.specs.Effects.{Effect, Write, Remove, MakeFolder, RemoveFolder, Print, Stored, Contents, contents, performed, world_of}
+use Rattle.effects.specs.Effects.{Effect, Write, Remove, MakeFolder, RemoveFolder, Print, Stored, contents}
 use Rattle.schema_model.specs.declared.pair.Pair.{Pair}
 use Rattle.schema_model.specs.declared.change.Change.{Change}
 use Rattle.schema_model.specs.Catalogue.{RelationValue, DatabaseValue, CatalogueValue, relation_value, relation_name, database_name, relation_in, database_of, relation_of}
 use Rattle.schema_model.specs.Changes.{after, after_all, is_well_formed}
-use Rattle.schema_model.specs.declared.refusal.Refusal.{Refusal}
 use Rattle.schema_model.specs.Pairs.{pair, pair_cmp}
 use Rattle.schema_model.specs.Refusals.{fault, group_fault}
 use Rattle.schema_model.specs.Sound.{IsRelation, IsDatabase, IsSound}
 use Rattle.schema_model.proofs.PairOrder.{pair_same}
 use Rattle.schema_model.proofs.SoundAfter.{sound_after}
+use Rattle.schema_model.proofs.GroupLemmas.{first_none}
 use Rattle.csv_catalog.specs.FileFaults.{header_of, rows_of}
 use Rattle.csv_catalog.specs.Loaded.{loaded, database_folder, is_relation_file, label_of}
-use Rattle.csv_catalog.specs.RecordText.{csv_text, relation_records, has_field, starts_with_bom}
+use Rattle.csv_catalog.specs.RecordText.{csv_text, relation_records, has_field}
 use Rattle.csv_catalog.specs.Records.{records_of}
 use Rattle.csv_catalog.specs.Saved.{relation_file, is_there, those_there, those_gone, folders_made, folders_removed, pair_saved, pairs_saved, saved}
 use Rattle.csv_catalog.specs.SavedTree.{place_of, bytes_of, is_place_among, HoldsSaved}
 use Rattle.csv_catalog.proofs.RoundTrip.{reads_back}
-use Rattle.csv_catalog.proofs.SavedTreeLemmas.{all_held, nothing_held}
+use Rattle.csv_catalog.proofs.SavedTreeLemmas.{all_held, nothing_held, in_folders}
 use Rattle.view_folder.specs.Files.{view_folder}
 use Rattle.view_folder.proofs.FolderLemmas.{there}
 use Rattle.view_session.specs.Named.{Names, named_relations, named_databases, with_change, with_changes}
 use Rattle.view_session.specs.Session.{SessionState, moved, committed}
-use Rattle.kept_sources.specs.Counted.{tree_by, tree_after, counted}
+use Rattle.kept_sources.specs.Counted.{tree_by, tree_after}
 use Rattle.kept_sources.specs.Synced.{Synced, unsaved, synced, saving, HeldOnlyRelations, ReadsBack, SourcesHold}
 use Rattle.kept_sources.proofs.NamedLemmas.{same_text, named, in_kept, found_in}
 use Rattle.kept_sources.proofs.TreeLemmas.{label_slash, stands_empty, none_in_folder}
@@ -59,7 +58,7 @@ use Rattle.kept_sources.proofs.AfterLemmas.{Silent, MakesNot, stored_by, silent_
 slash_in : (xs ys : Text) → list_any (λ b. b == 47) (xs ++ 47 ∷ ys) ≡ true
 slash_in xs ys = list_any-append (λ b. b == 47) xs (47 ∷ ys) ∙ or_right (list_any (λ b. b == 47) xs) true refl
 
-not_slashed : (x xs ys : Text) → is_table_label x ≡ true → x ≡ xs ++ 47 ∷ ys → ⊥
+pub not_slashed : (x xs ys : Text) → is_table_label x ≡ true → x ≡ xs ++ 47 ∷ ys → ⊥
 not_slashed x xs ys legal e = true≢false (sym (ap (list_any (λ b. b == 47)) e ∙ slash_in xs ys) ∙ label_slash x legal)
 
 module _ (c : CatalogueValue) (s : IsSound c) (d : Text) (apart : (x : Text) → is_there c x ≡ true → is_in d (folder_path (database_folder x)) ≡ false) where
@@ -174,9 +173,6 @@ pair_total : IsTotalOrder pair_cmp
 pair_total = then_total (on_total (λ (p : Pair). p.db) nat_list_cmp_total) (on_total (λ (p : Pair). p.rel) nat_list_cmp_total)
 
 -- a change
-none_either : (a b : Bool) → (a || b) ≡ false → (a ≡ false) × (b ≡ false)
-none_either true b e = absurd (cc e)
-none_either false b e = (refl, e)
 
 all_legal : (xs ys : List Text) → list_all is_table_label xs ≡ true → list_all is_table_label ys ≡ true → list_all is_table_label (xs ++ ys) ≡ true
 all_legal [] ys h k = k
@@ -204,10 +200,10 @@ pending_named s n g formed none p =
     record {
       sound = sound_after n.catalogue g p.sound formed none;
       relations = λ q out.
-          let parts = none_either _ _ (sym (list_any-append (λ (r : Pair). eq_by_cmp place_cmp (place_of q) (place_of r)) n.changed.relations (named_relations n.catalogue g)) ∙ (same_ascending pair_total pair_same pairs).same (λ (r : Pair). eq_by_cmp place_cmp (place_of q) (place_of r)) ∙ out) in
+          let parts = or_parts _ _ (sym (list_any-append (λ (r : Pair). eq_by_cmp place_cmp (place_of q) (place_of r)) n.changed.relations (named_relations n.catalogue g)) ∙ (same_ascending pair_total pair_same pairs).same (λ (r : Pair). eq_by_cmp place_cmp (place_of q) (place_of r)) ∙ out) in
           relation_stays n.catalogue q g none parts.1 ∙ p.relations q parts.0;
       databases = λ db out.
-          let parts = none_either _ _ (sym (list_any-append (text_eq db) n.changed.databases (named_databases g)) ∙ (same_ascending text_order.total text_order.same dbs).same (text_eq db) ∙ out) in
+          let parts = or_parts _ _ (sym (list_any-append (text_eq db) n.changed.databases (named_databases g)) ∙ (same_ascending text_order.total text_order.same dbs).same (text_eq db) ∙ out) in
           database_stays n.catalogue db g none parts.1 ∙ p.databases db parts.0;
       labels = legal_ascending dbs (all_legal n.changed.databases (named_databases g) p.labels (named_legal n.catalogue g p.sound none));
     }
@@ -218,15 +214,12 @@ pending_change s n g formed none p =
     record { sound = m.sound; relations = m.relations; databases = m.databases; labels = m.labels }
 
 -- changes, one after another
-neither_refuses : (a b : Option Refusal) → option_or a b ≡ None → (a ≡ None) × (b ≡ None)
-neither_refuses None b e = (refl, e)
-neither_refuses (Some r) b e = absurd (cc e)
 
 pending_changes : (s : Synced) (n : SessionState) (gs : List Change) → AllByRecursion (λ g. IsTrue (is_well_formed g)) gs → group_fault n.catalogue gs ≡ None → Pending s n
     → Pending s (named_after n (after_all n.catalogue gs) (with_changes n.changed n.catalogue gs))
 pending_changes s n [] formed none p = record { sound = p.sound; relations = p.relations; databases = p.databases; labels = p.labels }
 pending_changes s n (g ∷ gs) formed none p =
-    let parts = neither_refuses (fault n.catalogue g) (group_fault (after n.catalogue g) gs) none in
+    let parts = first_none (fault n.catalogue g) (group_fault (after n.catalogue g) gs) none in
     let m = pending_changes s (named_after n (after n.catalogue g) (with_change n.changed n.catalogue g)) gs formed.1 parts.1 (pending_named s n g formed.0 parts.0 p) in
     record { sound = m.sound; relations = m.relations; databases = m.databases; labels = m.labels }
 
@@ -244,14 +237,6 @@ among_is (p ∷ ps) q h =
       | true ↦ λ e _. (p, place_exact q (place_of p) (is_eq_true _ e))
       | false ↦ λ _ h. among_is ps q h
     ] refl h
-
-in_folders : (xs : List Text) (x : Text) → is_in (database_folder x) (map database_folder xs) ≡ is_in x xs
-in_folders [] x = refl
-in_folders (y ∷ ys) x = ap (λ b. b || is_in (database_folder x) (map database_folder ys)) (same_front (text_eq x y) refl) ∙ ap (λ b. text_eq x y || b) (in_folders ys x)
-  where
-    same_front : (b : Bool) → text_eq x y ≡ b → text_eq (database_folder x) (database_folder y) ≡ b
-    same_front true e = ap (λ (z : Text). text_eq (database_folder x) (database_folder z)) (sym (same_text x y e)) ∙ equal_itself text_order (database_folder x)
-    same_front false e = false_from_ne_true _ (λ h. true≢false (sym (ap (text_eq x) (sym (append_cancel_left (codes "sources/") x y (same_text (database_folder x) (database_folder y) h))) ∙ equal_itself text_order x) ∙ e))
 
 -- a sync
 module _ (t : Tree) (c0 : CatalogueValue) (first : loaded t ≡ Ok c0) (whole : IsWhole t) (s : Synced) (u : Tree) (n : SessionState) (k : SourcesKept t c0 s u) (p : Pending s n) where
@@ -280,7 +265,7 @@ module _ (t : Tree) (c0 : CatalogueValue) (first : loaded t ≡ Ok c0) (whole : 
   in_new db = list_any-append (text_eq db) s.databases dbs
 
   neither : (q : Place) → is_place_among new.relations q ≡ false → (is_place_among s.relations q ≡ false) × (is_place_among pairs q ≡ false)
-  neither q h = none_either _ _ (sym (among_new q) ∙ h)
+  neither q h = or_parts _ _ (sym (among_new q) ∙ h)
 
   stay_new : (db name : Text) → is_place_among new.relations (database_folder db, name) ≡ false → file_at v (database_folder db) name ≡ file_at t (database_folder db) name
   stay_new db name h =
@@ -304,9 +289,6 @@ module _ (t : Tree) (c0 : CatalogueValue) (first : loaded t ≡ Ok c0) (whole : 
   unmoved_new : (q : Pair) → is_place_among new.relations (place_of q) ≡ false → relation_of c q.db q.rel ≡ relation_of c0 q.db q.rel
   unmoved_new q h = let parts = neither (place_of q) h in p.relations q parts.1 ∙ k.unmoved q parts.0
 
-  both : (a b : Bool) → a ≡ true → b ≡ true → (a && b) ≡ true
-  both a b p q = rw (p, q) refl
-
   none_of : (a b : Bool) → a ≡ true → (not a && b) ≡ false
   none_of a b e = rw e refl
 
@@ -314,7 +296,7 @@ module _ (t : Tree) (c0 : CatalogueValue) (first : loaded t ≡ Ok c0) (whole : 
   there_new db is = by_case (is_in db dbs) refl
     where
       by_case : (b : Bool) → is_in db dbs ≡ b → has_folder v (database_folder db) ≡ true
-      by_case true e = held.there db (in_kept (is_there c) db dbs ∙ both (is_there c db) (is_in db dbs) is e)
+      by_case true e = held.there db (in_kept (is_there c) db dbs ∙ and_from (is_there c db) (is_in db dbs) is e)
       by_case false e =
           held.kept (database_folder db) (in_folders (those_gone c dbs) db ∙ in_kept (λ x. not (is_there c x)) db dbs ∙ none_of (is_there c db) (is_in db dbs) is)
           (k.there db (sym (p.databases db e) ∙ is))
@@ -396,25 +378,14 @@ module _ (t : Tree) (c0 : CatalogueValue) (first : loaded t ≡ Ok c0) (whole : 
   gone_new : (db : Text) → is_table_label db ≡ true → is_there c db ≡ false → (is_in db new.databases ≡ true → HeldOnlyRelations t db) → has_folder v (database_folder db) ≡ false
   gone_new db legal none only = by_case (is_in db dbs) refl
     where
-      right : (a b : Bool) → b ≡ true → (a || b) ≡ true
-      right true b e = refl
-      right false b e = e
-
-      left : (a b : Bool) → a ≡ true → (a || b) ≡ true
-      left a b e = rw e refl
-
-      not_is : (b : Bool) → b ≡ false → not b ≡ true
-      not_is true e = absurd (cc e)
-      not_is false e = refl
-
       by_case : (b : Bool) → is_in db dbs ≡ b → has_folder v (database_folder db) ≡ false
       by_case true e =
-          let held_only = only (in_new db ∙ right (is_in db s.databases) (is_in db dbs) e) in
-          let full : has_empty_folder v (database_folder db) ≡ false = held.gone db (in_kept (λ x. not (is_there c x)) db dbs ∙ both (not (is_there c db)) (is_in db dbs) (not_is (is_there c db) none) e) in
+          let held_only = only (in_new db ∙ or_right (is_in db s.databases) (is_in db dbs) e) in
+          let full : has_empty_folder v (database_folder db) ≡ false = held.gone db (in_kept (λ x. not (is_there c x)) db dbs ∙ and_from (not (is_there c db)) (is_in db dbs) (not_from_false (is_there c db) none) e) in
           false_from_ne_true _ (λ here. true≢false (sym (stands_empty v (database_folder db) here (λ name. no_file db name legal none held_only) (λ d h. no_child db d held_only h)) ∙ full))
       by_case false e =
           false_from_ne_true _ (λ here. true≢false (sym (not_back db none here)
-          ∙ k.gone db legal (sym (p.databases db e) ∙ none) (λ i. only (in_new db ∙ left (is_in db s.databases) (is_in db dbs) i))))
+          ∙ k.gone db legal (sym (p.databases db e) ∙ none) (λ i. only (in_new db ∙ or_left (is_in db s.databases) (is_in db dbs) i))))
 
   pub kept_synced : SourcesKept t c0 new v
   kept_synced = record {

@@ -1,27 +1,27 @@
 -- The files and the folders in a folder.
 use Rattle.std.specs.Prelude.{T}
-use Rattle.std.proofs.Common.{◌≡◌, ◌≢◌, ◌∷◌, ◌++◌, ◌∙◌, [], ℕ, suc, Bool, true, false, cond, not, ◌&&◌, ◌||◌, ◌==◌, List, Option, Some, None, is_some, refl, sym, ap, subst, length, map, append_assoc}
-use Rattle.std.specs.Prelude.{codes, filter, unwrap_or, slice_index}
+use Rattle.std.proofs.Common.{◌≡◌, ◌≢◌, ◌∷◌, ◌∙◌, [], suc, Bool, true, false, cond, ◌||◌, ◌==◌, List, Option, Some, None, is_some, refl, sym, ap, length, map}
+use Rattle.std.specs.Prelude.{codes}
 use Rattle.std.specs.FinMap as map_of
 use Rattle.std.specs.FinMap.Entries.{below_all}
-use Rattle.std.specs.List.{AllByRecursion, list_any, list_all, cons_option}
+use Rattle.std.specs.List.{AllByRecursion, list_any, cons_option}
 use Rattle.std.specs.List.Sorted.{IsStrictlySortedBy}
 use Rattle.std.specs.Ordering.{eq_by_cmp, is_lt}
-use Rattle.std.specs.Str.{is_utf8}
 use Rattle.std.specs.Cmp.Lexicographic.{texts_ties}
 use Rattle.std.specs.declared.cmp.Ordering.{Ordering}
 use Rattle.std.specs.declared.cmp.Ordering.TheVariants.{Less, Equal, Greater}
-use Rattle.std.proofs.lemmas.Bool.{and_parts, or_right, eqb-true, ne_eqb, false_from_ne_true, true≢false}
+use Rattle.std.proofs.lemmas.Bool.{and_parts, or_right, ne_eqb, false_from_ne_true, true≢false}
 use Rattle.std.proofs.lemmas.List.{append_cancel_left}
 use Rattle.ss_text.specs.Texts.{Text, text_cmp, text_eq, is_in}
-use Rattle.ss_text.specs.Label.{is_table_label, is_table_byte, has_label_length}
+use Rattle.ss_text.specs.Label.{is_table_label}
 use Rattle.ss_text.proofs.KeyLemmas.{text_order, equal_itself}
-use Rattle.outside.specs.Tree.{Tree, Place, place_cmp, file_at, files_of, subfolders_of, children_in, child_name, is_part, has_folder, has_empty_folder}
+use Rattle.outside.specs.Tree.{Tree, place_cmp, file_at, files_of, subfolders_of, children_in, child_name, is_part, has_folder, has_empty_folder}
 use Rattle.outside.proofs.PlaceLemmas.{names_ascend}
 use Rattle.outside.proofs.TreeLemmas.{child_full, children_ascend}
 use Rattle.csv_catalog.specs.Loaded.{sources_folder, database_folder}
+use Rattle.csv_catalog.proofs.SavedTreeLemmas.{no_slash, label_bytes, no_child}
 use Rattle.view_folder.proofs.FolderLemmas.{there}
-use Rattle.kept_sources.proofs.NamedLemmas.{same_text, differs_back}
+use Rattle.kept_sources.proofs.NamedLemmas.{same_text}
 
 less : (o : Ordering) → is_lt o ≡ true → o ≡ Less
 less Less h = refl
@@ -53,16 +53,6 @@ pub folders_ascend : (t : Tree) (folder : Text) → IsStrictlySortedBy text_cmp 
 folders_ascend t folder = children_ascend folder (map_of.keys t.folders) (keys_ascend text_cmp (map_of.entries t.folders) (is_true _ (map_of.entries_sorted t.folders)))
 
 -- a label has no `/`
-no_slash : (bytes : Text) → list_all is_table_byte bytes ≡ true → list_any (λ b. b == 47) bytes ≡ false
-no_slash [] h = refl
-no_slash (b ∷ bs) h =
-    let parts = and_parts (is_table_byte b) (list_all is_table_byte bs) h in
-    let other : (b == 47) ≡ false = false_from_ne_true _ (λ e. true≢false (sym parts.0 ∙ ap is_table_byte (eqb-true b 47 e))) in
-    rw (other, no_slash bs parts.1) refl
-
-label_bytes : (label : Text) → is_table_label label ≡ true → list_all is_table_byte label ≡ true
-unfolding is_table_label
-label_bytes label h = (and_parts (has_label_length label && not (slice_index label 0 == 46)) (list_all is_table_byte label) (and_parts (has_label_length label && not (slice_index label 0 == 46) && list_all is_table_byte label) (is_utf8 label) h).0).1
 
 pub label_slash : (label : Text) → is_table_label label ≡ true → list_any (λ b. b == 47) label ≡ false
 label_slash label h = no_slash label (label_bytes label h)
@@ -125,17 +115,10 @@ in_keys m k = any_same (map_of.keys m) ∙ sym (map_of.contains_key-keys m k)
     any_same [] = refl
     any_same (j ∷ ks) = ap (λ b. b || is_in k ks) (texts_ties k j) ∙ ap (λ b. eq_by_cmp text_cmp k j || b) (any_same ks)
 
-no_children : (f : Text) (ks : List Text) → ((k : Text) → is_in k ks ≡ true → child_name f k ≡ None) → children_in f ks ≡ []
-no_children f [] h = refl
-no_children f (k ∷ ks) h =
-    let here : child_name f k ≡ None = h k (ap (λ b. b || is_in k ks) (equal_itself text_order k)) in
-    let rest : children_in f ks ≡ [] = no_children f ks (λ j i. h j (or_right (text_eq j k) (is_in j ks) i)) in
-    rw (here, rest) refl
-
 pub stands_empty : (t : Tree) (f : Text) → has_folder t f ≡ true → ((name : Text) → file_at t f name ≡ None) → ((d : Text) → has_folder t d ≡ true → child_name f d ≡ None) → has_empty_folder t f ≡ true
 stands_empty t f here files folders =
     let no_files : files_of t f ≡ [] = no_names (files_of t f) (λ name. there t f name ∙ ap is_some (files name)) in
-    let no_folders : subfolders_of t f ≡ [] = no_children f (map_of.keys t.folders) (λ d i. folders d (sym (in_keys t.folders d) ∙ i)) in
+    let no_folders : subfolders_of t f ≡ [] = no_child f (map_of.keys t.folders) (λ d i. folders d (sym (in_keys t.folders d) ∙ i)) in
     rw (here, no_files, no_folders) refl
 
 -- a folder in which none lies has no folder in it

@@ -1,6 +1,6 @@
 mod GeneratorLemmas
 mod StartLemmas
-mod TableLemmas
+pub mod TableLemmas
 mod RunLemmas
 mod ProfileLemmas
 mod ShelfLemmas

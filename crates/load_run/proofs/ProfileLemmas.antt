@@ -1,8 +1,9 @@
 -- The view of a run is one of the profile.
-use Rattle.std.proofs.Common.{◌≡◌, ◌<◌, true, Some, refl, subst, sym, arith}
+use Rattle.std.proofs.Common.{◌≡◌, ◌<◌, true, refl, subst, sym, arith}
 use Rattle.std.specs.Prelude.{codes, bytes_eq}
 use Rattle.std.specs.List.{IsDistinct}
 use Rattle.std.specs.Str.{is_utf8, chars}
+use Rattle.schema_model.proofs.ReadyLemmas.{same_some}
 use Rattle.ss_text.specs.Label.{is_table_label}
 use lib.Utf8.{encode}
 use Rattle.view_def.specs.declared.typed.Place.{Place}
@@ -10,10 +11,6 @@ use Rattle.view_def.specs.declared.typed.Place.TheVariants.{Var}
 use Rattle.view_def.specs.Profile.{is_column_over, IsViewOfProfile}
 use Rattle.view_def.specs.Query.{Query}
 use Rattle.load_run.specs.Start.{query}
-
--- what is there is the one thing
-the_one : {A : Type 0} (x y : A) → Some x ≡ Some y → x ≡ y
-the_one x y e = cc
 
 name_legal : is_table_label (codes "G") ≡ true
 unfolding is_table_label is_utf8 chars encode
@@ -34,10 +31,10 @@ of_profile = record {
   constants = one_apart;
   some_constant = omega arith;
   keys = refl;
-  spot = λ s is. omega (arith, the_one 1 s is);
+  spot = λ s is. omega (arith, same_some 1 s is);
   column = refl;
   value = refl;
-  varies = λ p is. subst (λ (x : Place). is_column_over query.decls x ≡ true) (the_one (Var 1) p is) refl;
+  varies = λ p is. subst (λ (x : Place). is_column_over query.decls x ≡ true) (same_some (Var 1) p is) refl;
   some_declaration = omega arith;
   few = omega arith;
   few_over_rows = omega arith;

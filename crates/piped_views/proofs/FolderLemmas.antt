@@ -7,7 +7,7 @@ use Rattle.std.specs.List.Sorted.{IsStrictlySortedBy}
 use Rattle.std.specs.Option.{option_or}
 use Rattle.std.specs.Ordering.{match_ordering}
 use Rattle.std.specs.declared.cmp.Ordering.TheVariants.{Less, Equal, Greater}
-use Rattle.std.proofs.lemmas.Bool.{and_parts, true≢false}
+use Rattle.std.proofs.lemmas.Bool.{and_parts, true≢false, and_from}
 use Rattle.ss_text.specs.Texts.{Text, Row, text_cmp, text_eq, is_in}
 use Rattle.ss_text.proofs.KeyLemmas.{text_order, equal_is, greater_turned, greater_differs}
 use Rattle.ss_text.proofs.PairLemmas.{same_pairs, each_found}
@@ -20,15 +20,15 @@ use Rattle.flow_law.specs.declared.shape.Shape.{Shape}
 use Rattle.flow_law.specs.InOrder.{IsTable, AreTables}
 use Rattle.flow_law.specs.Tables.{TableValue, TablesValue, labels_of, table_of}
 use Rattle.change_script.specs.Fits.{TableFits, TablesFit}
-use Rattle.view_folder.specs.Files.{bytes_in, file_name}
+use Rattle.view_folder.specs.Files.{file_name}
 use Rattle.view_folder.specs.Forms.{IsForm, HasForm}
 use Rattle.view_folder.specs.Held.{files_fault, held, unless_refused, with_file}
 use Rattle.view_folder.specs.Records.{records_fault, table_in}
 use Rattle.view_folder.specs.Sync.{Holds}
-use Rattle.view_folder.specs.TableFiles.{spliced, table_file, table_files, table_records, table_text}
+use Rattle.view_folder.specs.TableFiles.{spliced, table_files, table_records, table_text}
 use Rattle.view_folder.proofs.FolderLemmas.{there}
 use Rattle.view_folder.proofs.FormLemmas.{written_sound, written_read}
-use Rattle.view_folder.proofs.LaterLemmas.{file_name_csv, same_file}
+use Rattle.view_folder.proofs.LaterLemmas.{file_name_csv, same_file, bytes_of_label}
 use Rattle.view_folder.proofs.TableFileLemmas.{spliced_some}
 use Rattle.kept_sources.proofs.FileLemmas.{file_parts, file_test}
 use Rattle.kept_sources.proofs.NamedLemmas.{in_kept}
@@ -92,19 +92,6 @@ found P q t (p ∷ ps) each e = by_test (text_eq q p.0) refl (found P q t ps eac
     by_test : (b : Bool) → text_eq q p.0 ≡ b → (table_of ps q ≡ Some t → P q t) → cond b (Some p.1) (table_of ps q) ≡ Some t → P q t
     by_test true s rest e = subst (λ (u : TableValue). P q u) (same_one p.1 t e) (subst (λ (l : Text). P l p.1) (sym (equal_is text_order q p.0 s)) each.0)
     by_test false s rest e = rest e
-
--- the bytes of the file of a label
-pub bytes_of_label : (shape : Shape) (ts : TablesValue) (label : Text) → bytes_in (table_files shape ts) (file_name label) ≡ option_map (table_text shape) (table_of ts label)
-unfolding table_files
-bytes_of_label shape [] label = refl
-bytes_of_label shape (p ∷ ps) label =
-    ap (λ b. cond b (Some (table_text shape p.1)) (bytes_in (map (table_file shape) ps) (file_name label))) (same_file label p.0)
-    ∙ either (text_eq label p.0) (bytes_of_label shape ps label)
-  where
-    either : (b : Bool) → bytes_in (map (table_file shape) ps) (file_name label) ≡ option_map (table_text shape) (table_of ps label)
-        → cond b (Some (table_text shape p.1)) (bytes_in (map (table_file shape) ps) (file_name label)) ≡ option_map (table_text shape) (cond b (Some p.1) (table_of ps label))
-    either true h = refl
-    either false h = h
 
 -- records of tables have fields
 some_field : (row : Row) → row ≢ [] → has_field row ≡ true
@@ -230,15 +217,12 @@ module _ (shape : Shape) (ts : TablesValue) (folder : Text) (t : Tree) (form : I
       either true = refl
       either false = refl
 
-      both : (a b : Bool) → a ≡ true → b ≡ true → (a && b) ≡ true
-      both a b e f = rw (e, f) refl
-
       by_table : (o : Option TableValue) → table_of ts q ≡ o → cond (is_in (file_name q) names) o None ≡ o
       by_table None e = either (is_in (file_name q) names)
       by_table (Some one) e =
           let legal = file_test q ∙ (fit q one e).legal in
           let held_so = ap is_some (file_of q ∙ ap (option_map (table_text shape)) e) in
-          ap (λ b. cond b (Some one) None) (among (file_name q) ∙ both (is_relation_file (file_name q)) (is_some (file_at t folder (file_name q))) legal held_so)
+          ap (λ b. cond b (Some one) None) (among (file_name q) ∙ and_from (is_relation_file (file_name q)) (is_some (file_at t folder (file_name q))) legal held_so)
 
   none_ascend : Ascend []
   unfolding IsStrictlySortedBy

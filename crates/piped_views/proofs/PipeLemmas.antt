@@ -27,7 +27,7 @@ use Rattle.view_folder.specs.Forms.{IsForm}
 use Rattle.view_folder.specs.Held.{held}
 use Rattle.view_folder.specs.Sync.{Holds, HoldsNamed}
 use Rattle.view_folder.specs.TableFiles.{table_files, table_text}
-use Rattle.view_folder.proofs.LaterLemmas.{file_name_csv, same_file}
+use Rattle.view_folder.proofs.LaterLemmas.{file_name_csv, same_file, bytes_of_label}
 use Rattle.view_session.specs.Session.{tables_of}
 use Rattle.view_apply.specs.Applying as applying
 use Rattle.view_apply.specs.Scripts.{script_said}
@@ -42,12 +42,12 @@ use Rattle.ss_top.specs.Runs.{course_of}
 use Rattle.ss_top.specs.Stages.{DefinitionOrRefusal, files_of_view}
 use Rattle.ss_top.specs.declared.status.Status.{Status}
 use Rattle.ss_top.proofs.AnswerCases.{answer_query}
-use Rattle.ss_top.proofs.StageLemmas.{meaning_in_order}
 use Rattle.ss_top.proofs.TakeLemmas.{definition_of_profile, meaning_fits_form}
+use Rattle.ss_top.proofs.StageLemmas.{meaning_in_order}
 use Rattle.piped_views.specs.Law.{HavePlainHeaders, IsPiped, PipedViewsFollow}
 use Rattle.piped_views.proofs.ApplyLemmas.{applied_both, keys_applied, tables_applied, takes_along}
 use Rattle.piped_views.proofs.CourseLemmas.{applying_ends}
-use Rattle.piped_views.proofs.FolderLemmas.{bytes_of_label, tables_read_back}
+use Rattle.piped_views.proofs.FolderLemmas.{tables_read_back}
 use Rattle.piped_views.proofs.TellingLemmas.{IsTelling, answer_tells, end_tells, lines_in, opening_tells, telling_more, telling_says}
 
 -- the form of a view

@@ -1,9 +1,8 @@
 -- Effects of one plan, broken off anywhere, leave each file and folder as before or as after, but for one.
-use Rattle.std.proofs.Common.{◌≡◌, ◌≢◌, ℕ, Bool, true, false, ◌⊎◌, inl, inr, List, [], ◌∷◌, ◌++◌, Option, None, Some, is_some, refl, sym, ap, ◌∙◌, subst, cond, ◌||◌}
-use Rattle.std.specs.Prelude.{unwrap_or}
+use Rattle.std.proofs.Common.{◌≡◌, ◌≢◌, ℕ, Bool, true, false, ◌⊎◌, inl, inr, List, [], ◌∷◌, ◌++◌, Option, None, Some, is_some, refl, sym, ap, ◌∙◌, subst, cond}
 use Rattle.std.specs.Cmp.{both_ways}
 use Rattle.std.specs.Cmp.Lexicographic.{nat_list_cmp_total, texts_ties}
-use Rattle.std.specs.List.{AllByRecursion, list_any}
+use Rattle.std.specs.List.{AllByRecursion}
 use Rattle.std.specs.FinMap as map
 use Rattle.std.specs.Ordering.{eq_by_cmp}
 use Rattle.std.proofs.lemmas.Bool.{false≢true, true≢false, false_from_ne_true}
@@ -12,12 +11,12 @@ use Rattle.outside.specs.Tree.{Tree, Place, place_cmp, folder_path, with_folders
 use Rattle.outside.specs.WholeLaw.{is_eq_true, place_exact}
 use Rattle.outside.proofs.PlaceLemmas.{place_total}
 use Rattle.outside.proofs.TreeLemmas.{get_made, kept_made}
-use Rattle.effects.specs.Effects.{Effect, Write, Remove, MakeFolder, RemoveFolder, Print, Stored, Contents, after, performed, Off, Partly}
+use Rattle.effects.specs.Effects.{Effect, Write, Remove, MakeFolder, RemoveFolder, Print, Stored, Contents, after, Off, Partly}
 use Rattle.kept_sources.specs.Counted.{tree_by, tree_after}
-use Rattle.kept_sources.proofs.AfterLemmas.{stored_by, stored_after, made_was}
+use Rattle.kept_sources.proofs.AfterLemmas.{stored_by, stored_after, made_was, any_same}
 use Rattle.kept_sources.proofs.NamedLemmas.{same_text}
 use Rattle.ss_top.specs.Between.{Broken, NoneBroken, BrokenFile, BrokenFolder, IsBrokenBy, IsBetween}
-use Rattle.ss_top.proofs.PlaceLemmas.{on_path, removed_others, removed_folder}
+use Rattle.ss_top.proofs.PlaceLemmas.{on_path, removed_folder}
 
 -- what these effects left of a store, between two trees
 pub record LeftBetween (es : List Effect) (before after : Tree) (c : Contents) : Type 0 where
@@ -39,10 +38,6 @@ none_by (e ∷ es) = inr (none_by es)
 -- nothing was done
 pub none_between : (before after : Tree) → IsBetween NoneBroken before after before
 none_between before after = record { files = λ p whole. inl refl; folders = λ d whole. inl refl }
-
-any_same : (d : Text) (fs : List Text) → list_any (eq_by_cmp text_cmp d) fs ≡ is_in d fs
-any_same d [] = refl
-any_same d (f ∷ fs) = ap (λ b. b || list_any (eq_by_cmp text_cmp d) fs) (sym (texts_ties d f)) ∙ ap (λ b. text_eq d f || b) (any_same d fs)
 
 -- a folder on a path is there once the path is made
 made_there : (d : Text) (path : List Text) (s : map.FinMap text_cmp (Unit {0})) → is_in d path ≡ true → map.contains_key (with_folders path s) d ≡ true

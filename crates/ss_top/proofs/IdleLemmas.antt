@@ -16,12 +16,6 @@ use Rattle.ss_top.specs.Commands.{can_show}
 use Rattle.ss_top.specs.Course.{verdict_status, is_refused_status}
 use Rattle.ss_top.specs.Steps.{Idle, IdleStop, IdleRun}
 
--- a call on the sink does not fail in reading
-pub sink_no_read : {A : Type 0} (old new : SinkState) (e : Stop) → SinkBlames {A = A} old new (Err e) → e ≢ stop.ReadFault
-sink_no_read old new stop.ReadFault b is = b.because
-sink_no_read old new stop.WriteFault b is = absurd (cc)
-sink_no_read old new stop.NoMemory b is = absurd (cc)
-
 pub idle_read : (old new : StoreState) (o : SinkState) (e : Stop) → OnlyRead old new → IdleStop e (world_of old o) (world_of new o)
 idle_read old new o stop.ReadFault h = record { store = h; output = refl }
 idle_read old new o stop.WriteFault h = tt

@@ -1,5 +1,5 @@
 -- What the folder of an opened view holds while lines are answered.
-use Rattle.std.proofs.Common.{◌≡◌, ℕ, Bool, true, false, ◌||◌, map, length, List, [], ◌∷◌, ◌++◌, Option, None, Some, refl, sym, ap, ◌∙◌, subst, append_assoc, ◌+◌, arith, filter}
+use Rattle.std.proofs.Common.{◌≡◌, ℕ, Bool, true, false, ◌||◌, map, length, List, [], ◌∷◌, ◌++◌, Option, None, Some, refl, sym, ap, ◌∙◌, subst, append_assoc, ◌+◌, arith, filter, append-nil}
 use Rattle.std.specs.Prelude.{Ok, IsTrue, unwrap_or}
 use Rattle.std.specs.List.{AllByRecursion}
 use Rattle.std.specs.Option.{option_map_or}
@@ -16,7 +16,7 @@ use Rattle.outside.specs.Tree.{Tree, Place, place_cmp, files_of}
 use Rattle.outside.specs.Whole.{IsWhole}
 use Rattle.outside.specs.WholeLaw.{is_eq_true, place_exact}
 use Rattle.effects.specs.Effects.{Effect, Write, Remove, MakeFolder, RemoveFolder, Print, Stored, Contents, performed}
-use Rattle.effects.proofs.EffectLemmas.{performed_append}
+use Rattle.effects.proofs.EffectLemmas.{performed_append, with_more}
 use Rattle.schema_model.specs.Catalogue.{CatalogueValue}
 use Rattle.schema_model.specs.declared.change.Change.{Change}
 use Rattle.schema_model.specs.Changes.{after, is_well_formed}
@@ -81,13 +81,6 @@ pub record IsKept (t : Tree) (c0 : CatalogueValue) (o : OpenValue) (y : Synced) 
   pub group : IsGroup o.session
 
 -- what effects print, one after the other
-with_more : (a b : List ℕ) (o : Option (List ℕ)) → with_bytes b (with_bytes a o) ≡ with_bytes (a ++ b) o
-with_more a b None = refl
-with_more a b (Some held) = ap Some (append_assoc held a b)
-
-none_behind : (xs : List ℕ) → xs ++ [] ≡ xs
-none_behind [] = refl
-none_behind (x ∷ xs) = ap (λ t. x ∷ t) (none_behind xs)
 
 pub printed_append : (es fs : List Effect) → printed_by (es ++ fs) ≡ printed_by es ++ printed_by fs
 printed_append [] fs = refl
@@ -143,13 +136,13 @@ none_risen w = omega arith
 -- nothing was done
 with_none : (held : Option (List ℕ)) → with_bytes [] held ≡ held
 with_none None = refl
-with_none (Some h) = ap Some (none_behind h)
+with_none (Some h) = ap Some (append-nil h)
 
 nothing_done : (s : Stored) (held : Option (List ℕ)) → performed [] (record { stored = Some s; held = held }) ≡ record { stored = Some s; held = with_bytes (printed_by []) held }
 nothing_done s held = ap (λ (h : Option (List ℕ)). record { stored = Some s; held = h }) (sym (with_none held))
 
 printing : (s : Stored) (bytes : List ℕ) (held : Option (List ℕ)) → performed (Print bytes ∷ []) (record { stored = Some s; held = held }) ≡ record { stored = Some s; held = with_bytes (printed_by (Print bytes ∷ [])) held }
-printing s bytes held = ap (λ (b : List ℕ). record { stored = Some s; held = with_bytes b held }) (sym (none_behind bytes))
+printing s bytes held = ap (λ (b : List ℕ). record { stored = Some s; held = with_bytes b held }) (sym (append-nil bytes))
 
 -- a file of a view's folder is none of the sources
 abbrev first_byte : List ℕ → ℕ

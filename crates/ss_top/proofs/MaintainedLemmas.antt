@@ -1,6 +1,6 @@
 -- A run of `maintain` that was done kept the view up to date.
 use Rattle.std.proofs.Common.{◌≡◌, arith, ℕ, ◌+◌, true, List, [], ◌∷◌, ◌++◌, Option, None, Some, refl, sym, ap, ◌∙◌, subst, append_assoc, inl, inr}
-use Rattle.std.specs.Prelude.{Result, Ok, Err, if◌then◌else◌}
+use Rattle.std.specs.Prelude.{Result, Ok, Err}
 use Rattle.ss_text.specs.Texts.{Text, Row}
 use Rattle.outside.specs.Counts.{risen}
 use Rattle.outside.specs.Streams.{with_bytes}
@@ -21,8 +21,8 @@ use Rattle.view_folder.specs.Files.{view_folder}
 use Rattle.view_folder.specs.TableFiles.{table_files}
 use Rattle.view_folder.specs.Sync.{Holds}
 use Rattle.view_folder.specs.declared.file.File.{File}
-use Rattle.course.specs.declared.status.Verdict.TheVariants as verdict
 use Rattle.course.specs.Answering.{Reply, Continues, Finishes, Ending, ending, follow, course}
+use Rattle.schema_model.proofs.ReadyLemmas.{same_some}
 use Rattle.ss_top.specs.declared.status.Status.{Status}
 use Rattle.ss_top.specs.declared.status.Status.TheVariants as status
 use Rattle.ss_top.specs.Open.{OpenValue, just_opened}
@@ -223,7 +223,7 @@ module _ (old new : World) (t : Tree) (told : old.store.tree ≡ Some t) (whole 
       → bytes ≡ taken ++ left → rest ≡ Some left → lines ≡ whole_lines taken → goes_so_far es (follow step lines (Continues [] o)) ≡ Some effects → contents new ≡ performed effects (contents old) → IsCutOff d t bytes rest old new
   unfolding contents
   cut_off d bytes taken left rest effects defined judged split remains are meant done =
-      let same : effects ≡ so_far = some_same (sym meant ∙ ap (goes_so_far es) answers.answered) in
+      let same : effects ≡ so_far = same_some _ _ (sym meant ∙ ap (goes_so_far es) answers.answered) in
       let did : contents new ≡ performed so_far (contents old) = done ∙ ap (λ (e : List Effect). performed e (contents old)) same in
       let is : contents new ≡ record { stored = Some at_answers; held = with_bytes (printed_by so_far) old.output.held } =
       did ∙ ap (performed so_far) (contents_told old t told) ∙ answered_done old.output.held in
@@ -247,9 +247,6 @@ module _ (old new : World) (t : Tree) (told : old.store.tree ≡ Some t) (whole 
         writes = stored.1 ∙ answers_written ∙ ap (λ (ls : List (List ℕ)). risen old.store.writes (writes_so_far t a c ls)) are;
         printed = ap (λ (x : Contents). x.held) is;
       }
-    where
-      some_same : {A : Type 0} {x y : A} → Some x ≡ Some y → x ≡ y
-      some_same e = cc e
 
 module _ (old new : World) (t : Tree) (told : old.store.tree ≡ Some t) (whole : IsWhole t) (bytes : List ℕ) (s : Status) (done : is_done_status s ≡ true) (d : DefinitionOrRefusal) (p : (a : Accepted) → d ≡ Ok a → IsViewOfProfile a.query) where
   by_view : (a : Accepted) (c : CatalogueValue) (r : Option Row) → d ≡ Ok a → loaded_or_refused t ≡ Ok c → refusal_of c a.query ≡ r → Finished ((by_lines step finish (with_view t a.query c r)).whole (lines_of bytes)) old new s → IsMaintained d t (lines_of bytes) old new s

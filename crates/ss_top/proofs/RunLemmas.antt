@@ -2,10 +2,10 @@
 use Rattle.ss_text.specs.Texts.{Text}
 use Rattle.ss_text.specs.Label.{is_table_label}
 use Rattle.ss_top.specs.Commands.{asked_of, command_named, command_counted, can_check, can_show, can_load, can_refuse}
-use Rattle.std.proofs.Common.{◌≡◌, ◌≢◌, ℕ, ◌+◌, ◌<◌, length-append, true, false, length, get_or, List, [], ◌∷◌, ◌++◌, Option, refl, sym, ap, ◌∙◌, arith, inl, inr}
+use Rattle.std.proofs.Common.{◌≡◌, ◌≢◌, ℕ, ◌+◌, ◌<◌, length-append, true, false, length, get_or, List, [], ◌∷◌, Option, refl, sym, ap, ◌∙◌, arith, inl, inr}
 use Rattle.std.specs.Prelude.{Result, Ok, Err, OnErr}
 use Rattle.course.specs.Answering.{Ending}
-use Rattle.effects.specs.Effects.{Effect, World}
+use Rattle.effects.specs.Effects.{World}
 use Rattle.effects.specs.declared.stop.Stop.{Stop}
 use Rattle.effects.specs.declared.stop.Stop.TheVariants as stop
 use Rattle.course.specs.declared.status.Halt.{Halt}
@@ -21,10 +21,6 @@ use Rattle.ss_top.proofs.IdleLemmas.{idle_contents}
 use Rattle.ss_top.specs.declared.status.Status.{Status}
 use Rattle.ss_top.specs.declared.status.Status.TheVariants as status
 use Rattle.ss_top.specs.Course.{Course, unread, verdict_status, status_of, Did, Cause, RanBy, RanSome, NoFault, Finished, is_fault_status}
-
-pub append_none : (xs : List Effect) → xs ++ [] ≡ xs
-append_none [] = refl
-append_none (x ∷ xs) = ap (λ t. x ∷ t) (append_none xs)
 
 -- a command without an input that ended, and one that stopped
 pub ended_ran : (e : Ending) (bytes : List ℕ) (rest : Option (List ℕ)) (old new : World) (v : Verdict) → Ended e old new (Ok v) → RanBy (unread e) bytes rest old new (Ok v)

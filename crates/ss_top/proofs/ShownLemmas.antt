@@ -1,5 +1,5 @@
 -- A run of `show` that ended with the status 0 showed the view.
-use Rattle.std.proofs.Common.{◌≡◌, ℕ, true, List, [], ◌∷◌, ◌++◌, Option, None, Some, refl, sym, subst, ap, ◌∙◌}
+use Rattle.std.proofs.Common.{◌≡◌, ℕ, true, List, [], ◌∷◌, ◌++◌, Option, None, Some, refl, sym, subst, ap, ◌∙◌, append-nil}
 use Rattle.std.specs.Prelude.{Result, Ok, Err}
 use Rattle.std.specs.Prelude.{codes, decimal}
 use Rattle.ss_text.specs.Texts.{Text, Row}
@@ -26,7 +26,6 @@ use Rattle.ss_top.specs.Places.{CsvFiles}
 use Rattle.ss_top.specs.Promises.{IsShown, synced_count}
 use Rattle.ss_top.specs.Stages.{loaded_or_refused, refusal_of, files_of_view}
 use Rattle.tab_lines.specs.Lines.{lines_of}
-use Rattle.ss_top.proofs.RunLemmas.{append_none}
 use Rattle.ss_top.proofs.PlaceLemmas.{StaysIn, performed_stays, stays_told, at_first_stays}
 use Rattle.ss_top.proofs.ToldLemmas.{told_tree, contents_told}
 use Rattle.ss_top.proofs.WithinLemmas.{opening_within}
@@ -77,7 +76,7 @@ module _ (t : Tree) (old new : World) (told : old.store.tree ≡ Some t) (a : Ac
 module _ (t : Tree) (old new : World) (s : Status) (told : old.store.tree ≡ Some t) (done : s ≡ status.Done) where
   by_view : (a : Accepted) (c : CatalogueValue) (o : Option Row) (d : DefinitionOrRefusal) → d ≡ Ok a → loaded_or_refused t ≡ Ok c → refusal_of c a.query ≡ o → Finished (ending done_at_once (with_view t a.query c o)) old new s → IsShown d t old new
   by_view a c (Some fields) d defined loaded judged f = absurd (cc (f.status))
-  by_view a c None d defined loaded judged f = shown t old new told a c d defined loaded judged (f.done ∙ ap (λ es. performed es (contents old)) (append_none (opening_effects (view_folder a.query.view_db) (files_of_view c a.query) (files_of t (view_folder a.query.view_db)))))
+  by_view a c None d defined loaded judged f = shown t old new told a c d defined loaded judged (f.done ∙ ap (λ es. performed es (contents old)) (append-nil (opening_effects (view_folder a.query.view_db) (files_of_view c a.query) (files_of t (view_folder a.query.view_db)))))
 
   by_catalogue : (a : Accepted) (r : Result CatalogueValue Row) (d : DefinitionOrRefusal) → d ≡ Ok a → loaded_or_refused t ≡ r → Finished (ending done_at_once (with_catalogue t a.query r)) old new s → IsShown d t old new
   by_catalogue a (Err fields) d defined loaded f = absurd (cc (f.status))

@@ -1,5 +1,5 @@
 -- What a run left is between what is there before one of its stages and what is there behind it.
-use Rattle.std.proofs.Common.{◌≡◌, ℕ, true, List, [], ◌∷◌, ◌++◌, Option, None, Some, ◌⊎◌, inl, inr, refl, sym, ap, ◌∙◌, subst, append_assoc}
+use Rattle.std.proofs.Common.{◌≡◌, ℕ, true, List, [], ◌∷◌, ◌++◌, Option, None, Some, ◌⊎◌, inl, inr, refl, sym, ap, ◌∙◌, subst, append_assoc, append-nil}
 use Rattle.std.specs.Prelude.{Result, Ok, Err, unwrap_or}
 use Rattle.ss_text.specs.Texts.{Text, Row}
 use Rattle.tab_lines.specs.Lines.{lines_of, whole_lines}
@@ -10,7 +10,6 @@ use Rattle.schema_model.specs.Catalogue.{CatalogueValue}
 use Rattle.schema_model.specs.declared.change.Change.{Change}
 use Rattle.schema_model.specs.Sound.{IsSound}
 use Rattle.schema_model.proofs.SoundAfter.{sound_after, sound_after_all}
-use Rattle.csv_catalog.specs.Loaded.{loaded}
 use Rattle.flow_law.specs.Tables.{TablesValue}
 use Rattle.valuation_meaning.specs.Meaning.{shape_of}
 use Rattle.view_folder.specs.Comparison.{comparison}
@@ -25,9 +24,10 @@ use Rattle.kept_sources.proofs.LoadedLemmas.{sound_loaded}
 use Rattle.course.specs.declared.status.Verdict.{Verdict}
 use Rattle.course.specs.declared.status.Halt.{Halt}
 use Rattle.course.specs.declared.status.Halt.TheVariants as halt
-use Rattle.course.specs.Answering.{Reply, Continues, Finishes, Ending, effects_of, ending, follow}
+use Rattle.course.specs.Answering.{Reply, Continues, Finishes, Ending, ending, follow}
 use Rattle.course.proofs.AnsweringLemmas.{follow_append, goes_on}
-use Rattle.run_lines.specs.Printing.{refuses, lines_text, applied_rows}
+use Rattle.schema_model.proofs.ReadyLemmas.{same_some}
+use Rattle.run_lines.specs.Printing.{lines_text, applied_rows}
 use Rattle.view_apply.specs.Applying as applying
 use Rattle.view_apply.specs.Applying.{ApplyState, by_folder, just_read, synced_count}
 use Rattle.view_apply.proofs.CourseLemmas.{went_on, halts_so}
@@ -35,7 +35,7 @@ use Rattle.ss_top.specs.Open.{OpenValue, just_opened}
 use Rattle.ss_top.specs.Commands.{Asked, Check, Show, Maintain, Verify, Apply, Load, Other}
 use Rattle.ss_top.specs.Stages.{DefinitionOrRefusal, Accepted, loaded_or_refused, refusal_of, files_of_view}
 use Rattle.ss_top.specs.Opening.{opening, with_catalogue, with_view, opening_effects, done_at_once}
-use Rattle.ss_top.specs.Answers.{answer, step, finish, sync_effects, end_effects, end_view}
+use Rattle.ss_top.specs.Answers.{answer, step, finish, end_effects, end_view}
 use Rattle.ss_top.specs.Applies.{apply_opening}
 use Rattle.ss_top.specs.Checking.{checked}
 use Rattle.ss_top.specs.Verifying.{by_comparison, verified_over, verified_view}
@@ -52,7 +52,7 @@ use Rattle.ss_top.proofs.StageLemmas.{are_view_files}
 use Rattle.ss_top.proofs.ToldLemmas.{told_tree, contents_told}
 use Rattle.ss_top.proofs.WithinLemmas.{taken_lines}
 use Rattle.ss_top.proofs.BetweenLemmas.{AllPlanned, LeftBetween}
-use Rattle.ss_top.proofs.SyncLemmas.{Stage, planned_stage, print_stage, opening_stage, later_stage, sync_stage}
+use Rattle.ss_top.proofs.SyncLemmas.{Stage, print_stage, opening_stage, later_stage, sync_stage}
 
 -- effects one behind the other that broke off, in the first or behind them
 pub partly_split : (es fs : List Effect) (old new : Contents) → Partly (es ++ fs) old new → Partly es old new ⊎ Partly fs (performed es old) new
@@ -166,16 +166,12 @@ module _ (s : Stored) (old new : Contents) (told : old.stored ≡ Some s) (lines
   opening_stops : (a : Accepted) (c : CatalogueValue) → Stage (opening_effects (folder_of a) (files_of_view c a.query) (files_of t (folder_of a)))
   opening_stops a c = opening_stage (folder_of a) (files_of_view c a.query) (files_of t (folder_of a)) (are_view_files c a.query)
 
-  none_behind : (es : List Effect) → es ++ [] ≡ es
-  none_behind [] = refl
-  none_behind (e ∷ es) = ap (λ fs. e ∷ fs) (none_behind es)
-
   -- `show`
   show_view : (a : Accepted) (c : CatalogueValue) (r : Option Row) → One (ending done_at_once (with_view t a.query c r)).effects
   show_view a c (Some fields) = printed _
   show_view a c None =
       let es : List Effect = opening_effects (folder_of a) (files_of_view c a.query) (files_of t (folder_of a)) in
-      subst One (sym (none_behind es)) (one_stage es (opening_stops a c))
+      subst One (sym (append-nil es)) (one_stage es (opening_stops a c))
 
   show_over : (a : Accepted) (r : Result CatalogueValue Row) → One (ending done_at_once (with_catalogue t a.query r)).effects
   show_over a (Err fields) = printed _
@@ -305,14 +301,11 @@ module _ (a : Asked) (t : Tree) (d : DefinitionOrRefusal) (old new : World) wher
         let h = course_stops at_first (contents old) (contents new) first_told lines a d front in
         record { lines = lines; all = all; tree = h.stored.tree; told = (told_tree new.store.tree new.store.writes h.stored h.told).0; stops = h.stops }
 
-    same_some : (xs ys : List ℕ) → Some xs ≡ Some ys → xs ≡ ys
-    same_some xs ys e = ap (λ o. unwrap_or o xs) e
-
 pub did_leave : (a : Asked) (t : Tree) (d : DefinitionOrRefusal) (input rest : Option (List ℕ)) (old new : World) (r : Result Verdict Halt) → old.store.tree ≡ Some t → RanSome (course_of a t d) old new r
     → ((bytes : List ℕ) → input ≡ Some bytes → RanBy (course_of a t d) bytes rest old new r) → IsLeftBetween a t d input new
 did_leave a t d None rest old new r told some ran = left a t d old new told None some.lines (λ bytes none. absurd (cc none)) (some_front a t d old new r some)
 did_leave a t d (Some bytes) rest old new r told some ran =
-    left a t d old new told (Some bytes) (lines_of bytes) (λ bs e. ap lines_of (same_some a t d old new told bytes bs e)) (told_front a t d old new bytes rest r (ran bytes refl))
+    left a t d old new told (Some bytes) (lines_of bytes) (λ bs e. ap lines_of (same_some bytes bs e)) (told_front a t d old new bytes rest r (ran bytes refl))
 
 -- until its input ends `apply` does nothing
 nothing_taken : (s0 : ApplyState) (lines : List (List ℕ)) (r : Reply ApplyState) → follow applying.step lines (Continues [] s0) ≡ r → (gs : List Effect) → goes_so_far [] r ≡ Some gs → gs ≡ []

@@ -1,23 +1,19 @@
 -- The effects of a sync follow one plan.
-use Rattle.std.proofs.Common.{◌≡◌, ℕ, ◌==◌, Bool, true, false, ◌&&◌, ◌||◌, not, cond, map, List, [], ◌∷◌, ◌++◌, Option, None, Some, is_some, length, drop, refl, sym, ap, ◌∙◌, subst, append_assoc, arith}
-use Rattle.std.specs.Prelude.{codes, option_map, option_and_then, unwrap_or}
+use Rattle.std.proofs.Common.{◌≡◌, ℕ, Bool, true, false, ◌&&◌, ◌||◌, not, cond, map, List, [], ◌∷◌, ◌++◌, Option, None, Some, is_some, drop, refl, sym, ap, ◌∙◌, append_assoc, arith, append-nil}
+use Rattle.std.specs.Prelude.{codes, option_map, option_and_then}
 use Rattle.std.specs.Option.{option_map_or}
-use Rattle.std.specs.List.{AllByRecursion, list_any}
 use Rattle.std.proofs.lemmas.Bool.{and_parts, or_right, false≢true, true≢false, false_from_ne_true}
 use Rattle.std.proofs.lemmas.List.{append_cancel_left}
-use Rattle.std.proofs.lemmas.List.Folds.{list_any-append}
-use Rattle.ss_text.specs.Texts.{Text, Row, text_eq, is_in}
-use Rattle.ss_text.specs.Label.{is_table_label}
+use Rattle.ss_text.specs.Texts.{Text, text_eq}
 use Rattle.ss_text.proofs.KeyLemmas.{text_order, equal_itself}
-use Rattle.outside.specs.Tree.{Tree, Place, folder_path, files_of}
+use Rattle.outside.specs.Tree.{Place}
 use Rattle.effects.specs.Effects.{Effect, Write, Remove, Print, Stored, Contents, Partly}
 use Rattle.schema_model.specs.declared.pair.Pair.{Pair}
 use Rattle.schema_model.specs.Catalogue.{RelationValue, DatabaseValue, CatalogueValue, relation_in, database_of, relation_of}
 use Rattle.schema_model.specs.Sound.{IsSound}
 use Rattle.csv_catalog.specs.Loaded.{database_folder, label_of}
 use Rattle.csv_catalog.specs.RecordText.{csv_text, relation_records}
-use Rattle.csv_catalog.specs.Saved.{relation_file, is_there, those_there, those_gone, folders_made, folders_removed, pair_saved, pairs_saved, saved}
-use Rattle.view_def.specs.Query.{Query}
+use Rattle.csv_catalog.specs.Saved.{relation_file, is_there, those_there, those_gone, folders_made, folders_removed, pair_saved, pairs_saved}
 use Rattle.flow_law.specs.declared.shape.Shape.{Shape}
 use Rattle.flow_law.specs.Tables.{TablesValue, table_of}
 use Rattle.valuation_meaning.specs.Meaning.{shape_of}
@@ -33,7 +29,7 @@ use Rattle.kept_sources.proofs.AfterLemmas.{no_path}
 use Rattle.kept_sources.proofs.ChangeLemmas.{legal_there}
 use Rattle.kept_sources.proofs.FileLemmas.{label_of_file}
 use Rattle.kept_sources.proofs.NamedLemmas.{same_text}
-use Rattle.kept_sources.proofs.TreeLemmas.{label_slash}
+use Rattle.kept_sources.proofs.SavingLemmas.{not_slashed}
 use Rattle.ss_top.specs.Open.{OpenValue}
 use Rattle.ss_top.specs.Opening.{opening_effects}
 use Rattle.ss_top.specs.Answers.{view_effects, sync_effects}
@@ -125,13 +121,6 @@ module _ (x : Text) (shape : Shape) (ts : TablesValue) where
       planned_stage table_at NoneGone (later_sync (view_folder x) shape ts ls ++ Print bytes ∷ [])
       (both_planned table_at NoneGone (later_sync (view_folder x) shape ts ls) (Print bytes ∷ []) (later_planned table_at NoneGone (λ name. refl) (λ d none. absurd none) ls) (tt, tt))
 
--- a database that is there has a name without a slash
-slash_in : (xs ys : Text) → list_any (λ b. b == 47) (xs ++ 47 ∷ ys) ≡ true
-slash_in xs ys = list_any-append (λ b. b == 47) xs (47 ∷ ys) ∙ or_right (list_any (λ b. b == 47) xs) true refl
-
-not_slashed : (x xs ys : Text) → is_table_label x ≡ true → x ≡ xs ++ 47 ∷ ys → ⊥
-not_slashed x xs ys legal e = true≢false (sym (ap (list_any (λ b. b == 47)) e ∙ slash_in xs ys) ∙ label_slash x legal)
-
 -- the first byte of a view's folder is none of a source's
 abbrev first_byte : List ℕ → ℕ
 first_byte [] = 0
@@ -139,10 +128,6 @@ first_byte (b ∷ bs) = b
 
 apart_folders : (db rest x : Text) → view_folder x ≡ database_folder db ++ rest → ⊥
 apart_folders db rest x e = let bytes : 118 ≡ 115 = ap first_byte e in absurd (omega (arith, bytes))
-
-none_behind : (xs : Text) → xs ++ [] ≡ xs
-none_behind [] = refl
-none_behind (x ∷ xs) = ap (λ t. x ∷ t) (none_behind xs)
 
 -- a sync of an opened view: the sources that were named are to hold what the catalogue has, the folders of databases that it has not are to go, and the view's files are to hold its tables
 module _ (o : OpenValue) (sound : IsSound o.session.catalogue) where
@@ -168,7 +153,7 @@ module _ (o : OpenValue) (sound : IsSound o.session.catalogue) where
   view_stands : Stands meant Leaving (view_folder x)
   view_stands d leaving =
       no_path d (view_folder x)
-      (λ e. apart_folders leaving.0 [] x (sym e ∙ leaving.1 ∙ sym (none_behind (database_folder leaving.0))))
+      (λ e. apart_folders leaving.0 [] x (sym e ∙ leaving.1 ∙ sym (append-nil (database_folder leaving.0))))
       (λ rest e. apart_folders leaving.0 (47 ∷ rest) x (e ∙ ap (λ (f : Text). f ++ 47 ∷ rest) leaving.1))
 
   there_stands : (db : Text) → is_there c db ≡ true → Stands meant Leaving (database_folder db)

@@ -1,5 +1,5 @@
 -- The effects of each course are on what is exempt.
-use Rattle.std.proofs.Common.{◌≡◌, ℕ, ◌==◌, Bool, true, false, ◌&&◌, ◌||◌, not, cond, map, List, [], ◌∷◌, ◌++◌, Option, None, Some, refl, sym, ap, ◌∙◌, subst, append_assoc}
+use Rattle.std.proofs.Common.{◌≡◌, ℕ, ◌==◌, Bool, true, false, ◌&&◌, ◌||◌, not, cond, map, List, [], ◌∷◌, ◌++◌, Option, None, Some, refl, sym, ap, ◌∙◌, subst, append_assoc, append-nil}
 use Rattle.std.specs.Prelude.{Result, Ok, Err}
 use Rattle.std.specs.Option.{option_map_or}
 use Rattle.std.specs.List.{list_any}
@@ -7,7 +7,7 @@ use Rattle.std.specs.Ordering.{eq_by_cmp, is_eq}
 use Rattle.std.proofs.lemmas.Cmp.{tied_itself}
 use Rattle.std.proofs.lemmas.List.Folds.{list_any-append}
 use Rattle.std.proofs.lemmas.Bool.{and_parts, or_right, eqb-true}
-use Rattle.ss_text.specs.Texts.{Text, Row, text_eq, is_in}
+use Rattle.ss_text.specs.Texts.{Text, Row, is_in}
 use Rattle.ss_text.proofs.KeyLemmas.{text_order, equal_itself}
 use Rattle.outside.specs.Tree.{Tree, place_cmp, folder_path, files_of}
 use Rattle.outside.proofs.PlaceLemmas.{place_total}
@@ -39,6 +39,7 @@ use Rattle.course.specs.Answering.{Reply, Continues, Finishes, EndedOver, ending
 use Rattle.tab_lines.specs.Lines.{has_feed, lines_of, whole_lines}
 use Rattle.tab_lines.specs.Parts.{has}
 use Rattle.tab_lines.proofs.LineLemmas.{has_append, lines_first, whole_first, whole_none}
+use Rattle.schema_model.proofs.ReadyLemmas.{same_some}
 use Rattle.view_folder.specs.declared.held.TablesFault.{TablesFault}
 use Rattle.view_folder.specs.Held.{held}
 use Rattle.view_apply.specs.Applying as applying
@@ -48,13 +49,13 @@ use Rattle.run_lines.specs.Printing.{prints_applied}
 use Rattle.ss_top.specs.Open.{OpenValue, just_opened}
 use Rattle.ss_top.specs.Places.{Exempt, CsvFiles, RelationFile, DatabaseFolder, is_exempt, is_exempt_folder, sources_of}
 use Rattle.ss_top.specs.Stages.{DefinitionOrRefusal, Accepted, loaded_or_refused, refusal_of, files_of_view}
-use Rattle.ss_top.specs.Opening.{opening, with_catalogue, with_view, opening_effects, done_at_once}
+use Rattle.ss_top.specs.Opening.{with_catalogue, with_view, opening_effects, done_at_once}
 use Rattle.ss_top.specs.Verifying.{by_comparison, verified_over, verified_view}
-use Rattle.ss_top.specs.Answers.{Answer, answer, step, finish, view_effects, sync_effects, synced_by, last_synced, view_after, end_synced, end_effects, end_view}
+use Rattle.ss_top.specs.Answers.{answer, step, finish, view_effects, sync_effects, synced_by, last_synced, view_after, end_synced, end_effects, end_view}
 use Rattle.ss_top.specs.Course.{RanBy, RanSome, GaveOut, by_lines, goes_so_far}
 use Rattle.ss_top.specs.Commands.{Asked, Check, Show, Maintain, Verify, Apply, Load, Other}
 use Rattle.ss_top.specs.Runs.{course_of}
-use Rattle.ss_top.specs.Promises.{Keeps, KeepsBut, view_exempt, sources_exempt, exempt_of, folder_of}
+use Rattle.ss_top.specs.Promises.{Keeps, KeepsBut, sources_exempt, exempt_of, folder_of}
 use Rattle.ss_top.proofs.AnswerCases.{answer_case, answer_query, end_case}
 use Rattle.ss_top.proofs.GroupLemmas.{end_query, end_saved}
 use Rattle.ss_top.proofs.PlaceLemmas.{on_path, Within, AllWithin, StaysIn, at_first_stays, performed_stays, partly_stays}
@@ -381,13 +382,9 @@ so_far_within Other t d lines gs e = absurd (cc e)
 has_last : (line : List ℕ) (b : ℕ) → has_feed line ≡ false → (b == 10) ≡ false → has_feed (line ++ b ∷ []) ≡ false
 has_last line b none other = has_append 10 line (b ∷ []) ∙ ap (λ x. x || (has 10 (b ∷ []))) none ∙ ap (λ x. x || false) other
 
-none_more : (xs : List ℕ) → xs ++ [] ≡ xs
-none_more [] = refl
-none_more (x ∷ xs) = ap (λ t. x ∷ t) (none_more xs)
-
 first_lines : (line xs left : List ℕ) → has_feed line ≡ false → (more : List (List ℕ)) × (lines_of (line ++ xs ++ left) ≡ whole_lines (line ++ xs) ++ more)
 first_lines line [] left none =
-    (lines_of (line ++ [] ++ left), ap (λ ls. ls ++ lines_of (line ++ [] ++ left)) (sym (ap whole_lines (none_more line) ∙ whole_none line none)))
+    (lines_of (line ++ [] ++ left), ap (λ ls. ls ++ lines_of (line ++ [] ++ left)) (sym (ap whole_lines (append-nil line) ∙ whole_none line none)))
 first_lines line (x ∷ xs) left none = by_byte (x == 10) refl (first_lines [] xs left refl) (λ none. first_lines (line ++ x ∷ []) xs left none)
   where
     by_byte : (b : Bool) → (x == 10) ≡ b → (more : List (List ℕ)) × (lines_of (xs ++ left) ≡ whole_lines xs ++ more)
@@ -426,15 +423,8 @@ module _ (a : Asked) (t : Tree) (d : DefinitionOrRefusal) (old new : World) (tol
 
   -- where it is, its first lines
   module _ (bytes : List ℕ) (rest : Option (List ℕ)) where
-    same_some : (x y : List ℕ) → Some x ≡ Some y → x ≡ y
-    same_some x y e = cc e
-
-    none_behind : (ls : List (List ℕ)) → ls ≡ ls ++ []
-    none_behind [] = refl
-    none_behind (l ∷ ls) = ap (λ ks. l ∷ ks) (none_behind ls)
-
     all_lines : Keeps (exempt_of a t d (lines_of bytes)) t new → KeepsBut a t d (Some bytes) new
-    all_lines k = record { lines = lines_of bytes; first = λ bs e. ([], ap lines_of (sym (same_some bytes bs e)) ∙ none_behind (lines_of bytes)); kept = k }
+    all_lines k = record { lines = lines_of bytes; first = λ bs e. ([], ap lines_of (sym (same_some bytes bs e)) ∙ sym (append-nil (lines_of bytes))); kept = k }
 
     gave_out : GaveOut (course_of a t d) bytes rest old new → KeepsBut a t d (Some bytes) new
     gave_out g =

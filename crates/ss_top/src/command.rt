@@ -30,7 +30,7 @@ use std::alloc::Global;
 use std::sync::ledger::Ledger;
 
 // Prints which words are asked for.
-#[tactic(auto, using(crate::proofs::IdleLemmas::sink_no_read))]
+#[tactic(auto, using(effects::proofs::BlameLemmas::sink_no_read))]
 fn usage<F: Folders, K: Sink>(
     alloc: Global,
     _store: &mut F,

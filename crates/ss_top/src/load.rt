@@ -31,7 +31,7 @@ pub(crate) fn counts_asked(word: &Text, changes: &Text, seed: &Text) -> Option<(
 }
 
 // Makes the changes in memory, and prints what came of them.
-#[tactic(auto, using(effects::proofs::Following::following, crate::proofs::IdleLemmas::sink_no_read))]
+#[tactic(auto, using(effects::proofs::Following::following))]
 pub(crate) fn load<F: Folders, K: Sink, L: Ledger>(
     alloc: Global,
     _store: &mut F,

@@ -122,7 +122,7 @@ impl OpenView {
     }
 
     // Writes the folder of a view that was just opened, and prints that it did.
-    #[tactic(auto, using(effects::proofs::Following::following, crate::proofs::IdleLemmas::sink_no_read, effects::proofs::EffectLemmas::partly_more, effects::proofs::EffectLemmas::partly_later, effects::proofs::EffectLemmas::performed_append, crate::proofs::StageLemmas::meaning_fits, crate::proofs::IdleLemmas::idle_first, crate::proofs::IdleLemmas::idle_print), unfolding(crate::specs::Stages::files_of_view))]
+    #[tactic(auto, using(effects::proofs::Following::following, effects::proofs::EffectLemmas::partly_more, effects::proofs::EffectLemmas::partly_later, effects::proofs::EffectLemmas::performed_append, crate::proofs::StageLemmas::meaning_fits, crate::proofs::IdleLemmas::idle_first, crate::proofs::IdleLemmas::idle_print), unfolding(crate::specs::Stages::files_of_view))]
     pub(crate) fn fill_folder<F: Folders, K: Sink>(
         &self,
         alloc: Global,
@@ -215,7 +215,7 @@ impl OpenView {
     }
 
     // Syncs the files of the labels that were named, and prints how many they are.
-    #[tactic(auto, using(effects::proofs::Following::following, crate::proofs::IdleLemmas::sink_no_read, effects::proofs::EffectLemmas::partly_more, effects::proofs::EffectLemmas::partly_later, effects::proofs::EffectLemmas::performed_append, crate::proofs::StageLemmas::meaning_fits))]
+    #[tactic(auto, using(effects::proofs::Following::following, effects::proofs::EffectLemmas::partly_more, effects::proofs::EffectLemmas::partly_later, effects::proofs::EffectLemmas::performed_append, crate::proofs::StageLemmas::meaning_fits))]
     fn write_named<F: Folders, K: Sink>(
         &self,
         alloc: Global,
@@ -254,7 +254,7 @@ impl OpenView {
     }
 
     // Saves the sources that were named, and then syncs the view's files.
-    #[tactic(auto, using(effects::proofs::Following::following, crate::proofs::IdleLemmas::sink_no_read, effects::proofs::EffectLemmas::partly_more, effects::proofs::EffectLemmas::partly_later, effects::proofs::EffectLemmas::performed_append))]
+    #[tactic(auto, using(effects::proofs::Following::following, effects::proofs::EffectLemmas::partly_more, effects::proofs::EffectLemmas::partly_later, effects::proofs::EffectLemmas::performed_append))]
     fn write_changed<F: Folders, K: Sink>(
         &self,
         alloc: Global,
@@ -271,7 +271,7 @@ impl OpenView {
     }
 
     // Refuses an open group at the end of the input, and syncs.
-    #[tactic(auto, using(effects::proofs::Following::following, crate::proofs::IdleLemmas::sink_no_read, effects::proofs::EffectLemmas::partly_more, effects::proofs::EffectLemmas::partly_later, effects::proofs::EffectLemmas::performed_append))]
+    #[tactic(auto, using(effects::proofs::Following::following, effects::proofs::EffectLemmas::partly_more, effects::proofs::EffectLemmas::partly_later, effects::proofs::EffectLemmas::performed_append))]
     fn end_input<F: Folders, K: Sink>(
         &mut self,
         alloc: Global,
@@ -288,7 +288,7 @@ impl OpenView {
     }
 
     // A sync, where no group is open.
-    #[tactic(auto, using(effects::proofs::Following::following, crate::proofs::IdleLemmas::sink_no_read))]
+    #[tactic(auto, using(effects::proofs::Following::following))]
     fn sync<F: Folders, K: Sink>(
         &mut self,
         alloc: Global,
@@ -309,7 +309,7 @@ impl OpenView {
     }
 
     // Answers a change where no group is open.
-    #[tactic(auto, using(effects::proofs::Following::following, crate::proofs::IdleLemmas::sink_no_read, crate::proofs::AnswerLemmas::accepted_view, crate::proofs::AnswerLemmas::refused_view))]
+    #[tactic(auto, using(effects::proofs::Following::following, crate::proofs::AnswerLemmas::accepted_view, crate::proofs::AnswerLemmas::refused_view))]
     fn apply<K: Sink, L: Ledger>(
         &mut self,
         alloc: Global,
@@ -358,7 +358,7 @@ impl OpenView {
     }
 
     // Answers a line that begins with no word that stands alone.
-    #[tactic(auto, using(effects::proofs::Following::following, crate::proofs::IdleLemmas::sink_no_read, crate::proofs::AnswerLemmas::unread_view))]
+    #[tactic(auto, using(effects::proofs::Following::following, crate::proofs::AnswerLemmas::unread_view))]
     fn change_line<K: Sink, L: Ledger>(
         &mut self,
         alloc: Global,
@@ -382,7 +382,7 @@ impl OpenView {
     }
 
     // Answers the row of a line.
-    #[tactic(auto, using(effects::proofs::Following::following, crate::proofs::IdleLemmas::sink_no_read, crate::proofs::AnswerLemmas::words_does))]
+    #[tactic(auto, using(effects::proofs::Following::following, crate::proofs::AnswerLemmas::words_does))]
     fn row<F: Folders, K: Sink, L: Ledger>(
         &mut self,
         alloc: Global,
@@ -405,7 +405,7 @@ impl OpenView {
     }
 
     // Answers a line.
-    #[tactic(auto, using(effects::proofs::Following::following, crate::proofs::IdleLemmas::sink_no_read, crate::proofs::AnswerLemmas::spelled_does, crate::proofs::AnswerLemmas::unspelled_does))]
+    #[tactic(auto, using(effects::proofs::Following::following, crate::proofs::AnswerLemmas::spelled_does, crate::proofs::AnswerLemmas::unspelled_does))]
     fn answer<F: Folders, K: Sink, L: Ledger>(
         &mut self,
         alloc: Global,

@@ -1,5 +1,6 @@
 -- What a reader of lines took so far in a call, and what it answers.
 use Rattle.std.proofs.Common.{◌≡◌, inl, inr, ℕ, ◌+◌, ◌==◌, Bool, true, false, ◌||◌, cond, List, [], ◌∷◌, ◌++◌, length, Option, None, Some, unwrap_or, Result, Ok, Err, refl, sym, ap, ◌∙◌, subst, append_assoc, append-nil, arith, length-append}
+use Rattle.std.proofs.lemmas.Bool.{or_parts}
 use Rattle.outside.specs.Streams.{before}
 use Rattle.tab_lines.specs.Lines.{has_feed, lines_of}
 use Rattle.tab_lines.specs.Taking.{LinesState, most_taken, is_ready, ahead, Answers, TakesPiece, IsTakenLine, Reads, IsNextOf}
@@ -7,7 +8,6 @@ use Rattle.tab_lines.specs.declared.lines.Next.{Next}
 use Rattle.tab_lines.specs.declared.lines.Next.TheVariants.{Line, End}
 use Rattle.tab_lines.specs.declared.lines.ReadStop.{ReadStop}
 use Rattle.tab_lines.specs.declared.lines.ReadStop.TheVariants.{ReadFault, TooLong, NoMemory}
-use Rattle.tab_lines.proofs.PartLemmas.{or_parts}
 use Rattle.tab_lines.proofs.LineLemmas.{lines_first, lines_last, some_line}
 
 -- what a call took so far

@@ -1,20 +1,16 @@
 -- What the end of an input leaves of a view folder.
-use Rattle.std.proofs.Common.{◌≡◌, ◌∷◌, ◌++◌, ◌∙◌, [], ℕ, List, Option, None, Some, refl, sym, ap}
-use Rattle.outside.specs.States.{StoreState, SinkState}
+use Rattle.std.proofs.Common.{◌≡◌, ◌∷◌, ◌∙◌, [], Option, Some, refl, sym, ap}
+use Rattle.outside.specs.States.{StoreState}
 use Rattle.outside.specs.Streams.{with_bytes}
 use Rattle.outside.specs.Tree.{Tree}
 use Rattle.effects.specs.Effects.{World, Stored, Contents, contents, stored_of, world_of, performed}
-use Rattle.effects.proofs.EffectLemmas.{performed_append}
+use Rattle.effects.proofs.EffectLemmas.{performed_append, told_tree}
 use Rattle.view_folder.specs.Files.{view_folder}
 use Rattle.view_folder.specs.Sync.{later_sync}
 use Rattle.view_folder.proofs.LaterLemmas.{later, later_synced, named_held}
 use Rattle.run_lines.specs.Printing.{prints_applied, lines_text, applied_rows}
 use Rattle.view_apply.specs.Applying.{ApplyState, synced_count, finish}
 use Rattle.view_apply.specs.Left.{IsLeft}
-
-told_tree : (o : Option Tree) (n : ℕ) (s : Stored) → stored_of o n ≡ Some s → o ≡ Some s.tree
-told_tree None n s e = absurd (cc)
-told_tree (Some t) n s e = let same : record { tree = t; writes = n } ≡ s = cc in ap (λ (x : Stored). Some x.tree) same
 
 module _ (u : ApplyState) (t : Tree) (old new : World) (told : old.store.tree ≡ Some t) where
   abbrev at_first : Stored

@@ -1,23 +1,14 @@
 -- From what was made of a line to what it asks for.
-use Rattle.std.proofs.Common.{◌≡◌, ◌≢◌, List, ℕ, [], ◌∷◌, refl, sym, subst}
+use Rattle.std.proofs.Common.{◌≡◌, List, ℕ, [], ◌∷◌, refl, sym, subst}
 use Rattle.std.specs.Prelude.{Result, Ok, Err, None, Some}
 use Rattle.ss_text.specs.Texts.{Row}
-use Rattle.outside.specs.States.{SinkState}
 use Rattle.effects.specs.Effects.{World, contents, performed, Partly}
-use Rattle.effects.specs.Blame.{SinkBlames}
 use Rattle.effects.specs.declared.stop.Stop.{Stop}
-use Rattle.effects.specs.declared.stop.Stop.TheVariants as stop
 use Rattle.effects.proofs.EffectLemmas.{partly_more}
 use Rattle.course.specs.declared.status.Verdict.TheVariants as verdict
-use Rattle.course.specs.Answering.{Answered, effects_of}
+use Rattle.course.specs.Answering.{Answered}
 use Rattle.run_lines.specs.Printing.{refuses}
 use Rattle.view_apply.specs.Applying.{ApplyState, taken, reply, step}
-
--- a call on the sink does not fail in reading
-pub sink_no_read : {A : Type 0} (old new : SinkState) (e : Stop) → SinkBlames {A = A} old new (Err e) → e ≢ stop.ReadFault
-sink_no_read old new stop.ReadFault b is = b.because
-sink_no_read old new stop.WriteFault b is = absurd (cc)
-sink_no_read old new stop.NoMemory b is = absurd (cc)
 
 module _ (s u : ApplyState) (line : List ℕ) where
   -- a line was applied, or its refusal was printed

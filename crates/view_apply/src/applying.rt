@@ -186,7 +186,7 @@ impl Applying {
     }
 
     // Syncs the files of the labels that were named, and prints how many lines were applied.
-    #[tactic(auto, using(effects::proofs::Following::following, crate::proofs::OutcomeLemmas::sink_no_read, effects::proofs::EffectLemmas::partly_more, effects::proofs::EffectLemmas::partly_later, effects::proofs::EffectLemmas::performed_append, crate::proofs::KeyLemmas::fit_by_keys))]
+    #[tactic(auto, using(effects::proofs::Following::following, effects::proofs::EffectLemmas::partly_more, effects::proofs::EffectLemmas::partly_later, effects::proofs::EffectLemmas::performed_append, crate::proofs::KeyLemmas::fit_by_keys))]
     fn write_named<F: Folders, K: Sink>(
         &self,
         alloc: Global,
@@ -222,7 +222,7 @@ impl LineHandler for Applying {
 
     ghost finish = { finish };
 
-    #[tactic(auto, using(effects::proofs::Following::following, crate::proofs::OutcomeLemmas::sink_no_read, crate::proofs::OutcomeLemmas::line_taken, crate::proofs::OutcomeLemmas::line_refused, crate::proofs::OutcomeLemmas::line_stopped, crate::proofs::OutcomeLemmas::refusal_stopped))]
+    #[tactic(auto, using(effects::proofs::Following::following, crate::proofs::OutcomeLemmas::line_taken, crate::proofs::OutcomeLemmas::line_refused, crate::proofs::OutcomeLemmas::line_stopped, crate::proofs::OutcomeLemmas::refusal_stopped))]
     fn line<F: Folders, K: Sink, L: Ledger>(
         &mut self,
         alloc: Global,

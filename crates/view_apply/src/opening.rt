@@ -25,7 +25,7 @@ pub enum OpenedFolder {
 }
 
 /// Reads the tables of the folder of a view's database, or prints why they are none of a view of this form.
-#[tactic(auto, using(effects::proofs::Following::following, crate::proofs::OpeningLemmas::opened, crate::proofs::OpeningLemmas::unread, crate::proofs::OpeningLemmas::unread_whole, crate::proofs::OpeningLemmas::refused_so, crate::proofs::OpeningLemmas::refusal_off, crate::proofs::OutcomeLemmas::sink_no_read))]
+#[tactic(auto, using(effects::proofs::Following::following, crate::proofs::OpeningLemmas::opened, crate::proofs::OpeningLemmas::unread, crate::proofs::OpeningLemmas::unread_whole, crate::proofs::OpeningLemmas::refused_so, crate::proofs::OpeningLemmas::refusal_off, effects::proofs::BlameLemmas::sink_no_read))]
 pub fn open_folder<F: Folders, K: Sink>(
     alloc: Global,
     store: &mut F,

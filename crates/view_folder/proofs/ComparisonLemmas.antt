@@ -9,6 +9,7 @@ use Rattle.std.proofs.lemmas.Cmp.{nat_list_cmp_total, eq_by_cmp_equiv}
 use Rattle.std.proofs.lemmas.List.{take_more}
 use Rattle.std.proofs.lemmas.Bool.{or_parts, or_from, or_left, or_right, and_from, false≢true}
 use Rattle.std.proofs.lemmas.List.Folds.{list_any-append}
+use Rattle.csv_catalog.proofs.FilesLemmas.{or_nothing}
 use Rattle.ss_text.specs.Texts.{Text, text_cmp, text_eq, is_in}
 use Rattle.ss_text.proofs.KeyLemmas.{text_order, equal_itself, equal_is}
 use Rattle.ss_text.proofs.SetLemmas.{same_ascending}
@@ -43,10 +44,6 @@ pub difference_meant : (d : Text) (fs : List File) (t : Tree) (name : Text) (mea
     → difference name (file_at t d name) meant ≡ cond (differs_at d fs t name) (Some (difference_at d fs t name)) None
 difference_meant d fs t name meant e = ap (difference name (file_at t d name)) e
 
-or_none : {A : Type 0} (o : Option A) → option_or o None ≡ o
-or_none None = refl
-or_none (Some x) = refl
-
 -- what files are to hold, and after them others
 bytes_in-append : (fs gs : List File) (q : Text) → bytes_in (fs ++ gs) q ≡ option_or (bytes_in fs q) (bytes_in gs q)
 bytes_in-append [] gs q = refl
@@ -75,7 +72,7 @@ module _ (old : Text → Option (Bor Text)) (f : File) where
 
       by_case : (b : Bool) → text_eq q f.name ≡ b → option_copied (cond b (Some v) (old q)) ≡ option_or (option_copied (old q)) (cond b (Some f.bytes) None)
       by_case true e = ap Some is ∙ ap (λ (o : Option (Bor Text)). option_or (option_copied o) (Some f.bytes)) (sym (ap old (equal_is text_order q f.name e) ∙ missing (old f.name) absent))
-      by_case false e = sym (or_none (option_copied (old q)))
+      by_case false e = sym (or_nothing (option_copied (old q)))
 
   -- and a later one
   pub later_unmeant : is_some (old f.name) ≡ true → (q : Text) → option_copied (old q) ≡ option_or (option_copied (old q)) (bytes_in (f ∷ []) q)
@@ -87,7 +84,7 @@ module _ (old : Text → Option (Bor Text)) (f : File) where
 
       by_case : (b : Bool) → text_eq q f.name ≡ b → option_copied (old q) ≡ option_or (option_copied (old q)) (cond b (Some f.bytes) None)
       by_case true e = some (old q) (Some f.bytes) (ap (λ (x : Text). is_some (old x)) (equal_is text_order q f.name e) ∙ there)
-      by_case false e = sym (or_none (option_copied (old q)))
+      by_case false e = sym (or_nothing (option_copied (old q)))
 
 module _ {A : Type 0} (p : A → Bool) where
   none_found : (xs : List A) → list_any p xs ≡ false → find p xs ≡ None

@@ -10,7 +10,7 @@ use Rattle.std.specs.declared.cmp.Ordering.{Ordering}
 use Rattle.std.specs.declared.cmp.Ordering.TheVariants.{Less, Equal, Greater}
 use Rattle.std.specs.Cmp.Lexicographic.{texts_ties}
 use Rattle.std.specs.List.Sorted.{IsStrictlySortedBy}
-use Rattle.std.proofs.lemmas.Bool.{false_from_ne_true, or_right, and_parts}
+use Rattle.std.proofs.lemmas.Bool.{false_from_ne_true, or_right, and_parts, or_parts}
 use Rattle.std.proofs.lemmas.Slice.Eq.{bytes_eq-Decides}
 use Rattle.std.proofs.lemmas.Cmp.{nat_list_cmp_total, tied_itself, eq_by_cmp_equiv}
 use Rattle.ss_text.specs.Texts.{Text, text_cmp, text_eq, is_in}
@@ -197,15 +197,11 @@ each_among P (n ∷ ns) h = (h n (rw ((bytes_eq-Decides n n).1 refl) refl), each
     later : (q : Text) → is_in q ns ≡ true → (text_eq q n || is_in q ns) ≡ true
     later q e = or_right (text_eq q n) (is_in q ns) e
 
-pub or_false : (a b : Bool) → (a || b) ≡ false → (a ≡ false) × (b ≡ false)
-or_false true b e = absurd (cc)
-or_false false b e = (refl, e)
-
 -- the other files are there still when one was removed
 pub still_there : (d n : Text) (s : Stored) (ms : List Text) → is_in n ms ≡ false → AreThere d ms s.tree → AreThere d ms (removing d n s).tree
 still_there d n s [] e h = tt
 still_there d n s (m ∷ ms) e h =
-    let parts = or_false (text_eq n m) (is_in n ms) e in
+    let parts = or_parts (text_eq n m) (is_in n ms) e in
     let gone : map.get (map.remove s.tree.files (d, n)) (d, m) ≡ file_at s.tree d m = remove_at d n s m ∙ ap (λ b. cond b None (file_at s.tree d m)) (same_text m n ∙ parts.0) in
     (ap is_some gone ∙ h.0, still_there d n s ms parts.1 h.1)
 

@@ -1,17 +1,18 @@
 -- The records of a table's file are read back as the table, and what is read as a table are its records.
 use Rattle.std.proofs.Common.{◌≡◌, ◌≤◌, ◌+◌, ◌∷◌, ◌++◌, ◌∙◌, [], ℕ, List, Bool, true, false, not, Option, Some, None, refl, sym, ap, subst, length, map, take, drop, append_assoc, arith, is_some, eq-eqb}
-use Rattle.std.specs.Prelude.{◌&&◌, ◌||◌, unwrap_or, option_map, bytes_eq, if◌then◌else◌}
+use Rattle.std.specs.Prelude.{◌&&◌, unwrap_or, option_map, bytes_eq, if◌then◌else◌}
 use Rattle.std.specs.Option.{option_or}
 use Rattle.std.specs.List.{AllByRecursion, IsDistinct, list_all, list_any}
 use Rattle.std.specs.List.Sorted.{IsStrictlySortedBy}
 use Rattle.std.specs.declared.cmp.Ordering.TheVariants.{Less}
-use Rattle.std.proofs.lemmas.Bool.{and_parts}
+use Rattle.std.proofs.lemmas.Bool.{and_parts, or_parts}
 use Rattle.std.proofs.lemmas.List.{take-append-drop}
 use Rattle.ss_text.specs.Texts.{Text, Row, text_cmp, row_cmp, row_eq, is_in}
 use Rattle.ss_text.specs.Label.{is_column_label, has_label_length, is_column_byte}
 use Rattle.ss_text.proofs.KeyLemmas.{text_order, row_order, equal_is, equal_itself, less_differs}
 use Rattle.ss_text.proofs.PairLemmas.{turned}
 use Rattle.csv_catalog.specs.FileFaults.{first_repeated, repeated_after}
+use Rattle.csv_catalog.proofs.JudgedLemmas.{both_none}
 use Rattle.flow_law.specs.declared.shape.Shape.{Shape}
 use Rattle.flow_law.specs.Tables.{TableValue, row_keys}
 use Rattle.view_folder.specs.declared.held.TablesFault.{TablesFault}
@@ -23,11 +24,8 @@ use Rattle.view_folder.proofs.RecordLemmas.{strict_ascends, none_ragged, dynamic
 use Rattle.view_folder.proofs.PartLemmas.{NoneWithout, no_cells, whole, spliced_length, cells_back, key_back, parts_back, header_long}
 
 -- which of two faults comes
-or_none : {A : Type 0} (a b : Option A) → option_or a b ≡ None → (a ≡ None) × (b ≡ None)
-or_none None b e = (refl, e)
-or_none (Some x) b e = absurd (cc)
 
-none_mapped : {A B : Type 0} (f : A → B) (o : Option A) → option_map f o ≡ None → o ≡ None
+pub none_mapped : {A B : Type 0} (f : A → B) (o : Option A) → option_map f o ≡ None → o ≡ None
 none_mapped f None e = refl
 none_mapped f (Some x) e = absurd (cc)
 
@@ -72,8 +70,8 @@ module _ (shape : Shape) (form : IsForm shape) where
   pub records_are : (file : Text) (records : List Row) → records_fault shape file records ≡ None → table_records shape (table_in shape records) ≡ records
   records_are file [] e = absurd (cc)
   records_are file (header ∷ rows) e =
-      let first = or_none (option_map (NameTwice file) (first_repeated header)) _ e in
-      let second = or_none (option_map (λ (r : ℕ × ℕ). Ragged file r.0 (length header) r.1) (ragged (length header) 2 rows)) _ first.1 in
+      let first = both_none (option_map (NameTwice file) (first_repeated header)) _ e in
+      let second = both_none (option_map (λ (r : ℕ × ℕ). Ragged file r.0 (length header) r.1) (ragged (length header) 2 rows)) _ first.1 in
       let lengths = none_ragged (length header) 2 rows (none_mapped _ (ragged (length header) 2 rows) second.0) in
       let of_view = and_parts (is_header shape header) (ascends row_cmp (map (constant_part shape) rows)) (passed (are_of_view shape header rows) (NotThisView file) second.1) in
       let parts = and_parts (row_eq (constant_part shape header) shape.constants) (are_columns shape (dynamic_part shape header)) of_view.0 in
@@ -139,14 +137,10 @@ not_true : (b : Bool) → not b ≡ true → b ≡ false
 not_true true h = absurd (cc)
 not_true false h = refl
 
-either : (a b : Bool) → (a || b) ≡ false → (a ≡ false) × (b ≡ false)
-either true b h = absurd (cc)
-either false b h = (refl, h)
-
 none_like : (column : Text) (constants : Row) → list_any (λ c. bytes_eq c column) constants ≡ false → Apart column constants
 none_like column [] h = tt
 none_like column (c ∷ cs) h =
-    let both = either (bytes_eq c column) (list_any (λ d. bytes_eq d column) cs) h in
+    let both = or_parts (bytes_eq c column) (list_any (λ d. bytes_eq d column) cs) h in
     (turned text_order column c ∙ both.0, none_like column cs both.1)
 
 column_apart : (column : Text) (constants : Row) → is_column_label column constants ≡ true → Apart column constants

@@ -1,7 +1,6 @@
 -- The files of a folder, one after the other, and the tables that they are.
 use Rattle.std.proofs.Common.{◌≡◌, ◌∷◌, ◌++◌, ◌∙◌, [], ℕ, List, Bool, true, false, Option, Some, None, cond, refl, sym, ap, subst, append_assoc}
 use Rattle.std.specs.Prelude.{fold, filter}
-use Rattle.std.specs.List.{cons_option}
 use Rattle.std.specs.List.Sorted.{IsStrictlySortedBy}
 use Rattle.std.specs.Option.{option_or}
 use Rattle.std.specs.Ordering.{match_ordering}
@@ -15,19 +14,12 @@ use Rattle.ss_text.proofs.GroupLemmas.{strict_front}
 use Rattle.outside.specs.Tree.{Tree, file_at}
 use Rattle.csv_catalog.specs.Loaded.{File, file_in, files_read, is_relation_file, label_of}
 use Rattle.csv_catalog.specs.Records.{records_of}
+use Rattle.csv_catalog.proofs.FilesLemmas.{or_nothing, cons_is}
 use Rattle.flow_law.specs.declared.shape.Shape.{Shape}
 use Rattle.flow_law.specs.Tables.{TableValue, TablesValue, labels_of}
 use Rattle.view_folder.specs.declared.held.TablesFault.{TablesFault}
 use Rattle.view_folder.specs.Records.{table_in, records_fault}
 use Rattle.view_folder.specs.Held.{files_held, files_fault, with_file, KeysFit, AllKeysFit}
-
-or_none : {A : Type 0} (o : Option A) → option_or o None ≡ o
-or_none None = refl
-or_none (Some x) = refl
-
-cons_is : {A : Type 0} (o : Option A) (xs : List A) → cons_option o xs ≡ cons_option o [] ++ xs
-cons_is None xs = refl
-cons_is (Some x) xs = refl
 
 -- past files without a fault, and at one with a fault
 module _ (shape : Shape) where
@@ -51,7 +43,7 @@ module _ (shape : Shape) where
 
   fault_one : (file : File) → files_fault shape (file ∷ []) ≡ records_fault shape file.0 file.1
   unfolding files_fault
-  fault_one file = or_none (records_fault shape file.0 file.1)
+  fault_one file = or_nothing (records_fault shape file.0 file.1)
 
   none_held : (ts : TablesValue) (files : List File) → files ≡ [] → (files_fault shape files ≡ None) × (fold (with_file shape) ts files ≡ ts)
   unfolding files_fault

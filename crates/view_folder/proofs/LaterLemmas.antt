@@ -6,7 +6,7 @@ use Rattle.std.specs.Option.{option_map_or}
 use Rattle.std.specs.Int.{from_bool}
 use Rattle.std.specs.List.Sorted.{IsStrictlySortedBy}
 use Rattle.std.proofs.Math.Seq.{drop-append_seam, drop-length}
-use Rattle.std.proofs.lemmas.Bool.{false_from_ne_true, false≢true, or_right}
+use Rattle.std.proofs.lemmas.Bool.{false_from_ne_true, false≢true, or_right, or_parts}
 use Rattle.std.proofs.lemmas.List.{append_cancel_right, take-append-drop}
 use Rattle.ss_text.specs.Texts.{Text, text_cmp, text_eq, is_in}
 use Rattle.ss_text.proofs.KeyLemmas.{text_order, equal_itself, equal_is}
@@ -14,13 +14,14 @@ use Rattle.outside.specs.Counts.{risen}
 use Rattle.outside.specs.Tree.{Tree, Place, file_at}
 use Rattle.effects.specs.declared.stop.Stop.{Stop}
 use Rattle.effects.specs.Effects.{world_of, Does, Write, Remove, Stored, Contents, stored_of, contents, after, performed, writing, removing}
+use Rattle.effects.proofs.EffectLemmas.{told_tree}
 use Rattle.outside.specs.States.{StoreState, SinkState}
 use Rattle.flow_law.specs.declared.shape.Shape.{Shape}
 use Rattle.flow_law.specs.Tables.{TableValue, TablesValue, table_of, labels_of}
 use Rattle.view_folder.specs.Files.{bytes_in, is_csv_name, file_name, Apart}
 use Rattle.view_folder.specs.TableFiles.{table_text, table_file, table_files, FitsShape, FitShape}
 use Rattle.view_folder.specs.Sync.{Holds, HoldsExactly, HoldsNamed, label_synced, later_sync, is_counted, later_count}
-use Rattle.view_folder.proofs.FolderLemmas.{apart_sorted, or_false, write_at, write_others, remove_at, remove_others}
+use Rattle.view_folder.proofs.FolderLemmas.{apart_sorted, write_at, write_others, remove_at, remove_others}
 
 -- a label's file ends in `.csv`
 pub file_name_csv : (l : Text) → is_csv_name (file_name l) ≡ true
@@ -52,7 +53,7 @@ no_files q [] h = refl
 no_files q (m ∷ ms) h = rw (no_file q m h, no_files q ms h) refl
 
 -- what the files of tables hold under a label's file
-bytes_of_label : (shape : Shape) (ts : TablesValue) (l : Text) → bytes_in (table_files shape ts) (file_name l) ≡ option_map (table_text shape) (table_of ts l)
+pub bytes_of_label : (shape : Shape) (ts : TablesValue) (l : Text) → bytes_in (table_files shape ts) (file_name l) ≡ option_map (table_text shape) (table_of ts l)
 unfolding table_files
 bytes_of_label shape [] l = refl
 bytes_of_label shape (p ∷ ps) l =
@@ -156,7 +157,7 @@ module _ (d : Text) (shape : Shape) (ts : TablesValue) where
   labels_unnamed : (ls : List Text) (q : Text) (s : Stored) → is_in q (each file_name ls) ≡ false → file_at (after_labels ls s).tree d q ≡ file_at s.tree d q
   labels_unnamed [] q s h = refl
   labels_unnamed (m ∷ ms) q s h =
-      let parts = or_false (text_eq q (file_name m)) (is_in q (each file_name ms)) h in
+      let parts = or_parts (text_eq q (file_name m)) (is_in q (each file_name ms)) h in
       labels_unnamed ms q (after_label m s) parts.1 ∙ label_at m q s ∙ ap (λ b. cond b (option_map (table_text shape) (table_of ts m)) (file_at s.tree d q)) parts.0
 
   labels_others : (ls : List Text) (s : Stored) (p : Place) → p.0 ≢ d → map.get (after_labels ls s).tree.files p ≡ map.get s.tree.files p
@@ -208,10 +209,6 @@ module _ (d : Text) (shape : Shape) (ts : TablesValue) where
 pub drop_at : (xs : List Text) (i : ℕ) (x : Text) → i < length xs → x ≡ get_or xs i x → drop i xs ≡ x ∷ drop (i + 1) xs
 drop_at xs i x lt is = rw (add-one, drop-cons xs i x) (ap (λ y. y ∷ drop (suc i) xs) (sym is))
 
-pub tree_of : (o : Option Tree) (n : ℕ) (s : Stored) → stored_of o n ≡ Some s → o ≡ Some s.tree
-tree_of None n s h = absurd (cc)
-tree_of (Some t) n s h = ap (option_map (λ (u : Stored). u.tree)) h
-
 -- where all of it was done, the files of these labels are those of their tables, and all others stay
 pub named_held : (d : Text) (shape : Shape) (ts : TablesValue) (ls : List Text) (old new : StoreState) (o : SinkState) (t u : Tree) → old.tree ≡ Some t → new.tree ≡ Some u
     → contents (world_of new o) ≡ performed (later_sync d shape ts ls) (contents (world_of old o)) → HoldsNamed d shape ts ls t u
@@ -221,7 +218,7 @@ named_held d shape ts ls old new o t u was is did =
     let last : Stored = after_labels d shape ts ls s in
     let done : stored_of new.tree new.writes ≡ Some last =
     ap (λ (c : Contents). c.stored) (did ∙ ap (λ (tree : Option Tree). performed (later_sync d shape ts ls) (record { stored = stored_of tree old.writes; held = o.held })) was ∙ labels_done d shape ts ls s o.held) in
-    let same : last.tree ≡ u = ap (λ (tree : Option Tree). unwrap_or tree u) (sym (tree_of new.tree new.writes last done) ∙ is) in
+    let same : last.tree ≡ u = ap (λ (tree : Option Tree). unwrap_or tree u) (sym (told_tree new.tree new.writes last done) ∙ is) in
     subst (HoldsNamed d shape ts ls t) same (record {
       named = λ l among. labels_at d shape ts ls l s ∙ ap (λ b. cond b (option_map (table_text shape) (table_of ts l)) (file_at t d (file_name l))) among;
       unnamed = λ q apart. labels_unnamed d shape ts ls q s apart;
@@ -268,7 +265,7 @@ module _ (d : Text) (shape : Shape) (ts : TablesValue) (ls : List Text) (s : Sto
         stored = after_label d shape ts l h.stored;
         is = ap (λ (c : Contents). c.stored) does ∙ ap (λ (st : Option Stored). (after (label_synced d shape ts l) (record { stored = st; held = o.held })).stored) h.is ∙ ap (λ (c : Contents). c.stored) (label_done d shape ts l h.stored o.held);
         counts = h.counts ∙ ap (λ (xs : List Text). n + counted_in d shape ts xs h.stored) (drop_at ls i l lt at)
-            ∙ joined (is_counted d ts h.stored.tree l) (counted_in d shape ts (drop (i + 1) ls) (after_label d shape ts l h.stored)) (one ∙ ap from_bool (was h.stored.tree (tree_of old.tree old.writes h.stored h.is)));
+            ∙ joined (is_counted d ts h.stored.tree l) (counted_in d shape ts (drop (i + 1) ls) (after_label d shape ts l h.stored)) (one ∙ ap from_bool (was h.stored.tree (told_tree old.tree old.writes h.stored h.is)));
       }
     where
       joined : (c : Bool) (k : ℕ) → m ≡ from_bool c → n + (cond c 1 0 + k) ≡ n + m + k

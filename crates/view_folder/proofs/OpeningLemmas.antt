@@ -14,6 +14,7 @@ use Rattle.outside.specs.States.{StoreState, SinkState}
 use Rattle.outside.specs.Tree.{Tree, file_at, files_of}
 use Rattle.effects.specs.declared.stop.Stop.{Stop}
 use Rattle.effects.specs.Effects.{World, world_of, Does, Remove, Stored, Contents, stored_of, contents, performed, removing}
+use Rattle.effects.proofs.EffectLemmas.{told_tree}
 use Rattle.flow_law.specs.declared.shape.Shape.{Shape}
 use Rattle.flow_law.specs.Tables.{TablesValue, labels_of}
 use Rattle.flow_law.specs.InOrder.{AreTables}
@@ -22,7 +23,7 @@ use Rattle.view_folder.specs.Files.{is_named, has_name, is_csv_name, file_name, 
 use Rattle.view_folder.specs.TableFiles.{table_file, table_files}
 use Rattle.view_folder.specs.Sync.{written, opening_sync, opening_count, HoldsExactly}
 use Rattle.view_folder.proofs.FolderLemmas.{now, wrote, synced, holds_exactly, performed_written, each_there, others_apart, still_there}
-use Rattle.view_folder.proofs.LaterLemmas.{file_name_csv, same_file, drop_at, tree_of}
+use Rattle.view_folder.proofs.LaterLemmas.{file_name_csv, same_file, drop_at}
 
 -- the files of tables are named by their labels, each once
 module _ (shape : Shape) where
@@ -77,7 +78,7 @@ module _ (d : Text) (fs : List File) (h : AreViewFiles fs) where
       let last : Stored = now d fs s h in
       let done : stored_of new.tree new.writes ≡ Some last =
       ap (λ (c : Contents). c.stored) (did ∙ ap (λ (tree : Option Tree). performed (opening_sync d fs (files_of t d)) (record { stored = stored_of tree old.writes; held = o.held })) was ∙ synced d fs s h o.held) in
-      let same : last.tree ≡ u = ap (λ (tree : Option Tree). unwrap_or tree u) (sym (tree_of new.tree new.writes last done) ∙ is) in
+      let same : last.tree ≡ u = ap (λ (tree : Option Tree). unwrap_or tree u) (sym (told_tree new.tree new.writes last done) ∙ is) in
       subst (HoldsExactly d fs t) same (holds_exactly d fs s h)
 
   -- each other file was there when its turn came
@@ -92,7 +93,7 @@ module _ (d : Text) (fs : List File) (h : AreViewFiles fs) where
       let done : stored_of mid.tree mid.writes ≡ Some last =
       ap (λ (c : Contents). c.stored) (did ∙ ap (λ (tree : Option Tree). performed (written d fs) (record { stored = stored_of tree old.writes; held = o.held })) was ∙ performed_written d fs s o.held) in
       ap (λ k. length fs + k)
-      (each last.tree (tree_of mid.tree mid.writes last done) (subst Apart (sym are) (others_apart d fs s h)) (subst (λ (ns : List Text). AreThere d ns last.tree) (sym are) (each_there d fs s h))
+      (each last.tree (told_tree mid.tree mid.writes last done) (subst Apart (sym are) (others_apart d fs s h)) (subst (λ (ns : List Text). AreThere d ns last.tree) (sym are) (each_there d fs s h))
       ∙ ap length are)
 
 module _ (d : Text) (ls : List Text) where
@@ -120,7 +121,7 @@ module _ (d : Text) (ls : List Text) where
         is = ap (λ (c : Contents). c.stored) does ∙ ap (λ (st : Option Stored). (performed (Remove d l ∷ []) (record { stored = st; held = o.held })).stored) h.is;
         apart = apart.1;
         there = still_there d l h.stored (drop (i + 1) ls) apart.0 there.1;
-        counts = one_more (one ∙ ap from_bool (was h.stored.tree (tree_of old.tree old.writes h.stored h.is) ∙ there.0));
+        counts = one_more (one ∙ ap from_bool (was h.stored.tree (told_tree old.tree old.writes h.stored h.is) ∙ there.0));
       }
     where
       one_more : m ≡ 1 → n + m ≡ i + 1

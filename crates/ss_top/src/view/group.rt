@@ -31,7 +31,7 @@ use view_session::{GroupStop, HoldRefused};
 
 impl OpenView {
     // Refuses a line that does not stand in a group.
-    #[tactic(auto, using(effects::proofs::Following::following, crate::proofs::IdleLemmas::sink_no_read))]
+    #[tactic(auto, using(effects::proofs::Following::following))]
     fn refuse_inside<K: Sink>(
         &mut self,
         alloc: Global,
@@ -47,7 +47,7 @@ impl OpenView {
     }
 
     // Refuses a line that stands only in a group.
-    #[tactic(auto, using(effects::proofs::Following::following, crate::proofs::IdleLemmas::sink_no_read))]
+    #[tactic(auto, using(effects::proofs::Following::following))]
     fn refuse_outside<K: Sink>(
         &mut self,
         alloc: Global,
@@ -63,7 +63,7 @@ impl OpenView {
     }
 
     // Opens a group.
-    #[tactic(auto, using(effects::proofs::Following::following, crate::proofs::IdleLemmas::sink_no_read))]
+    #[tactic(auto, using(effects::proofs::Following::following))]
     fn begin_group<K: Sink>(&mut self, alloc: Global, output: &mut K) -> Result<(), Stop>
         requires { self.old.session.held ≡ None }
         ensures does { (s : _) → Does (beginning self.old).effects (world_of s (K.state output.old)) (world_of s (K.state output.new)) result }
@@ -77,7 +77,7 @@ impl OpenView {
     }
 
     // Answers a change in a group.
-    #[tactic(auto, using(effects::proofs::Following::following, crate::proofs::IdleLemmas::sink_no_read, crate::proofs::AnswerLemmas::held_view, crate::proofs::AnswerLemmas::unheld_view))]
+    #[tactic(auto, using(effects::proofs::Following::following, crate::proofs::AnswerLemmas::held_view, crate::proofs::AnswerLemmas::unheld_view))]
     pub(super) fn hold<K: Sink>(
         &mut self,
         alloc: Global,
@@ -100,7 +100,7 @@ impl OpenView {
     }
 
     // Gives a group up.
-    #[tactic(auto, using(effects::proofs::Following::following, crate::proofs::IdleLemmas::sink_no_read))]
+    #[tactic(auto, using(effects::proofs::Following::following))]
     fn abort_group<K: Sink>(&mut self, alloc: Global, output: &mut K) -> Result<(), Stop>
         requires { is_some self.old.session.held ≡ true }
         ensures does { (s : _) → Does (aborting self.old).effects (world_of s (K.state output.old)) (world_of s (K.state output.new)) result }
@@ -114,7 +114,7 @@ impl OpenView {
     }
 
     // Refuses a group that has ended.
-    #[tactic(auto, using(effects::proofs::Following::following, crate::proofs::IdleLemmas::sink_no_read))]
+    #[tactic(auto, using(effects::proofs::Following::following))]
     fn refuse_group<K: Sink>(
         &mut self,
         alloc: Global,
@@ -132,7 +132,7 @@ impl OpenView {
     }
 
     // Refuses a group, which gives it up.
-    #[tactic(auto, using(effects::proofs::Following::following, crate::proofs::IdleLemmas::sink_no_read))]
+    #[tactic(auto, using(effects::proofs::Following::following))]
     fn give_up<K: Sink>(&mut self, alloc: Global, output: &mut K, fields: &Row) -> Result<(), Stop>
         requires { is_some self.old.session.held ≡ true }
         ensures does { (s : _) → Does (giving_up self.old fields.now).effects (world_of s (K.state output.old)) (world_of s (K.state output.new)) result }
@@ -144,7 +144,7 @@ impl OpenView {
     }
 
     // Makes the changes of a group, or refuses it.
-    #[tactic(auto, using(effects::proofs::Following::following, crate::proofs::IdleLemmas::sink_no_read, crate::proofs::AnswerLemmas::made_view, crate::proofs::AnswerLemmas::stopped_view))]
+    #[tactic(auto, using(effects::proofs::Following::following, crate::proofs::AnswerLemmas::made_view, crate::proofs::AnswerLemmas::stopped_view))]
     fn make_group<K: Sink, L: Ledger>(
         &mut self,
         alloc: Global,
@@ -170,7 +170,7 @@ impl OpenView {
     }
 
     // Ends a group, which is refused where a line was.
-    #[tactic(auto, using(effects::proofs::Following::following, crate::proofs::IdleLemmas::sink_no_read, crate::proofs::AnswerLemmas::unbroken_view, crate::proofs::AnswerLemmas::broken_view, crate::proofs::AnswerLemmas::unbroken_does))]
+    #[tactic(auto, using(effects::proofs::Following::following, crate::proofs::AnswerLemmas::unbroken_view, crate::proofs::AnswerLemmas::broken_view, crate::proofs::AnswerLemmas::unbroken_does))]
     fn commit_group<K: Sink, L: Ledger>(
         &mut self,
         alloc: Global,
@@ -191,7 +191,7 @@ impl OpenView {
     }
 
     // Answers `begin` alone.
-    #[tactic(auto, using(effects::proofs::Following::following, crate::proofs::IdleLemmas::sink_no_read, crate::proofs::ViewLemmas::none_open))]
+    #[tactic(auto, using(effects::proofs::Following::following, crate::proofs::ViewLemmas::none_open))]
     fn begin_line<K: Sink>(&mut self, alloc: Global, output: &mut K, row: &Row) -> Result<(), Stop>
         ensures does { (s : _) → Does (by_word self.old row.now word.Begin).effects (world_of s (K.state output.old)) (world_of s (K.state output.new)) result }
         ensures view { OnOk result (self.new ≡ (by_word self.old row.now word.Begin).view) }
@@ -205,7 +205,7 @@ impl OpenView {
     }
 
     // Answers `commit` alone.
-    #[tactic(auto, using(effects::proofs::Following::following, crate::proofs::IdleLemmas::sink_no_read))]
+    #[tactic(auto, using(effects::proofs::Following::following))]
     fn commit_line<K: Sink, L: Ledger>(
         &mut self,
         alloc: Global,
@@ -227,7 +227,7 @@ impl OpenView {
     }
 
     // Answers `abort` alone.
-    #[tactic(auto, using(effects::proofs::Following::following, crate::proofs::IdleLemmas::sink_no_read))]
+    #[tactic(auto, using(effects::proofs::Following::following))]
     fn abort_line<K: Sink>(&mut self, alloc: Global, output: &mut K, row: &Row) -> Result<(), Stop>
         ensures does { (s : _) → Does (by_word self.old row.now word.Abort).effects (world_of s (K.state output.old)) (world_of s (K.state output.new)) result }
         ensures view { OnOk result (self.new ≡ (by_word self.old row.now word.Abort).view) }
@@ -241,7 +241,7 @@ impl OpenView {
     }
 
     // Answers `sync` alone.
-    #[tactic(auto, using(effects::proofs::Following::following, crate::proofs::IdleLemmas::sink_no_read, crate::proofs::ViewLemmas::none_open))]
+    #[tactic(auto, using(effects::proofs::Following::following, crate::proofs::ViewLemmas::none_open))]
     fn sync_line<F: Folders, K: Sink>(
         &mut self,
         alloc: Global,
@@ -262,7 +262,7 @@ impl OpenView {
     }
 
     // Answers a word alone.
-    #[tactic(auto, using(effects::proofs::Following::following, crate::proofs::IdleLemmas::sink_no_read))]
+    #[tactic(auto, using(effects::proofs::Following::following))]
     fn word_alone<F: Folders, K: Sink, L: Ledger>(
         &mut self,
         alloc: Global,
@@ -288,7 +288,7 @@ impl OpenView {
     }
 
     // Answers a line that begins with a word.
-    #[tactic(auto, using(effects::proofs::Following::following, crate::proofs::IdleLemmas::sink_no_read, crate::proofs::AnswerLemmas::one_word_does, crate::proofs::AnswerLemmas::one_word_view, crate::proofs::AnswerLemmas::more_words_view))]
+    #[tactic(auto, using(effects::proofs::Following::following, crate::proofs::AnswerLemmas::one_word_does, crate::proofs::AnswerLemmas::one_word_view, crate::proofs::AnswerLemmas::more_words_view))]
     pub(super) fn word_line<F: Folders, K: Sink, L: Ledger>(
         &mut self,
         alloc: Global,
@@ -314,7 +314,7 @@ impl OpenView {
     }
 
     // Refuses an open group at the end of the input.
-    #[tactic(auto, using(effects::proofs::Following::following, crate::proofs::IdleLemmas::sink_no_read))]
+    #[tactic(auto, using(effects::proofs::Following::following))]
     pub(super) fn end_group<K: Sink>(&mut self, alloc: Global, output: &mut K) -> Result<(), Stop>
         ensures does { (s : _) → Does (end_effects self.old) (world_of s (K.state output.old)) (world_of s (K.state output.new)) result }
         ensures view { OnOk result (self.new ≡ end_view self.old) }
