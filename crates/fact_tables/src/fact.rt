@@ -76,14 +76,14 @@ impl<'a, C: FactCell> Fact<'a, C> {
     }
 
     /// Its column label and its value.
-    pub(crate) fn cell(&self) -> Option<(&Label<'_>, &Text)>
+    pub(crate) fn cell(&self) -> Option<(&Label<'_>, &Label<'_>)>
         ensures { option_map (λ c. (c.0.now, c.1.now)) result ≡ self.now.cell }
     {
         Some((self.cell.column()?, self.cell.value()?))
     }
 
     /// Its value, where it names this column.
-    pub(crate) fn value(&self, column: &Label<'_>) -> Option<&Text>
+    pub(crate) fn value(&self, column: &Label<'_>) -> Option<&Label<'_>>
         ensures { option_copied result ≡ value_in column.now self.now }
     {
         match self.cell() {
@@ -101,7 +101,7 @@ impl<'a, C: FactCell> Fact<'a, C> {
         };
         match named.cmp(column) {
             Ordering::Less => false,
-            Ordering::Equal => !value.as_slice().is_empty(),
+            Ordering::Equal => !value.is_empty(),
             Ordering::Greater => true,
         }
     }
@@ -114,12 +114,12 @@ impl<'a, C: FactCell> Fact<'a, C> {
     }
 
     /// A copy of its column label and its value.
-    pub fn copy_cell(&self) -> Result<Option<(Text, Text)>, NoMemory>
+    pub fn copy_cell(&self, alloc: Global) -> Result<Option<(Text, Text)>, NoMemory>
         ensures { IfOk result (λ cell. cell ≡ self.now.cell) }
     {
         match self.cell() {
             None => Ok(None),
-            Some((column, value)) => Ok(Some((column.text().copy()?, value.copy()?))),
+            Some((column, value)) => Ok(Some((column.copy(alloc)?, value.copy(alloc)?))),
         }
     }
 

@@ -18,7 +18,7 @@ pub trait FactCell: Drop {
         ensures { option_copied result ≡ option_map (λ c. c.0) (cell self.now) };
 
     /// Its value.
-    fn value(&self) -> Option<&Text>
+    fn value(&self) -> Option<&Label<'_>>
         ensures { option_copied result ≡ option_map (λ c. c.1) (cell self.now) };
 
     /// How it stands to another: by column, and then by value.
@@ -41,7 +41,7 @@ impl FactCell for NoCell {
         None
     }
 
-    fn value(&self) -> Option<&Text> {
+    fn value(&self) -> Option<&Label<'_>> {
         None
     }
 
@@ -58,7 +58,7 @@ impl FactCell for NoCell {
 #[derive(Drop)]
 pub struct OneCell<'a> {
     column: Label<'a>,
-    value: &'a Text,
+    value: Label<'a>,
 }
 
 impl<'a> Model for OneCell<'a> {
@@ -66,7 +66,7 @@ impl<'a> Model for OneCell<'a> {
 
     ghost Value = { Text × Text };
 
-    ghost view = { λ c. (c.column, c.value.now) };
+    ghost view = { λ c. (c.column, c.value) };
 }
 
 impl<'a> OneCell<'a> {
@@ -74,7 +74,10 @@ impl<'a> OneCell<'a> {
     pub fn of(column: Label<'a>, value: &'a Text) -> OneCell<'a>
         ensures { result ≡ (column.entry, value.now) }
     {
-        OneCell { column, value }
+        OneCell {
+            column,
+            value: Label::of(value),
+        }
     }
 }
 
@@ -85,13 +88,13 @@ impl FactCell for OneCell<'_> {
         Some(&self.column)
     }
 
-    fn value(&self) -> Option<&Text> {
-        Some(self.value)
+    fn value(&self) -> Option<&Label<'_>> {
+        Some(&self.value)
     }
 
     fn order(&self, other: &Self) -> Ordering {
         match self.column.cmp(&other.column) {
-            Ordering::Equal => self.value.cmp(other.value),
+            Ordering::Equal => self.value.cmp(&other.value),
             differs => differs,
         }
     }
@@ -99,7 +102,7 @@ impl FactCell for OneCell<'_> {
     fn again(&self) -> Self {
         OneCell {
             column: self.column.again(),
-            value: self.value,
+            value: self.value.again(),
         }
     }
 }

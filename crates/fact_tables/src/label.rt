@@ -1,12 +1,13 @@
 //! A borrowed text that is compared often.
-ghost use Rattle.std.specs.Prelude.{◌≡◌, refl, Some, bytes_eq, IfSome};
+ghost use Rattle.std.specs.Prelude.{◌≡◌, ◌==◌, refl, Some, bytes_eq, length, IfOk, IfSome};
 ghost use Rattle.std.specs.Ordering.{nat_cmp};
 ghost use Rattle.std.specs.Cmp.{partial_equiv_from_equiv};
 ghost use Rattle.std.specs.Cmp.Lexicographic.{slice_cmp, nat_list_eq_equiv, nat_list_cmp_total, texts_ties, texts_po};
 ghost use Rattle.text_fronts.specs.Front.{front_of, AreDigits};
 
 use crate::short::Short;
-use ss_text::Text;
+use ss_text::{NoMemory, Text};
+use std::alloc::Global;
 use std::cmp::Ordering;
 use std::marker::Model;
 use text_fronts::{front_of, is_whole};
@@ -67,6 +68,26 @@ impl<'a> Label<'a> {
             Some(Short::of(self.front))
         } else {
             None
+        }
+    }
+
+    /// Whether it has no bytes. A short text is not read.
+    pub(crate) fn is_empty(&self) -> bool
+        ensures { result ≡ (length self.now == 0) }
+    {
+        match self.short() {
+            Some(short) => short.as_slice().is_empty(),
+            None => self.text.as_slice().is_empty(),
+        }
+    }
+
+    /// A copy of its text. A short one is not read.
+    pub fn copy(&self, alloc: Global) -> Result<Text, NoMemory>
+        ensures { IfOk result (λ text. text ≡ self.now) }
+    {
+        match self.short() {
+            Some(short) => Text::of(alloc, short.as_slice()),
+            None => self.text.copy(),
         }
     }
 

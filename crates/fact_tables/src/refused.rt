@@ -110,14 +110,14 @@ fn clash_between<'a, C: FactCell>(
         return Ok(None);
     };
     let same = fact.label() == next.label() && fact.has_key_of(next) && column == named;
-    if !same || first.as_slice().is_empty() {
+    if !same || first.is_empty() {
         return Ok(None);
     }
     Ok(Some(Clash {
         table: fact.label().text().copy()?,
         column: column.text().copy()?,
-        first: first.copy()?,
-        second: second.copy()?,
+        first: first.copy(alloc)?,
+        second: second.copy(alloc)?,
         key: fact.copy_key(alloc)?,
     }))
 }

@@ -147,7 +147,7 @@ impl<'r, 'f, 'a, C: FactCell> FactRow<'r, 'f, 'a, C> {
         ensures { result.now ≡ slice_index_or self.now.1 place [] }
     {
         match value(self.facts, &self.columns[place]) {
-            Some(value) => value.as_slice(),
+            Some(value) => value.text().as_slice(),
             None => &[],
         }
     }

@@ -68,7 +68,7 @@ pub(crate) fn copies(alloc: Global, labels: &[Label<'_>]) -> Result<Vec<Text>, N
 pub(crate) fn value<'f, C: FactCell>(
     facts: &'f [Fact<'_, C>],
     column: &Label<'_>,
-) -> Option<&'f Text>
+) -> Option<&'f Label<'f>>
     requires { IsStrictlySortedBy by_cell facts.now }
     ensures { option_copied result ≡ least text_cmp (values_for facts.now column.now) }
 {
@@ -88,7 +88,7 @@ pub(crate) fn cells<'a, C: FactCell>(
     let mut cells = Vec::with_capacity(alloc, columns.len())?;
     for column in columns {
         let cell = match value(facts, column) {
-            Some(value) => value.copy()?,
+            Some(value) => value.copy(alloc)?,
             None => Text::empty(alloc),
         };
         cells.push(cell)?;

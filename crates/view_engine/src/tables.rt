@@ -181,12 +181,18 @@ impl ViewTables {
         ensures { OnOk result ((shape : ShapeValue) (rows : List RowValue) → CanAddTables shape self.old (fact.now ∷ []) rows → KeepsTables shape self.new (fact_row fact.now ∷ rows)) }
     {
         let key = fact.copy_key(alloc)?;
-        let cell = fact.copy_cell()?;
+        let cell = fact.copy_cell(alloc)?;
         match self {
             ViewTables::OneOfRows(whole) => whole.add(key, cell)?,
             ViewTables::OneOfCells(whole) => whole.add(key, cell)?,
-            ViewTables::EachOfRows(split, _) => split.add(alloc, fact.label().text(), key, cell)?,
-            ViewTables::EachOfCells(split, _) => split.add(alloc, fact.label().text(), key, cell)?,
+            ViewTables::EachOfRows(split, _) => {
+                let label = fact.label().copy(alloc)?;
+                split.add(alloc, &label, key, cell)?;
+            }
+            ViewTables::EachOfCells(split, _) => {
+                let label = fact.label().copy(alloc)?;
+                split.add(alloc, &label, key, cell)?;
+            }
         }
         Ok(())
     }
