@@ -1,5 +1,5 @@
 //! Facts in order, with those that come again.
-ghost use Rattle.std.specs.Prelude.{◌≡◌, ◌++◌, ◌∷◌, [], None, IfOk, IfErr, IfSome, OnOk};
+ghost use Rattle.std.specs.Prelude.{◌≡◌, ◌++◌, ◌∷◌, [], None, length, IfOk, IfErr, IfSome, OnOk};
 ghost use Rattle.flow_law.specs.Facts.{refusal_by};
 ghost use Rattle.flow_law.specs.FactOrder.{fact_cmp};
 ghost use Rattle.flow_law.specs.FactTables.{tables};
@@ -48,6 +48,13 @@ impl<'a, C: FactCell> AllFacts<'a, C> {
         ensures in_order { AreTables self.now.tables }
     {
         table_facts(alloc, self.shape, &self.once)
+    }
+
+    /// How many there are, each counted once.
+    pub fn count_once(&self) -> usize
+        ensures { result ≡ length self.now.once }
+    {
+        self.once.len()
     }
 
     /// Takes the last fact out, those that come again before the others. Once less than half of their memory is used, the rest

@@ -315,7 +315,7 @@ fn open(alloc: Global, shape: &Shape) -> Result<Option<ViewTables>, NoMemory>
         return Ok(None);
     }
     let copy = copy_of(shape)?;
-    let tables = ViewTables::new(alloc, copy)?;
+    let tables = ViewTables::new(alloc, copy, 0)?;
     Ok(Some(tables))
 }
 

@@ -57,6 +57,19 @@ impl<F: FactForm> KeptFacts<F> {
         }
     }
 
+    /// The same, with room for so many facts.
+    pub fn with_room(alloc: Global, constants: Row, facts: usize) -> Result<KeptFacts<F>, NoMemory>
+        ensures shape { IfOk result (λ o. o.shape ≡ record { label = None; constants = constants; spot = F.SPOT }) }
+        ensures keeps { IfOk result (λ o. KeepsFacts o []) }
+        ensures none { IfOk result (λ o. o.waiting ≡ None) }
+    {
+        let table = OneTable::with_room(alloc, constants, F::SPOT, facts)?;
+        Ok(KeptFacts {
+            table,
+            form: PhantomData,
+        })
+    }
+
     /// Keeps a fact beside those that are kept: its label, its key, and its column and value where the table has a variable
     /// column. No change waits then. After `NoMemory` it keeps no facts that are known.
     pub fn add(

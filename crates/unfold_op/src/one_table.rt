@@ -5,6 +5,7 @@ ghost use Rattle.flow_law.specs.FactRows.{fact_row, fact_width};
 ghost use Rattle.flow_law.specs.FactTables.{fact_table};
 ghost use Rattle.flow_law.specs.Facts.{Fact, illegal_column, conflict};
 ghost use Rattle.flow_law.specs.Script.{lines_between};
+ghost use Rattle.fact_counts.specs.Moves.{Stands};
 ghost use Rattle.fact_counts.specs.Stopped.{StopsFor};
 ghost use Rattle.operator_law.specs.Bags.{MovesBag};
 ghost use Rattle.operator_law.specs.declared.delta.Signed.{Signed as SignedValue};
@@ -89,8 +90,9 @@ fn take_label(kept: &mut Text, total: u128, label: &Text) -> Result<(), NoMemory
 }
 
 impl OneTable {
-    /// No facts, of a table with these constant columns.
-    pub(crate) fn new(alloc: Global, constants: Row, spot: Option<usize>) -> OneTable
+    // No facts, of a table with these constant columns, counted by these counts.
+    fn of(alloc: Global, constants: Row, spot: Option<usize>, counts: FactCounts) -> OneTable
+        requires { Stands counts [] }
         ensures shape { result.shape ≡ record { label = None; constants = constants; spot = spot } }
         ensures keeps { KeepsFacts (seen result) [] }
         ensures whole { IsOneTable result }
@@ -102,11 +104,42 @@ impl OneTable {
                 constants,
                 spot,
             },
-            counts: FactCounts::new(alloc),
+            counts,
             label: Text::empty(alloc),
             total: 0,
             waiting: None,
         }
+    }
+
+    /// No facts, of a table with these constant columns.
+    pub(crate) fn new(alloc: Global, constants: Row, spot: Option<usize>) -> OneTable
+        ensures shape { result.shape ≡ record { label = None; constants = constants; spot = spot } }
+        ensures keeps { KeepsFacts (seen result) [] }
+        ensures whole { IsOneTable result }
+        ensures none { result.waiting ≡ None }
+    {
+        OneTable::of(alloc, constants, spot, FactCounts::new(alloc))
+    }
+
+    /// The same, with room for so many facts.
+    pub(crate) fn with_room(
+        alloc: Global,
+        constants: Row,
+        spot: Option<usize>,
+        facts: usize,
+    ) -> Result<OneTable, NoMemory>
+        ensures shape { IfOk result (λ t. t.shape ≡ record { label = None; constants = constants; spot = spot }) }
+        ensures keeps { IfOk result (λ t. KeepsFacts (seen t) []) }
+        ensures whole { IfOk result (λ t. IsOneTable t) }
+        ensures none { IfOk result (λ t. t.waiting ≡ None) }
+    {
+        let (keys, places) = if spot.is_some() {
+            (0, facts)
+        } else {
+            (facts, 0)
+        };
+        let counts = FactCounts::with_room(alloc, keys, places)?;
+        Ok(OneTable::of(alloc, constants, spot, counts))
     }
 
     /// One of the same form that keeps no facts.

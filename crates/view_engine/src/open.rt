@@ -18,13 +18,13 @@ use std::sync::ledger::Ledger;
 use valuation_meaning::shape_of;
 use view_def::View;
 
-// The tables of a view, without facts.
-fn tables_of(alloc: Global, view: &View) -> Result<ViewTables, NoMemory>
+// The tables of a view, without facts, where so many are to come.
+fn tables_of(alloc: Global, view: &View, facts: usize) -> Result<ViewTables, NoMemory>
     requires { IsViewOfProfile (query_of view.now) }
     ensures { IfOk result (λ tables. KeepsTables (shape_of (query_of view.now)) tables []) }
 {
     let shape = shape_of(view)?;
-    let tables = ViewTables::new(alloc, shape)?;
+    let tables = ViewTables::new(alloc, shape, facts)?;
     Ok(tables)
 }
 
@@ -48,7 +48,7 @@ impl Engine {
     {
         // What a catalogue has is sound.
         let _databases = catalogue.databases();
-        let mut tables = tables_of(alloc, view)?;
+        let mut tables = tables_of(alloc, view, facts.count_once())?;
         let mut plan = translate(alloc, view)?;
         plan.fill(alloc, catalogue)?;
         tables.fill(alloc, facts)?;

@@ -53,14 +53,26 @@ pub enum TablesReady {
     Each(SplitReady),
 }
 
-// The one table of this label, without facts.
-fn one_table(alloc: Global, label: Text, constants: Row, spot: Option<usize>) -> ViewTables
+// The one table of this label, without facts, with room for so many.
+fn one_table(
+    alloc: Global,
+    label: Text,
+    constants: Row,
+    spot: Option<usize>,
+    facts: usize,
+) -> Result<ViewTables, NoMemory>
     requires { is_table_label label ≡ true }
-    ensures { KeepsTables (record { label = Some label; constants = constants; spot = spot }) result [] }
+    ensures { IfOk result (λ tables. KeepsTables (record { label = Some label; constants = constants; spot = spot }) tables []) }
 {
     match spot {
-        None => ViewTables::OneOfRows(Whole::new(label, Distinct::new(alloc, constants))),
-        Some(_) => ViewTables::OneOfCells(Whole::new(label, Unfold::new(alloc, constants))),
+        None => {
+            let inner = Distinct::with_room(alloc, constants, facts)?;
+            Ok(ViewTables::OneOfRows(Whole::new(label, inner)))
+        }
+        Some(_) => {
+            let inner = Unfold::with_room(alloc, constants, facts)?;
+            Ok(ViewTables::OneOfCells(Whole::new(label, inner)))
+        }
     }
 }
 
@@ -108,8 +120,9 @@ fn each(ready: TablesReady) -> SplitReady
 }
 
 impl ViewTables {
-    /// No facts, of tables of this form, whose label is legal where it is constant.
-    pub fn new(alloc: Global, shape: Shape) -> Result<ViewTables, NoMemory>
+    /// No facts, of tables of this form, whose label is legal where it is constant. The one table of such a label has room
+    /// for so many facts.
+    pub fn new(alloc: Global, shape: Shape, facts: usize) -> Result<ViewTables, NoMemory>
         requires { ForSome shape.label (λ label. is_table_label label ≡ true) }
         ensures { IfOk result (λ tables. KeepsTables shape tables []) }
     {
@@ -119,7 +132,7 @@ impl ViewTables {
             spot,
         } = shape;
         match label {
-            Some(label) => Ok(one_table(alloc, label, constants, spot)),
+            Some(label) => one_table(alloc, label, constants, spot, facts),
             None => each_table(alloc, constants, spot),
         }
     }
