@@ -200,13 +200,18 @@ def time_in_sqlite(rows, count):
     return each
 
 
-def load(count):
-    """A run of `load`."""
-    done = run([program(), "load", str(count), "1"], ".")
-    if done.status != 0:
-        sys.exit(f"load ended with status {done.status}")
-    report(f"load {count} 1", done)
-    return done
+def loads(counts):
+    """The least of several runs of `load` for each of these numbers of changes, in turn."""
+    made = {count: [] for count in counts}
+    for _ in range(ROUNDS):
+        for count, runs in made.items():
+            done = run([program(), "load", str(count), "1"], ".")
+            if done.status != 0:
+                sys.exit(f"load ended with status {done.status}")
+            runs.append(done)
+    for count, runs in made.items():
+        report(f"load {count} 1", least(runs))
+    return [least(runs).seconds for runs in made.values()]
 
 
 def main():
@@ -221,8 +226,8 @@ def main():
             other = time_in_sqlite(more, count)
             if other:
                 print(f"{name}: a change takes {many / other:.2f} of the time of SQLite's")
-    few, many = load(40_000), load(200_000)
-    print(f"load 200000 takes {many.seconds / few.seconds:.2f} times as long as load 40000")
+    few, many = loads((40_000, 200_000))
+    print(f"load 200000 takes {many / few:.2f} times as long as load 40000")
 
 
 main()
