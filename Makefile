@@ -37,7 +37,7 @@ cases: $(PROGRAM)
 bench: $(PROGRAM)
 	bench/run
 
-# How long the parts of an engine take, which the program does not use yet.
+# How long parts of the engine take, each by itself.
 bench-engine: $(ENGINE)
 	bench/engine.py
 

@@ -10,16 +10,8 @@ use Rattle.schema_model.specs.Changes.{after, after_all, is_well_formed}
 use Rattle.schema_model.specs.Refusals.{fault, group_fault}
 use Rattle.schema_model.specs.declared.change.Change.{Change}
 use Rattle.schema_model.specs.declared.refusal.Refusal.{Refusal}
+use Rattle.schema_model.proofs.GroupLemmas.{after_last, first_none}
 use Rattle.change_draft.specs.Drafts.{DraftState, StandsOver}
-
--- the catalogue after them
-pub after_one_more : (c : CatalogueValue) (gs : List Change) (g : Change) → after_all c (gs ++ g ∷ []) ≡ after (after_all c gs) g
-after_one_more c [] g = refl
-after_one_more c (h ∷ hs) g = after_one_more (after c h) hs g
-
-pub neither : (a b : Option Refusal) → option_or a b ≡ None → (a ≡ None) × (b ≡ None)
-neither None b e = (refl, e)
-neither (Some r) b e = absurd (cc e)
 
 both : (a b : Option Refusal) → a ≡ None → b ≡ None → option_or a b ≡ None
 both None b e f = f
@@ -29,7 +21,7 @@ both (Some r) b e f = e
 pub accepted_one_more : (c : CatalogueValue) (gs : List Change) (g : Change) → group_fault c gs ≡ None → fault (after_all c gs) g ≡ None → group_fault c (gs ++ g ∷ []) ≡ None
 accepted_one_more c [] g none one = both (fault c g) None one refl
 accepted_one_more c (h ∷ hs) g none one =
-    let parts = neither (fault c h) (group_fault (after c h) hs) none in
+    let parts = first_none (fault c h) (group_fault (after c h) hs) none in
     both (fault c h) (group_fault (after c h) (hs ++ g ∷ [])) parts.0 (accepted_one_more (after c h) hs g parts.1 one)
 
 -- what holds of all
@@ -48,7 +40,7 @@ stands_more d c hs g o over formed accepted more made = rw more record {
   where
     kept : (o : Option CatalogueValue) → IfSome o (λ e. e ≡ after (after_all c d.changes) g) → IfSome o (λ e. e ≡ after_all c (d.changes ++ g ∷ []))
     kept None made = made
-    kept (Some e) made = made ∙ sym (after_one_more c d.changes g)
+    kept (Some e) made = made ∙ sym (after_last c d.changes g)
 
 -- where it goes on counting rows, and where it keeps the catalogue
 pub stands_counted : {T E : Type 0} (r : Result T E) (d : DraftState) (c : CatalogueValue) (hs : List Change) (g : Change) → StandsOver d c → IsTrue (is_well_formed g) → fault (after_all c d.changes) g ≡ None → OnOk r (hs ≡ d.changes ++ g ∷ [])
@@ -76,7 +68,7 @@ module _ (c : CatalogueValue) (all : List Change) (now : CatalogueValue) (i : �
     next = drop-cons all i g more ∙ rw add-one (ap (λ (h : Change). h ∷ drop (suc i) all) (sym at))
 
     none : (fault now g ≡ None) × (group_fault (after now g) (drop (i + 1) all) ≡ None)
-    none = neither (fault now g) (group_fault (after now g) (drop (i + 1) all)) (sym (ap (group_fault now) next) ∙ left.accepted)
+    none = first_none (fault now g) (group_fault (after now g) (drop (i + 1) all)) (sym (ap (group_fault now) next) ∙ left.accepted)
 
     formed : IsTrue (is_well_formed g) × AllByRecursion (λ g. IsTrue (is_well_formed g)) (drop (i + 1) all)
     formed = subst (AllByRecursion (λ g. IsTrue (is_well_formed g))) next left.well_formed

@@ -12,8 +12,8 @@ use Rattle.ss_text.specs.Texts.{Text, Row, text_eq, row_eq}
 use Rattle.ss_text.specs.Places.{changed_where}
 use Rattle.ss_text.proofs.KeyLemmas.{text_order, row_order, equal_is}
 use Rattle.ss_text.proofs.PairLemmas.{turned}
-use Rattle.schema_model.specs.Catalogue.{RelationValue, DatabaseValue, CatalogueValue, relation_value, database_value, database_of, relation_in, relation_of, relations_of, attributes_of, rows_of, row_count, with_row}
-use Rattle.schema_model.specs.Changes.{after, after_all, at_database, at_relation, at_relation_in, with_relations, less_row, is_well_formed}
+use Rattle.schema_model.specs.Catalogue.{RelationValue, DatabaseValue, CatalogueValue, database_value, database_of, relation_in, relation_of, relations_of, attributes_of, rows_of, row_count, with_row}
+use Rattle.schema_model.specs.Changes.{after, after_all, at_relation, at_relation_in, with_relations, less_row, is_well_formed}
 use Rattle.schema_model.specs.Refusals.{fault, group_fault, row_fault, first_of, where_true, no_database, no_relation, arity_differs, full, no_row}
 use Rattle.schema_model.specs.Sound.{IsSound}
 use Rattle.schema_model.specs.declared.change.Change.{Change}
@@ -26,11 +26,12 @@ use Rattle.schema_model.proofs.Asks.{Standing, insert_has, delete_has}
 use Rattle.schema_model.proofs.ChangeLemmas.{place_within}
 use Rattle.schema_model.proofs.SoundAfter.{sound_after}
 use Rattle.schema_model.proofs.CountAfter.{count_after, row_within}
+use Rattle.schema_model.proofs.GroupLemmas.{first_none}
 use Rattle.change_draft.specs.Drafts.{bare, without_rows}
 use Rattle.change_draft.specs.Named.{NamedRow, named, named_eq}
 use Rattle.change_draft.specs.Counted.{AreCounted, inserts, deletes, brings, takes, is_of_rows}
 use Rattle.change_draft.specs.declared.counted.RowCounts.{RowCounts}
-use Rattle.change_draft.proofs.DraftLemmas.{neither, all_more}
+use Rattle.change_draft.proofs.DraftLemmas.{all_more}
 
 abbrev pub AreOfRows : List Change → Type 0
 AreOfRows gs = AllByRecursion (λ g. IsTrue (is_of_rows g)) gs
@@ -275,14 +276,14 @@ copies_after : (n : NamedRow) (c : CatalogueValue) (gs : List Change) → AreOfR
     → count_by (row_eq n.row) (rows_of (after_all c gs) n.db n.rel) + count_by (takes n) gs ≡ count_by (row_eq n.row) (rows_of c n.db n.rel) + count_by (brings n) gs
 copies_after n c [] h none = refl
 copies_after n c (g ∷ gs) h none =
-    let parts = neither (fault c g) (group_fault (after c g) gs) none in
+    let parts = first_none (fault c g) (group_fault (after c g) gs) none in
     one_then (count_by (row_eq n.row) (rows_of c n.db n.rel)) (count_by (row_eq n.row) (rows_of (after c g) n.db n.rel)) (count_by (row_eq n.row) (rows_of (after_all (after c g) gs) n.db n.rel)) (cond (takes n g) 1 0) (cond (brings n g) 1 0) _ _ _ _
     (copies_moved n c g h.0 parts.0) (copies_after n (after c g) gs h.1 parts.1) (sum_by-cons (λ g. cond (takes n g) 1 0) g gs) (sum_by-cons (λ g. cond (brings n g) 1 0) g gs)
 
 count_after_all : (c : CatalogueValue) (gs : List Change) → IsSound c → AreOfRows gs → group_fault c gs ≡ None → row_count (after_all c gs) + count_by deletes gs ≡ row_count c + count_by inserts gs
 count_after_all c [] sound h none = refl
 count_after_all c (g ∷ gs) sound h none =
-    let parts = neither (fault c g) (group_fault (after c g) gs) none in
+    let parts = first_none (fault c g) (group_fault (after c g) gs) none in
     one_then (row_count c) (row_count (after c g)) (row_count (after_all (after c g) gs)) (cond (deletes g) 1 0) (cond (inserts g) 1 0) _ _ _ _
     (count_moved c g sound h.0 parts.0) (count_after_all (after c g) gs (sound_after c g sound (formed_of_rows g h.0) parts.0) h.1 parts.1) (sum_by-cons (λ g. cond (deletes g) 1 0) g gs) (sum_by-cons (λ g. cond (inserts g) 1 0) g gs)
 

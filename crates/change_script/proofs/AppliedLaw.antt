@@ -9,7 +9,7 @@ use Rattle.ss_text.specs.Label.{is_column_label}
 use Rattle.ss_text.specs.Ascending.{ascending}
 use Rattle.ss_text.proofs.KeyLemmas.{text_order, equal_is}
 use Rattle.ss_text.proofs.PairLemmas.{found_any}
-use Rattle.ss_text.proofs.GroupLemmas.{all_filter}
+use Rattle.ss_text.proofs.GroupLemmas.{all_filter, all_weaker}
 use Rattle.flow_law.specs.declared.shape.Shape.{Shape}
 use Rattle.flow_law.specs.declared.line.TableLine.{TableLine}
 use Rattle.flow_law.specs.declared.line.TableLine.TheVariants.{TableMinus, TablePlus, RowMinus, ColumnMinus, ColumnPlus, RowPlus, Cell}
@@ -112,10 +112,6 @@ each : {A : Type 0} (P : A → Type 0) (xs : List A) → ((x : A) → P x) → A
 each P [] h = tt
 each P (x ∷ xs) h = (h x, each P xs h)
 
-weaker : {A : Type 0} (P Q : A → Type 0) (xs : List A) → ((x : A) → P x → Q x) → AllByRecursion P xs → AllByRecursion Q xs
-weaker P Q [] f h = tt
-weaker P Q (x ∷ xs) f h = (f x h.0, weaker P Q xs f h.1)
-
 module _ (shape : Shape) where
   abbrev L : TableLine → Type 0
   L = IsLawful shape
@@ -162,12 +158,12 @@ module _ (shape : Shape) where
   rows_lawful f lawful others keys h =
       let P = λ (key : Row). length key ≡ length shape.constants in
       let beyond = all_filter P (λ key. not (list_any (row_eq key) others)) keys h in
-      all_mapped L f (keys_beyond others keys) (weaker P (λ key. L (f key)) (keys_beyond others keys) lawful beyond)
+      all_mapped L f (keys_beyond others keys) (all_weaker P (λ key. L (f key)) lawful (keys_beyond others keys) beyond)
 
   columns_lawful : {P : Text → Type 0} (f : Text → TableLine) → ((column : Text) → P column → L (f column)) → (others columns : Row) → AllByRecursion P columns → AllByRecursion L (map f (columns_beyond others columns))
   columns_lawful {P} f lawful others columns h =
       let beyond = all_filter P (λ column. not (is_in column others)) columns h in
-      all_mapped L f (columns_beyond others columns) (weaker P (λ column. L (f column)) (columns_beyond others columns) lawful beyond)
+      all_mapped L f (columns_beyond others columns) (all_weaker P (λ column. L (f column)) lawful (columns_beyond others columns) beyond)
 
   changed_lawful : (label : Text) (old new : TableValue) → Spots old.columns → Keyed (row_keys old) → TableFits shape label new → AllByRecursion L (lines_between label old new)
   changed_lawful label old new spots keyed h =
@@ -185,7 +181,7 @@ module _ (shape : Shape) where
       (columns_lawful {P = λ (column : Text). (is_column_label column shape.constants ≡ true) × (is_some shape.spot ≡ true)} (λ column. ColumnPlus label column) (λ column s. record { key = refl; label = column_ok label column s.0; column = s.1 }) old.columns new.columns (columns_spot label new h)))
       (rows_lawful (λ key. RowPlus label key) (λ key e. (lawful_row key e label).1) (row_keys old) (row_keys new) new_keyed))
       (all_flat L (λ key. filter_map (cell_line label old new key) new.columns) (row_keys new)
-      (weaker (λ (key : Row). length key ≡ length shape.constants) (λ key. AllByRecursion L (filter_map (cell_line label old new key) new.columns)) (row_keys new) (λ key e. cells label old new key e new.columns h.spot) new_keyed))
+      (all_weaker (λ (key : Row). length key ≡ length shape.constants) (λ key. AllByRecursion L (filter_map (cell_line label old new key) new.columns)) (λ key e. cells label old new key e new.columns h.spot) (row_keys new) new_keyed))
 
   abbrev Found : Text → Option TableValue → Type 0
   Found label None = Unit {0}

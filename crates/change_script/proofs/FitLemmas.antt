@@ -9,7 +9,7 @@ use Rattle.std.specs.declared.cmp.Ordering.TheVariants.{Less, Equal, Greater}
 use Rattle.ss_text.specs.Texts.{Text, Row, text_eq, text_cmp, row_cmp}
 use Rattle.ss_text.specs.Label.{is_table_label, is_column_label}
 use Rattle.ss_text.specs.Ascending.{ascending, least, lesser, by_order}
-use Rattle.ss_text.proofs.GroupLemmas.{all_filter, all_ascending}
+use Rattle.ss_text.proofs.GroupLemmas.{all_filter, all_ascending, all_weaker}
 use Rattle.flow_law.specs.declared.shape.Shape.{Shape}
 use Rattle.flow_law.specs.Facts.{Fact, Pair, column_of, pairs_of, pair_cmp, illegal, illegal_table, illegal_column, facts_of}
 use Rattle.flow_law.specs.FactTables.{tables, fact_table, value_for}
@@ -59,10 +59,6 @@ each_to : {A B : Type 0} (f : A → B) (P : B → Type 0) (xs : List A) → AllB
 each_to f P [] h = tt
 each_to f P (x ∷ xs) h = (h.0, each_to f P xs h.1)
 
-weaker : {A : Type 0} (P Q : A → Type 0) (xs : List A) → ((x : A) → P x → Q x) → AllByRecursion P xs → AllByRecursion Q xs
-weaker P Q [] f h = tt
-weaker P Q (x ∷ xs) f h = (f x h.0, weaker P Q xs f h.1)
-
 each_behind : {A : Type 0} (P : A → Type 0) (o : Option A) (xs : List A) → ForSome o P → AllByRecursion P xs → AllByRecursion P (option_to_list o ++ xs)
 each_behind P None xs h i = i
 each_behind P (Some x) xs h i = (h x refl, i)
@@ -97,11 +93,11 @@ module _ (shape : Shape) where
       record {
         legal = legal;
         columns = all_ascending nat_list_cmp_total (λ column. is_column_label column shape.constants ≡ true) (filter_map column_of fs) (column_texts (λ column. is_column_label column shape.constants ≡ true) fs columns);
-        spot = all_ascending nat_list_cmp_total (λ (column : Text). is_some shape.spot ≡ true) (filter_map column_of fs) (column_texts (λ column. is_some shape.spot ≡ true) fs (weaker (FactFits shape) (λ (f : Fact). (column : Text) → column_of f ≡ Some column → is_some shape.spot ≡ true) fs (λ f h. h.cell) fit));
+        spot = all_ascending nat_list_cmp_total (λ (column : Text). is_some shape.spot ≡ true) (filter_map column_of fs) (column_texts (λ column. is_some shape.spot ≡ true) fs (all_weaker (FactFits shape) (λ (f : Fact). (column : Text) → column_of f ≡ Some column → is_some shape.spot ≡ true) (λ f h. h.cell) fs fit));
         keys =
             each_to (λ (key : Row). (key, map (value_for fs key) named)) (λ (r : Row × Row). length r.0 ≡ length shape.constants) keys
             (all_ascending (lists_total nat_list_cmp_total) (λ (key : Row). length key ≡ length shape.constants) (map (λ (f : Fact). f.key) fs)
-            (each_to (λ (f : Fact). f.key) (λ (key : Row). length key ≡ length shape.constants) fs (weaker (FactFits shape) (λ (f : Fact). length f.key ≡ length shape.constants) fs (λ f h. h.key) fit)));
+            (each_to (λ (f : Fact). f.key) (λ (key : Row). length key ≡ length shape.constants) fs (all_weaker (FactFits shape) (λ (f : Fact). length f.key ≡ length shape.constants) (λ f h. h.key) fs fit)));
       }
 
   pub tables_fit : (fs : List Fact) → ForSome shape.label (λ label. is_table_label label ≡ true) → illegal shape fs ≡ None → AllByRecursion (FactFits shape) fs → TablesFit shape (tables shape fs)
@@ -112,6 +108,7 @@ module _ (shape : Shape) where
       let columns = columns_legal fs (none_left (λ (p : Pair). is_column_label p.1 shape.constants) (pairs_of fs) (none_least pair_cmp _ (none_mapped _ _ legal.1))) in
       let all = option_to_list shape.label ++ map (λ (f : Fact). f.label) fs in
       each_to (λ label. (label, fact_table (facts_of label fs))) (λ (p : Text × TableValue). TableFits shape p.0 p.1) (ascending text_cmp all)
-      (weaker (λ label. is_table_label label ≡ true) (λ label. TableFits shape label (fact_table (facts_of label fs))) (ascending text_cmp all)
+      (all_weaker (λ label. is_table_label label ≡ true) (λ label. TableFits shape label (fact_table (facts_of label fs)))
       (λ label l. fact_table_fits label (facts_of label fs) l (all_filter (FactFits shape) (λ (f : Fact). text_eq label f.label) fs fit) (all_filter Legal (λ (f : Fact). text_eq label f.label) fs columns))
+      (ascending text_cmp all)
       (all_ascending nat_list_cmp_total (λ label. is_table_label label ≡ true) all (each_behind (λ label. is_table_label label ≡ true) shape.label (map (λ (f : Fact). f.label) fs) constant labels)))

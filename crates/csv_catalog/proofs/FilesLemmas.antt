@@ -5,6 +5,7 @@ use Rattle.std.specs.List.{cons_option}
 use Rattle.std.specs.Option.{option_or}
 use Rattle.std.proofs.lemmas.List.{map-append}
 use Rattle.std.proofs.lemmas.List.Sums.{sum_by-append, sum_by-cons}
+use Rattle.std.proofs.Math.Nat.{add-zero}
 use Rattle.ss_text.specs.Texts.{Text}
 use Rattle.ss_text.specs.Ascending.{with_element}
 use Rattle.outside.specs.Tree.{Tree}
@@ -19,12 +20,9 @@ pub placed_none : (kept rs : List RelationValue) → rs ≡ [] → (all_placed r
 unfolding all_placed
 placed_none kept rs e = rw e (refl, refl)
 
-plus_none : (n : ℕ) → n + 0 ≡ n
-plus_none n = omega arith
-
 pub placed_one : (kept : List RelationValue) (r : RelationValue) (rs : List RelationValue) → rs ≡ r ∷ [] → (all_placed rs kept ≡ with_element by_name r kept) × (rows_counted rs ≡ length r.rows)
 unfolding all_placed
-placed_one kept r rs e = rw (e, sum_by-cons (λ (x : RelationValue). length x.rows) r [], plus_none (length r.rows)) (refl, refl)
+placed_one kept r rs e = rw (e, sum_by-cons (λ (x : RelationValue). length x.rows) r [], add-zero (length r.rows)) (refl, refl)
 
 or_none : {A : Type 0} (a b : Option A) → a ≡ None → option_or a b ≡ b
 or_none a b e = rw e refl
@@ -40,10 +38,10 @@ fault_one db count file = or_nothing _
 -- past a file without a fault, and at one with a fault
 fault_more : (db : Text) (count : ℕ) (o : Option File) (files : List File) → files_fault db count (cons_option o []) ≡ None → files_fault db count (cons_option o files) ≡ files_fault db (count + rows_counted (map relation_of (cons_option o []))) files
 unfolding files_fault
-fault_more db count None files e = rw (plus_none count) refl
+fault_more db count None files e = rw (add-zero count) refl
 fault_more db count (Some file) files e =
     or_none _ _ (sym (fault_one db count file) ∙ e)
-    ∙ ap (λ (n : ℕ). files_fault db (count + n) files) (sym (sum_by-cons (λ (r : RelationValue). length r.rows) (relation_of file) [] ∙ plus_none (length (rows_of file.1))))
+    ∙ ap (λ (n : ℕ). files_fault db (count + n) files) (sym (sum_by-cons (λ (r : RelationValue). length r.rows) (relation_of file) [] ∙ add-zero (length (rows_of file.1))))
 
 fault_here : (db : Text) (count : ℕ) (o : Option File) (files : List File) (e : LoadFault) → files_fault db count (cons_option o []) ≡ Some e → files_fault db count (cons_option o files) ≡ Some e
 unfolding files_fault

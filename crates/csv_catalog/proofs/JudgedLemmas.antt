@@ -2,6 +2,7 @@
 use Rattle.std.proofs.Common.{◌≡◌, ◌<◌, ◌≤◌, ◌+◌, ◌==◌, ◌∷◌, ◌++◌, ◌∙◌, [], ℕ, List, Bool, Option, Some, None, true, false, refl, sym, ap, suc, length, not, arith, append_assoc}
 use Rattle.std.specs.Prelude.{cond, nat_le}
 use Rattle.std.specs.Option.{option_or}
+use Rattle.std.proofs.Math.Nat.{add-zero}
 use Rattle.ss_text.specs.Texts.{Row}
 use Rattle.csv_catalog.specs.declared.judge.FileFault.{FileFault}
 use Rattle.csv_catalog.specs.declared.judge.FileFault.TheVariants.{NoRecord}
@@ -11,9 +12,6 @@ use Rattle.csv_catalog.specs.FileFaults.{header_fault, row_fault, rows_fault, fi
 use Rattle.csv_catalog.specs.Judged.{fault_so_far, next_fault}
 use Rattle.csv_catalog.proofs.ReaderLemmas.{given_front}
 use Rattle.csv_catalog.proofs.FaultLemmas.{rows_fit}
-
-plus_none : (n : ℕ) → n + 0 ≡ n
-plus_none n = omega arith
 
 moved : (n m : ℕ) → n + 1 + m ≡ n + suc m
 moved n m = omega arith
@@ -37,7 +35,7 @@ row_first want nth count row rows = or_tests (not (length row == want)) (nat_le 
 
 -- what is wrong behind rows without a fault
 rows_behind : (want nth count : ℕ) (rows more : List Row) → rows_fault want nth count rows ≡ None → rows_fault want nth count (rows ++ more) ≡ rows_fault want (nth + length rows) (count + length rows) more
-rows_behind want nth count [] more e = ap (λ (n : ℕ). rows_fault want n count more) (sym (plus_none nth)) ∙ ap (λ (n : ℕ). rows_fault want (nth + 0) n more) (sym (plus_none count))
+rows_behind want nth count [] more e = ap (λ (n : ℕ). rows_fault want n count more) (sym (add-zero nth)) ∙ ap (λ (n : ℕ). rows_fault want (nth + 0) n more) (sym (add-zero count))
 rows_behind want nth count (row ∷ rows) more e =
     let none = both_none _ _ (sym (row_first want nth count row rows) ∙ e) in
     row_first want nth count row (rows ++ more) ∙ ap (λ o. option_or o (rows_fault want (nth + 1) (count + 1) (rows ++ more))) none.0 ∙ rows_behind want (nth + 1) (count + 1) rows more none.1

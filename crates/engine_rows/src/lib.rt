@@ -1,4 +1,4 @@
-//! Worked rows of what an engine will stand on: bags, what operators of rows and of things with names give, what `Pick`
+//! Worked rows of what the engine stands on: bags, what operators of rows and of things with names give, what `Pick`
 //! and `Fold` give by themselves, a join, rows that are linked, how changes move the flat rows of declarations, rows
 //! on shelves, and changes of a catalogue one by one and together.
 //!

@@ -21,7 +21,7 @@ use Rattle.kept_sources.proofs.NamedLemmas.{same_text}
 abbrev pub stored_by : List Effect → Stored → Stored
 stored_by es s = record { tree = tree_after es s.tree; writes = risen s.writes (counted es s.tree) }
 
-none_risen : (w : ℕ) → w ≡ risen w 0
+pub none_risen : (w : ℕ) → w ≡ risen w 0
 none_risen w = omega arith
 
 twice_risen : (u v a b : ℕ) → v ≡ risen u a → risen v b ≡ risen u (a + b)

@@ -4,7 +4,7 @@ use Rattle.std.specs.Prelude.{option_map, option_and_then, filter}
 use Rattle.std.specs.List.{list_all}
 use Rattle.std.specs.Option.{option_map_or}
 use Rattle.std.specs.Ordering.{eq_by_cmp, is_eq}
-use Rattle.std.proofs.lemmas.Bool.{false_from_ne_true, or_parts}
+use Rattle.std.proofs.lemmas.Bool.{false_from_ne_true, or_parts, true≢false}
 use Rattle.std.proofs.lemmas.Cmp.{tied_itself}
 use Rattle.ss_text.specs.Texts.{Text, Row, text_eq, is_in}
 use Rattle.ss_text.specs.Label.{is_table_label}
@@ -85,15 +85,13 @@ module _ {A : Type 0} (key : A → Text) where
       by_both false false e h r = rw h r
 
 -- a pair that is not among others is none of them
-not_both : (b : Bool) → b ≡ true → b ≡ false → ⊥
-not_both b t f = absurd (cc)
 
 among_itself : (p q : Pair) → p.db ≡ q.db → p.rel ≡ q.rel → eq_by_cmp place_cmp (place_of p) (place_of q) ≡ true
 among_itself p q db rel = ap (λ (x : Text). eq_by_cmp place_cmp (place_of p) (place_of (pair x q.rel))) (sym db) ∙ ap (λ (x : Text). eq_by_cmp place_cmp (place_of p) (place_of (pair p.db x))) (sym rel) ∙ ap is_eq (tied_itself place_total (place_of p))
 
 is_another : (p q : Pair) (qs : List Pair) → is_place_among (q ∷ qs) (place_of p) ≡ false → text_eq q.db p.db ≡ true → text_eq p.rel q.rel ≡ false
 is_another p q qs h db = false_from_ne_true _ (λ rel.
-    not_both (eq_by_cmp place_cmp (place_of p) (place_of q)) (among_itself p q (sym (same_text q.db p.db db)) (same_text p.rel q.rel rel)) (or_parts (eq_by_cmp place_cmp (place_of p) (place_of q)) (is_place_among qs (place_of p)) h).0)
+    true≢false (sym (among_itself p q (sym (same_text q.db p.db db)) (same_text p.rel q.rel rel)) ∙ (or_parts (eq_by_cmp place_cmp (place_of p) (place_of q)) (is_place_among qs (place_of p)) h).0))
 
 others_too : (p q : Pair) (qs : List Pair) → is_place_among (q ∷ qs) (place_of p) ≡ false → is_place_among qs (place_of p) ≡ false
 others_too p q qs h = (or_parts (eq_by_cmp place_cmp (place_of p) (place_of q)) (is_place_among qs (place_of p)) h).1

@@ -1,27 +1,26 @@
 -- What is read of the files of a database, relation by relation.
-use Rattle.std.proofs.Common.{◌≡◌, ◌-◌, ◌+◌, ◌≤◌, ◌∷◌, ◌++◌, ◌∙◌, [], ℕ, Bool, true, false, cond, ◌&&◌, ◌||◌, List, Option, Some, None, is_some, refl, sym, ap, subst, suc, length, map, take, drop, arith, length-append}
-use Rattle.std.specs.Prelude.{codes, filter, option_map, bytes_eq}
+use Rattle.std.proofs.Common.{◌≡◌, ◌-◌, ◌∷◌, ◌++◌, ◌∙◌, [], ℕ, Bool, true, false, cond, ◌&&◌, ◌||◌, List, Option, Some, None, is_some, refl, sym, ap, length, map, take, drop, arith, length-append}
+use Rattle.std.specs.Prelude.{codes, option_map, bytes_eq}
 use Rattle.std.specs.List.{AllByRecursion, list_all, cons_option}
 use Rattle.std.specs.List.Sorted.{IsStrictlySortedBy}
 use Rattle.std.specs.declared.cmp.Ordering.TheVariants.{Less}
 use Rattle.std.proofs.lemmas.Bool.{and_parts}
 use Rattle.std.proofs.lemmas.List.{take-append-drop}
 use Rattle.std.proofs.lemmas.List.Kept.{IsStrictlySortedBy-filter}
-use Rattle.ss_text.specs.Texts.{Text, Row, text_cmp, text_eq, is_in}
+use Rattle.ss_text.specs.Texts.{Text, text_cmp, text_eq, is_in}
 use Rattle.ss_text.specs.Label.{is_table_label}
-use Rattle.ss_text.specs.Ascending.{ascending}
-use Rattle.ss_text.proofs.KeyLemmas.{text_order, equal_itself, Lacks}
+use Rattle.ss_text.proofs.KeyLemmas.{text_order, Lacks}
 use Rattle.outside.specs.Tree.{Tree, file_at, files_of, subfolders_of, has_folder}
-use Rattle.schema_model.specs.Catalogue.{RelationValue, DatabaseValue, CatalogueValue, relation_value, relation_name, database_name, relation_in, database_of}
+use Rattle.schema_model.specs.Catalogue.{RelationValue, relation_value, relation_name, relation_in, database_of}
 use Rattle.csv_catalog.specs.FileFaults.{header_of, rows_of}
-use Rattle.csv_catalog.specs.Loaded.{File, sources_folder, database_folder, label_of, is_relation_file, databases_in, files_in, file_in, files_read, database_files, relation_of, by_name, database_in, catalogue_in}
+use Rattle.csv_catalog.specs.Loaded.{File, sources_folder, database_folder, label_of, is_relation_file, databases_in, files_in, files_read, database_files, relation_of, by_name, database_in, catalogue_in}
 use Rattle.csv_catalog.specs.Records.{records_of}
 use Rattle.csv_catalog.specs.Saved.{relation_file}
 use Rattle.csv_catalog.proofs.ListLemmas.{all_pass}
-use Rattle.view_folder.proofs.FolderLemmas.{there}
+use Rattle.view_folder.proofs.FolderLemmas.{there, files_ascend}
 use Rattle.view_folder.proofs.LaterLemmas.{file_name_csv, same_file}
 use Rattle.kept_sources.proofs.NamedLemmas.{same_text, apart_texts, in_kept, named, AllDiffer, named_ascending}
-use Rattle.kept_sources.proofs.TreeLemmas.{files_ascend, label_part, in_sources}
+use Rattle.kept_sources.proofs.TreeLemmas.{label_part, in_sources}
 
 -- the name of a relation's file
 four_less : (rel : Text) → length (rel ++ codes ".csv") - 4 ≡ length rel

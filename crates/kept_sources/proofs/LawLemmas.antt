@@ -1,12 +1,7 @@
 -- What is saved behind changes is loaded again.
-use Rattle.std.proofs.Common.{◌≡◌, List, [], ◌∷◌, refl}
-use Rattle.std.specs.Prelude.{Ok}
-use Rattle.outside.specs.Tree.{Tree}
-use Rattle.outside.specs.Whole.{IsWhole}
+use Rattle.std.proofs.Common.{List, [], ◌∷◌, refl}
 use Rattle.schema_model.specs.declared.change.Change.{Change}
-use Rattle.schema_model.specs.Catalogue.{CatalogueValue}
 use Rattle.csv_catalog.specs.Loaded.{loaded}
-use Rattle.view_def.specs.Query.{Query}
 use Rattle.view_session.specs.Session.{SessionState, opened, moved}
 use Rattle.kept_sources.specs.Counted.{tree_after}
 use Rattle.kept_sources.specs.Law.{AreAccepted, moved_by, SavedSourcesHold}

@@ -46,10 +46,6 @@ below_more : (x y : Text) (ks : List Text) → text_cmp x y ≡ Less → AllByRe
 below_more x y [] h b = tt
 below_more x y (k ∷ ks) h b = (text_order.total.trans x y k h b.0, below_more x y ks h b.1)
 
-pub below_none : (x : Text) (ks : List Text) → AllByRecursion (λ k. text_cmp x k ≡ Less) ks → is_in x ks ≡ false
-below_none x [] h = refl
-below_none x (k ∷ ks) h = rw (apart_texts x k h.0, below_none x ks h.1) refl
-
 module _ {A : Type 0} (key : A → Text) where
   abbrev pub named : Text → List A → Option A
   named k xs = find (λ x. text_eq k (key x)) xs

@@ -1,53 +1,22 @@
 -- The files and the folders in a folder.
-use Rattle.std.specs.Prelude.{T}
-use Rattle.std.proofs.Common.{◌≡◌, ◌≢◌, ◌∷◌, ◌∙◌, [], suc, Bool, true, false, cond, ◌||◌, ◌==◌, List, Option, Some, None, is_some, refl, sym, ap, length, map}
+use Rattle.std.proofs.Common.{◌≡◌, ◌∷◌, ◌∙◌, [], suc, Bool, true, false, cond, ◌||◌, ◌==◌, List, Option, Some, None, is_some, refl, sym, ap, length}
 use Rattle.std.specs.Prelude.{codes}
 use Rattle.std.specs.FinMap as map_of
-use Rattle.std.specs.FinMap.Entries.{below_all}
-use Rattle.std.specs.List.{AllByRecursion, list_any, cons_option}
+use Rattle.std.specs.List.{list_any, cons_option}
 use Rattle.std.specs.List.Sorted.{IsStrictlySortedBy}
-use Rattle.std.specs.Ordering.{eq_by_cmp, is_lt}
+use Rattle.std.specs.Ordering.{eq_by_cmp}
 use Rattle.std.specs.Cmp.Lexicographic.{texts_ties}
-use Rattle.std.specs.declared.cmp.Ordering.{Ordering}
-use Rattle.std.specs.declared.cmp.Ordering.TheVariants.{Less, Equal, Greater}
-use Rattle.std.proofs.lemmas.Bool.{and_parts, or_right, ne_eqb, false_from_ne_true, true≢false}
+use Rattle.std.proofs.lemmas.Bool.{or_right, ne_eqb, false_from_ne_true, true≢false}
 use Rattle.std.proofs.lemmas.List.{append_cancel_left}
 use Rattle.ss_text.specs.Texts.{Text, text_cmp, text_eq, is_in}
 use Rattle.ss_text.specs.Label.{is_table_label}
 use Rattle.ss_text.proofs.KeyLemmas.{text_order, equal_itself}
-use Rattle.outside.specs.Tree.{Tree, place_cmp, file_at, files_of, subfolders_of, children_in, child_name, is_part, has_folder, has_empty_folder}
-use Rattle.outside.proofs.PlaceLemmas.{names_ascend}
+use Rattle.outside.specs.Tree.{Tree, file_at, files_of, subfolders_of, children_in, child_name, is_part, has_folder, has_empty_folder}
 use Rattle.outside.proofs.TreeLemmas.{child_full, children_ascend}
 use Rattle.csv_catalog.specs.Loaded.{sources_folder, database_folder}
 use Rattle.csv_catalog.proofs.SavedTreeLemmas.{no_slash, label_bytes, no_child}
-use Rattle.view_folder.proofs.FolderLemmas.{there}
+use Rattle.view_folder.proofs.FolderLemmas.{there, keys_ascend, is_true}
 use Rattle.kept_sources.proofs.NamedLemmas.{same_text}
-
-less : (o : Ordering) → is_lt o ≡ true → o ≡ Less
-less Less h = refl
-less Equal h = absurd (cc)
-less Greater h = absurd (cc)
-
-is_true : (b : Bool) → T b → b ≡ true
-is_true true h = refl
-is_true false h = absurd h
-
-module _ {K X : Type 0} (R : K → K → Ordering) where
-  each_below : (k : K) (es : List (K × X)) → below_all R k es ≡ true → AllByRecursion (λ y. R k y ≡ Less) (map (λ (e : K × X). e.0) es)
-  each_below k [] h = tt
-  each_below k (e ∷ es) h =
-      let parts = and_parts (is_lt (R k e.0)) (below_all R k es) h in
-      (less (R k e.0) parts.0, each_below k es parts.1)
-
-  keys_ascend : (es : List (K × X)) → map_of.is_sorted R es ≡ true → IsStrictlySortedBy R (map (λ (e : K × X). e.0) es)
-  unfolding IsStrictlySortedBy
-  keys_ascend [] h = tt
-  keys_ascend (e ∷ es) h =
-      let parts = and_parts (below_all R e.0 es) (map_of.is_sorted R es) h in
-      (each_below e.0 es parts.0, keys_ascend es parts.1)
-
-pub files_ascend : (t : Tree) (folder : Text) → IsStrictlySortedBy text_cmp (files_of t folder)
-files_ascend t folder = names_ascend folder (map_of.keys t.files) (keys_ascend place_cmp (map_of.entries t.files) (is_true _ (map_of.entries_sorted t.files)))
 
 pub folders_ascend : (t : Tree) (folder : Text) → IsStrictlySortedBy text_cmp (subfolders_of t folder)
 folders_ascend t folder = children_ascend folder (map_of.keys t.folders) (keys_ascend text_cmp (map_of.entries t.folders) (is_true _ (map_of.entries_sorted t.folders)))

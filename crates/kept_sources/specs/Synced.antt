@@ -1,5 +1,5 @@
 -- What is saved of the sources at a sync, and what their folders then hold.
-use Rattle.std.specs.Prelude.{◌≡◌, Bool, true, false, List, [], ◌++◌, Option, Some, Result, Ok}
+use Rattle.std.specs.Prelude.{◌≡◌, true, false, List, [], ◌++◌, Some, Ok}
 use Rattle.std.specs.List.{list_all}
 use Rattle.std.specs.FinMap as map_of
 use Rattle.ss_text.specs.Texts.{Text, is_in}

@@ -1,4 +1,3 @@
-pub mod EachLemmas
 pub mod SlotLemmas
 pub mod RoomLemmas
 pub mod MadeLemmas

@@ -2,7 +2,7 @@
 use Rattle.std.proofs.Common.{◌≡◌, ◌<◌, ◌∙◌, ℕ, Bool, true, false, List, Some, None, refl, sym, ap, length, get_or}
 use Rattle.std.specs.Prelude.{not, cond}
 use Rattle.std.specs.Option.{option_map_or}
-use Rattle.std.proofs.lemmas.Bool.{false≢true}
+use Rattle.std.proofs.lemmas.Bool.{false≢true, not-true}
 use Rattle.ss_text.specs.Places.{at_place}
 use Rattle.ss_text.specs.Keys.{IsPlaceOf}
 use Rattle.ss_text.proofs.PlaceLemmas.{map_at_place, each_at, each_at_place}
@@ -20,10 +20,6 @@ abbrev pub wants : TableLine → Bool
 wants (TablePlus label) = false
 wants line = true
 
-is_false : (b : Bool) → not b ≡ true → b ≡ false
-is_false true h = absurd (cc)
-is_false false h = refl
-
 -- a line that fits the table of a slot, if it is there
 fits_seen : (line : TableLine) (there : Bool) (t : TableValue) → option_map_or (fits_table line) (cond there (Some t) None) false ≡ true → there ≡ true × fits_table line t ≡ true
 fits_seen line true t h = (refl, h)
@@ -38,7 +34,7 @@ module _ (line : TableLine) (ss : List Slot) (i : ℕ) (d : Slot) (h : AreSlots 
 pub fits_slot : (line : TableLine) (ss : List Slot) (i : ℕ) (d : Slot) → AreSlots ss → IsPlaceOf slot_label (label_of line) ss i → fits_line (tables_in ss) line ≡ true
     → (get_or ss i d).there ≡ wants line × fits_table line (get_or ss i d).table.table ≡ true
 fits_slot (TableMinus label) ss i d h at fits = (sym (has_at label ss i d h.labels at) ∙ fits, refl)
-fits_slot (TablePlus label) ss i d h at fits = (sym (has_at label ss i d h.labels at) ∙ is_false (has_table (tables_in ss) label) fits, refl)
+fits_slot (TablePlus label) ss i d h at fits = (sym (has_at label ss i d h.labels at) ∙ not-true (has_table (tables_in ss) label) fits, refl)
 fits_slot (RowMinus label key) ss i d h at fits = fits_there (RowMinus label key) ss i d h at fits
 fits_slot (ColumnMinus label column) ss i d h at fits = fits_there (ColumnMinus label column) ss i d h at fits
 fits_slot (ColumnPlus label column) ss i d h at fits = fits_there (ColumnPlus label column) ss i d h at fits

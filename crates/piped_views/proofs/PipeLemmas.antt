@@ -29,6 +29,7 @@ use Rattle.view_folder.specs.Sync.{Holds, HoldsNamed}
 use Rattle.view_folder.specs.TableFiles.{table_files, table_text}
 use Rattle.view_folder.proofs.LaterLemmas.{file_name_csv, same_file, bytes_of_label}
 use Rattle.view_session.specs.Session.{tables_of}
+use Rattle.view_session.proofs.UpkeepLemmas.{meaning_in_order}
 use Rattle.view_apply.specs.Applying as applying
 use Rattle.view_apply.specs.Scripts.{script_said}
 use Rattle.ss_top.specs.Answers.{answer, finish, step}
@@ -43,7 +44,6 @@ use Rattle.ss_top.specs.Stages.{DefinitionOrRefusal, files_of_view}
 use Rattle.ss_top.specs.declared.status.Status.{Status}
 use Rattle.ss_top.proofs.AnswerCases.{answer_query}
 use Rattle.ss_top.proofs.TakeLemmas.{definition_of_profile, meaning_fits_form}
-use Rattle.ss_top.proofs.StageLemmas.{meaning_in_order}
 use Rattle.piped_views.specs.Law.{HavePlainHeaders, IsPiped, PipedViewsFollow}
 use Rattle.piped_views.proofs.ApplyLemmas.{applied_both, keys_applied, tables_applied, takes_along}
 use Rattle.piped_views.proofs.CourseLemmas.{applying_ends}

@@ -1,13 +1,12 @@
 -- What a plan keeps of the declarations, one after another.
-use Rattle.std.proofs.Common.{◌≡◌, ◌<◌, ◌≤◌, ◌+◌, ℕ, suc, List, [], ◌∷◌, ◌++◌, length, drop, get_or, map, refl, arith, ap, sym, ◌∙◌, append_assoc, append-nil, drop-cons}
+use Rattle.std.proofs.Common.{◌≡◌, ◌<◌, ◌≤◌, ◌+◌, ℕ, suc, List, ◌∷◌, ◌++◌, length, drop, get_or, refl, ap, sym, ◌∙◌, append_assoc, append-nil, drop-cons, add-one}
 use Rattle.std.proofs.lemmas.List.{drop_all}
-use Rattle.ss_text.specs.Texts.{Row}
 use Rattle.view_def.specs.declared.typed.Term.{Term}
 use Rattle.view_def.specs.declared.typed.Range.{Range}
 use Rattle.view_def.specs.declared.typed.Range.TheVariants as range
 use Rattle.view_def.specs.Query.{Query}
 use Rattle.plan_law.specs.Columns.{header, headers_from}
-use Rattle.plan_form.specs.Bases.{BaseValue, base_form, base_here, bases_from}
+use Rattle.plan_form.specs.Bases.{BaseValue, base_here, bases_from}
 
 -- one declaration, and then the others
 pub bases_step : (q : Query) (h : List Term) (k : ℕ) (d : Range) (ds : List Range) → bases_from q h k (d ∷ ds) ≡ base_here q h k d ++ bases_from q (h ++ header q k d) (suc k) ds
@@ -43,19 +42,16 @@ headers_more q so_far k d ds all e =
 later : (ds : List Range) (i : ℕ) (d : Range) → i < length ds → d ≡ get_or ds i d → drop i ds ≡ d ∷ drop (suc i) ds
 later ds i d lt is = drop-cons ds i d lt ∙ ap (λ (e : Range). e ∷ drop (suc i) ds) (sym is)
 
-one_more : (i : ℕ) → i + 1 ≡ suc i
-one_more i = omega arith
-
 pub bases_turn : (q : Query) (ds : List Range) (i : ℕ) (d : Range) (so_far after all : List BaseValue) (h h' : List Term) → i < length ds → d ≡ get_or ds i d → so_far ++ bases_from q h i (drop i ds) ≡ all → after ≡ so_far ++ base_here q h i d → h' ≡ h ++ header q i d
     → after ++ bases_from q h' (i + 1) (drop (i + 1) ds) ≡ all
 bases_turn q ds i d so_far after all h h' lt is e more above =
-    ap (λ n. after ++ bases_from q h' n (drop n ds)) (one_more i)
+    ap (λ n. after ++ bases_from q h' n (drop n ds)) (add-one i)
     ∙ ap (λ l. l ++ bases_from q h' (suc i) (drop (suc i) ds)) more
     ∙ bases_more q so_far h h' i d (drop (suc i) ds) all (ap (λ l. so_far ++ bases_from q h i l) (sym (later ds i d lt is)) ∙ e) above
 
 pub headers_turn : (q : Query) (ds : List Range) (i : ℕ) (d : Range) (all h h' : List Term) → i < length ds → d ≡ get_or ds i d → h ++ headers_from q i (drop i ds) ≡ all → h' ≡ h ++ header q i d → h' ++ headers_from q (i + 1) (drop (i + 1) ds) ≡ all
 headers_turn q ds i d all h h' lt is e above =
-    ap (λ n. h' ++ headers_from q n (drop n ds)) (one_more i)
+    ap (λ n. h' ++ headers_from q n (drop n ds)) (add-one i)
     ∙ ap (λ (l : List Term). l ++ headers_from q (suc i) (drop (suc i) ds)) above
     ∙ headers_more q h i d (drop (suc i) ds) all (ap (λ l. h ++ headers_from q i l) (sym (later ds i d lt is)) ∙ e)
 

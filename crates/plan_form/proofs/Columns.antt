@@ -1,10 +1,11 @@
 -- The columns of rows, and where texts are found.
-use Rattle.std.proofs.Common.{◌≡◌, ◌<◌, min, ℕ, ◌+◌, suc, List, [], ◌∷◌, ◌++◌, length, take, map, Bool, true, false, ◌&&◌, cond, refl, arith, ap, sym, ◌∙◌, Option, Some, None, get_or, append_assoc, append-nil}
+use Rattle.std.proofs.Common.{◌≡◌, ◌<◌, min, ℕ, ◌+◌, suc, List, [], ◌∷◌, ◌++◌, length, take, map, Bool, true, false, ◌&&◌, cond, refl, arith, ap, sym, ◌∙◌, Option, Some, None, get_or, append_assoc}
 use Rattle.std.specs.Prelude.{option_to_list, position, zip}
 use Rattle.std.specs.List.{slice_get, list_all, filter_map, cons_option}
 use Rattle.std.specs.Option.{option_and_then, option_map}
 use Rattle.std.proofs.lemmas.List.{take_more, length-take}
 use Rattle.std.proofs.lemmas.List.Elements.{filter_map-append}
+use Rattle.std.proofs.Math.Nat.{add-zero}
 use Rattle.ss_text.specs.Texts.{Text, Row}
 use Rattle.view_def.specs.declared.typed.Term.{Term}
 use Rattle.view_def.specs.declared.typed.Term.TheVariants as term
@@ -13,13 +14,12 @@ use Rattle.view_def.specs.declared.typed.Range.TheVariants as range
 use Rattle.view_def.specs.Query.{Query}
 use Rattle.valuation_meaning.specs.Operands.{resolved}
 use Rattle.plan_law.specs.Columns.{term_eq, text_under, found, read, wanted, fold_of, header, may_equal}
-use Rattle.plan_law.specs.Links.{Source, Link, in_either, source_of, source_text, link_holds, places_from, own_links, own_holds}
+use Rattle.plan_law.specs.Links.{Source, Link, in_either, source_of, source_text, link_holds, places_from}
 use Rattle.plan_law.specs.Links as link
 use Rattle.plan_law.proofs.Sums.{position_cons}
 use Rattle.plan_form.specs.Cells.{text_in, term_cell, right_cell}
 use Rattle.plan_form.specs.Headers.{header_over}
 use Rattle.plan_form.specs.Tests.{cell_for}
-use Rattle.plan_form.specs.declared.base.Equal.{Equal}
 use Rattle.plan_form.specs.Bases.{equal_holds, own_cells}
 
 -- one more of a list whose elements may give nothing
@@ -35,10 +35,7 @@ given_more {A} {B} g before so_far after done x e h =
     one (Some y) = refl
 
 places_append : (f : ℕ → Source) (n : ℕ) (ts us : List Term) → places_from f n (ts ++ us) ≡ places_from f n ts ++ places_from f (n + length ts) us
-places_append f n [] us = ap (λ k. places_from f k us) (plus_none n)
-  where
-    plus_none : (n : ℕ) → n ≡ n + 0
-    plus_none n = omega arith
+places_append f n [] us = ap (λ k. places_from f k us) (sym (add-zero n))
 places_append f n (t ∷ ts) us = ap (λ l. (f n, t) ∷ l) (places_append f (suc n) ts us ∙ ap (λ k. places_from f (suc n) ts ++ places_from f k us) (shift n (length ts)))
   where
     shift : (n m : ℕ) → suc n + m ≡ n + suc m

@@ -7,7 +7,7 @@ use Rattle.view_def.specs.declared.typed.Place.{Place}
 use Rattle.view_def.specs.declared.typed.Term.{Term}
 use Rattle.view_def.specs.Conditions.{Condition}
 use Rattle.view_def.specs.Query.{Query}
-use Rattle.view_def.specs.Terms.{terms_of, terms_of_filter, terms_of_view}
+use Rattle.view_def.specs.Terms.{terms_of_filter, terms_of_view}
 use Rattle.flow_law.specs.Facts.{Fact}
 use Rattle.flow_law.specs.FactRows.{fact_row}
 use Rattle.valuation_meaning.specs.Terms.{Reading, are_defined}

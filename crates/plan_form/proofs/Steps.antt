@@ -1,5 +1,5 @@
 -- One more turn of a loop that appends.
-use Rattle.std.proofs.Common.{◌≡◌, ◌<◌, ℕ, ◌+◌, List, [], ◌∷◌, ◌++◌, length, take, map, filter, refl, arith, ap, sym, ◌∙◌, Option, Some, None, get_or, append_assoc, append-nil}
+use Rattle.std.proofs.Common.{◌≡◌, ◌<◌, ℕ, ◌+◌, List, [], ◌∷◌, ◌++◌, length, take, map, filter, refl, ap, sym, ◌∙◌, Option, Some, None, get_or, append_assoc, append-nil}
 use Rattle.std.specs.Prelude.{option_to_list}
 use Rattle.std.specs.List.{filter_map, flat_map, cons_option}
 use Rattle.std.proofs.lemmas.List.{take_more, map-append}
@@ -9,9 +9,8 @@ use Rattle.view_def.specs.declared.typed.Cond.{Cond}
 use Rattle.view_def.specs.declared.typed.Term.{Term}
 use Rattle.view_def.specs.Conditions.{condition_of}
 use Rattle.view_def.specs.Query.{Query}
-use Rattle.valuation_meaning.specs.Operands.{resolved}
 use Rattle.plan_law.specs.Columns.{sides_of}
-use Rattle.plan_law.specs.Links.{Source, Link, link, source_of, places_from, column_link, equality_link, key_of, is_own}
+use Rattle.plan_law.specs.Links.{Source, Link, link, places_from, column_link, equality_link, key_of, is_own}
 use Rattle.plan_form.specs.declared.source.Source.{Source as Held}
 use Rattle.plan_form.specs.declared.base.Equal.{Equal}
 use Rattle.plan_form.specs.Sources.{seen_link}

@@ -1,5 +1,4 @@
 -- Sources of texts and their links, as the law of plans speaks of them.
-use Rattle.std.specs.Prelude.{ℕ}
 use Rattle.plan_law.specs.Links.{Source, Link}
 use Rattle.plan_law.specs.Links as link
 use Rattle.plan_form.specs.declared.source.Source.{Source as Held}

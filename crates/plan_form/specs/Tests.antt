@@ -1,6 +1,6 @@
 -- Conditions over the cells of a row.
-use Rattle.std.specs.Prelude.{ℕ, [], List, map, slice_get, Option, Some, None}
-use Rattle.ss_text.specs.Texts.{Text, Row}
+use Rattle.std.specs.Prelude.{[], List, slice_get, Some, None}
+use Rattle.ss_text.specs.Texts.{Row}
 use Rattle.view_def.specs.declared.typed.Place.TheVariants as place
 use Rattle.view_def.specs.declared.typed.Term.{Term}
 use Rattle.view_def.specs.declared.typed.Term.TheVariants as term

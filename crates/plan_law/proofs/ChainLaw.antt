@@ -9,7 +9,8 @@ use Rattle.join_delta.specs.Joined.{joined, joined_moves}
 use Rattle.operator_law.proofs.SignedRows.{moves_filtered}
 use Rattle.join_delta.proofs.Bilinear.{moves_joined_kept}
 
-moves_net : (xs ys : List Row) (ms ns : List Signed) → MovesBag xs ms ys → SameNet ms ns → MovesBag xs ns ys
+-- moves in net move as much
+pub moves_net : (xs ys : List Row) (ms ns : List Signed) → MovesBag xs ms ys → SameNet ms ns → MovesBag xs ns ys
 moves_net xs ys ms ns h same f = omega (arith, h f, same f)
 
 -- one stage

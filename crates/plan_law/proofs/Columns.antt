@@ -3,6 +3,7 @@ use Rattle.std.proofs.Common.{◌≡◌, ◌⊎◌, inl, inr, subst, ℕ, ◌==�
 use Rattle.std.specs.List.{list_all, filter_map, cons_option}
 use Rattle.std.proofs.lemmas.Slice.Eq.{bytes_eq-Decides}
 use Rattle.std.proofs.lemmas.Bool.Decides.{Decides-eqb}
+use Rattle.std.proofs.lemmas.Bool.{and_from}
 use Rattle.ss_text.specs.Texts.{Text, text_eq}
 use Rattle.plan_law.specs.Kinds.{Place, Term}
 use Rattle.plan_law.specs.Kinds.place
@@ -37,10 +38,6 @@ pub and_right : (a b : Bool) → (a && b) ≡ true → b ≡ true
 and_right true b e = e
 and_right false b e = cc
 
-pub and_both : (a b : Bool) → a ≡ true → b ≡ true → (a && b) ≡ true
-and_both true b d e = e
-and_both false b d e = d
-
 pub all_has : {X : Type 0} (p : X → Bool) (xs : List X) (x : X) → list_all p xs ≡ true → Has xs x → p x ≡ true
 all_has p [] x e h = absurd h
 all_has p (y ∷ xs) x e (inl same) = sym (ap p same) ∙ and_left (p y) (list_all p xs) e
@@ -48,7 +45,7 @@ all_has p (y ∷ xs) x e (inr h) = all_has p xs x (and_right (p y) (list_all p x
 
 pub all_from : {X : Type 0} (p : X → Bool) (xs : List X) → ((x : X) → Has xs x → p x ≡ true) → list_all p xs ≡ true
 all_from p [] h = refl
-all_from p (x ∷ xs) h = and_both (p x) (list_all p xs) (h x (inl refl)) (all_from p xs (λ y m. h y (inr m)))
+all_from p (x ∷ xs) h = and_from (p x) (list_all p xs) (h x (inl refl)) (all_from p xs (λ y m. h y (inr m)))
 
 -- what a filter_map gives comes from an element, and each element gives what it gives
 pub has_given : {X Y : Type 0} (h : X → Option Y) (xs : List X) (x : X) (y : Y) → Has xs x → h x ≡ Some y → Has (filter_map h xs) y
@@ -108,7 +105,7 @@ terms_equal (term.Cell j p) (term.Cell k q) e =
 pub term_same : (t : Term) → term_eq t t ≡ true
 term_same (term.Literal t) = text_same t
 term_same (term.Var k) = number_same k
-term_same (term.Cell k p) = and_both (k == k) (place_eq p p) (number_same k) (place_same p)
+term_same (term.Cell k p) = and_from (k == k) (place_eq p p) (number_same k) (place_same p)
 
 abbrev pub is_text : Option Text → Text → Bool
 is_text None s = false

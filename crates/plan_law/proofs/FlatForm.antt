@@ -3,6 +3,7 @@ use Rattle.std.proofs.Common.{◌≡◌, inl, inr, ℕ, ◌+◌, suc, List, [], 
 use Rattle.std.specs.Prelude.{option_to_list, flat_map, zip, position, slice_index_or}
 use Rattle.std.specs.List.{slice_get, AllByRecursion}
 use Rattle.std.specs.Option.{option_and_then, option_map}
+use Rattle.std.proofs.lemmas.List.Concat.{flat_map_single}
 use Rattle.ss_text.specs.Texts.{Text, Row, text_eq, is_in}
 use Rattle.schema_model.specs.Catalogue.{RelationValue, DatabaseValue, CatalogueValue}
 use Rattle.schema_model.specs.Sound.{IsRelation, IsDatabase, IsSound}
@@ -40,10 +41,6 @@ same_each P f g same (x ∷ xs) all = ap (λ r. r ++ flat_map f xs) (same x all.
 pub all_unit : {X : Type 0} (xs : List X) → AllByRecursion (λ x. Unit {0}) xs
 all_unit [] = tt
 all_unit (x ∷ xs) = (tt, all_unit xs)
-
-pub singles : {X Y : Type 0} (f : X → Y) (xs : List X) → flat_map (λ x. f x ∷ []) xs ≡ map f xs
-singles f [] = refl
-singles f (x ∷ xs) = ap (λ r. f x ∷ r) (singles f xs)
 
 -- the cell behind the first
 at_next : (s : Text) (row : Row) (n : ℕ) → slice_index_or (s ∷ row) (1 + n) [] ≡ slice_index_or row n []
@@ -105,7 +102,7 @@ module _ (r : RelationValue) (ok : IsRelation r) where
       by_test : (folded h : Bool) → flat_map (λ row. cond h (per_field folded (fields r row) (picked wanted r.attributes row)) []) r.rows
           ≡ cond folded (cond h (flat_map (entries (places_of wanted r.attributes) r.attributes) r.rows) []) (cond h (map (picked wanted r.attributes) r.rows) [])
       by_test true true = refl
-      by_test false true = singles (picked wanted r.attributes) r.rows
+      by_test false true = flat_map_single (picked wanted r.attributes) r.rows
       by_test true false = none_each r.rows
       by_test false false = none_each r.rows
 
@@ -187,7 +184,7 @@ names_are p c =
     ∙ tested_each (λ (d : DatabaseValue). keeps p d.name) (λ (d : DatabaseValue). map (λ (r : RelationValue). d.name ∷ r.name ∷ []) d.relations) c
   where
     one : (d : DatabaseValue) (b : Bool) → flat_map (λ (r : RelationValue). cond b ((d.name ∷ r.name ∷ []) ∷ []) []) d.relations ≡ cond b (map (λ (r : RelationValue). d.name ∷ r.name ∷ []) d.relations) []
-    one d true = singles (λ (r : RelationValue). d.name ∷ r.name ∷ []) d.relations
+    one d true = flat_map_single (λ (r : RelationValue). d.name ∷ r.name ∷ []) d.relations
     one d false = none_each d.relations
 
 flat_is : (c : CatalogueValue) → IsSound c → (d : Range) (wanted : Row) (folded : Bool) → flat c (record { range = d; wanted = wanted; folded = folded }) ≡ flat_of c d wanted folded

@@ -2,13 +2,14 @@
 use Rattle.std.proofs.Common.{◌≡◌, ◌⊎◌, inl, inr, subst, ℕ, suc, List, [], ◌∷◌, ◌++◌, length, filter, Bool, true, false, ◌&&◌, not, cond, refl, ap, sym, ◌∙◌, Option, Some, None, append-nil}
 use Rattle.std.specs.Prelude.{zip, position}
 use Rattle.std.specs.List.{slice_get, list_all, filter_map}
+use Rattle.std.proofs.lemmas.Bool.{and_from}
 use Rattle.ss_text.specs.Texts.{Text, Row}
 use Rattle.plan_law.specs.Kinds.{Term}
 use Rattle.plan_law.specs.Kinds.term
 use Rattle.view_def.specs.Query.{Query}
 use Rattle.plan_law.specs.Columns.{term_eq, may_equal, equalities, is_tested}
 use Rattle.plan_law.specs.Links.{Source, Given, Left, Right, in_either, source_of, source_text, Link, link, places_from, column_link, equality_link, links, link_holds, is_left, is_right, key_between, key_of, is_own, keys_of, own_links, keys_hold, own_holds}
-use Rattle.plan_law.proofs.Columns.{Has, has_left, has_right, has_either, has_given, has_from, and_left, and_right, and_both, all_has, all_from, texts_equal, text_same}
+use Rattle.plan_law.proofs.Columns.{Has, has_left, has_right, has_either, has_given, has_from, and_left, and_right, all_has, all_from, texts_equal, text_same}
 use Rattle.plan_law.proofs.Agree.{same_test}
 use Rattle.plan_law.proofs.LinkLaws.{both, tested_links}
 use Rattle.plan_law.proofs.KeyPlaces.{link_parts, key_holds, keys_held}
@@ -181,7 +182,7 @@ module _ (q : Query) (h d : List Term) where
     tested_keys =
         tested_links q h d x y wide wide'
         ∙ same_test (list_all (link_holds x y) (links q h d)) (own_holds q h d y && each)
-        (λ t. and_both (own_holds q h d y) each
+        (λ t. and_from (own_holds q h d y) each
         (all_from (link_holds [] y) (own_links q h d) (λ l m. let r = has_unfiltered is_own (links q h d) l m in own_same l r.1 ∙ all_has (link_holds x y) (links q h d) l t r.0))
         (all_from (key_holds x y) (keys_of q h d) (λ k m. let r = has_from key_of (links q h d) k m in key_link r.0 k r.2 (all_has (link_holds x y) (links q h d) r.0 t r.1))))
         (λ e. all_from (link_holds x y) (links q h d) (each_link (and_left (own_holds q h d y) each e) (and_right (own_holds q h d y) each e)))

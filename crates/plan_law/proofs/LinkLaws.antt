@@ -6,6 +6,7 @@ use Rattle.std.specs.Option.{option_and_then, option_map, option_or}
 use Rattle.std.proofs.lemmas.List.Folds.{list_all-append}
 use Rattle.std.proofs.lemmas.List.Quantifiers.{position-Some}
 use Rattle.std.proofs.lemmas.Option.{slice_get-get_or}
+use Rattle.std.proofs.Math.Nat.{add-zero}
 use Rattle.ss_text.specs.Texts.{Text, Row}
 use Rattle.plan_law.specs.Kinds.{Term}
 use Rattle.plan_law.specs.Kinds.term
@@ -82,13 +83,10 @@ module _ (q : Query) (h d : List Term) (x y : Row) (wide : length x ≡ length h
   columns_linked f n [] z e at = refl
   columns_linked f n (t ∷ ts) [] e at = absurd (omega arith)
   columns_linked f n (t ∷ ts) (s ∷ z) e at =
-      let here : source_text x y (f n) ≡ Some s = ap (λ k. source_text x y (f k)) (plus_none n) ∙ at 0 in
+      let here : source_text x y (f n) ≡ Some s = ap (λ k. source_text x y (f k)) (sym (add-zero n)) ∙ at 0 in
       ap (λ (o : Option Text). may_be o s && list_all is_read (zip ts z)) (read_source t)
       ∙ one here (source_of h d (resolved q.decls t)) (columns_linked f (suc n) ts z (omega arith) (λ i. ap (λ k. source_text x y (f k)) (shift n i) ∙ at (suc i)))
     where
-      plus_none : (n : ℕ) → n ≡ n + 0
-      plus_none n = omega arith
-
       shift : (n i : ℕ) → suc n + i ≡ n + suc i
       shift n i = omega arith
 

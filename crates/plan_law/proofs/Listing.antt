@@ -5,6 +5,7 @@ use Rattle.std.specs.List.{slice_get}
 use Rattle.std.specs.Option.{option_and_then, option_map_or}
 use Rattle.std.proofs.lemmas.Bool.{cases_lt}
 use Rattle.std.proofs.lemmas.List.{length-append}
+use Rattle.std.proofs.Math.Nat.{add-zero}
 use Rattle.ss_text.specs.Texts.{Text}
 use Rattle.schema_model.specs.Catalogue.{CatalogueValue}
 use Rattle.schema_model.specs.Sound.{IsSound}
@@ -18,7 +19,7 @@ use Rattle.valuation_meaning.specs.Elements.{Element, A_text, Valuation, text_of
 use Rattle.valuation_meaning.specs.Terms.{Reading, value_of}
 use Rattle.valuation_meaning.specs.Valuations.{assignments}
 use Rattle.plan_law.specs.Columns.{Combo, read, is_consistent, columns, bases_from, bases}
-use Rattle.plan_law.proofs.Weights.{plus_none, weigh-zero}
+use Rattle.plan_law.proofs.Weights.{weigh-zero}
 use Rattle.plan_law.proofs.Columns.{Has, has_either, and_left, and_right, consistent_start}
 use Rattle.plan_law.proofs.Held.{Stands, IsAliased, IsColumn, Owns, Fits, cell_more, stands_more}
 use Rattle.plan_law.proofs.Known.{Reads, text_declared, tuple_declared, before_place, alias_tested, known_cell, known_name}
@@ -184,15 +185,15 @@ module _ (c : CatalogueValue) (sound : IsSound c) (q : Query) (fits : Fits q) (g
       one (Some s) is =
           weigh-flat_map _ (λ e. assignments c (v ++ e ∷ []) ds) (elements c v (range.Alias j a))
           ∙ ap (λ (o : Option Text). weigh (λ e. left c g (v ++ e ∷ []) x ds) (map A_text (option_to_list o))) is
-          ∙ plus_none (left c g (v ++ A_text s ∷ []) x ds)
+          ∙ add-zero (left c g (v ++ A_text s ∷ []) x ds)
           ∙ rest (v ++ A_text s ∷ []) x (suc k) (size_more v (A_text s) k size) (at_more k (range.Alias j a) ds at) (alias_owns v x k j a size here owns s is)
 
   -- from any declaration on
   pub listing : (ds : List Range) → List-at ds
   listing [] v x k size at owns =
-      plus_none (cond (agrees v x) (g (value_of v)) 0)
+      add-zero (cond (agrees v x) (g (value_of v)) 0)
       ∙ last_weight q fits v x owns (at_end v k size at) g weight
-      ∙ sym (plus_none (cond (is_consistent q x) (g (read q x)) 0))
+      ∙ sym (add-zero (cond (is_consistent q x) (g (read q x)) 0))
   listing (range.Alias j a ∷ ds) v x k size at owns = list_alias j a ds (listing ds) v x k size at owns
   listing (range.Databases ∷ ds) v x k size at owns =
       whole_step range.Databases ds v x k size (step_databases c sound q g weight v x k size ds (bases_from c q (suc k) ds) (at_here k range.Databases ds at) (next_of range.Databases ds (listing ds) v x k size at owns))
@@ -222,7 +223,7 @@ module _ (c : CatalogueValue) (sound : IsSound c) (q : Query) (fits : Fits q) (g
 
   -- all valuations, and all combinations
   pub listed : weigh (λ v. g (value_of v)) (assignments c [] q.decls) ≡ weigh (λ y. cond (is_consistent q y) (g (read q y)) 0) (combined [] (bases c q))
-  listed = listing q.decls [] [] 0 refl (λ i. ap (slice_get q.decls) (plus_none i)) nothing
+  listed = listing q.decls [] [] 0 refl (λ i. ap (slice_get q.decls) (add-zero i)) nothing
     where
       nothing : Owns q [] []
       nothing = record { each = λ i d less is. absurd (omega arith); terms = λ t s m. absurd m }

@@ -4,6 +4,7 @@ use Rattle.std.specs.Prelude.{remove}
 use Rattle.std.specs.List.{flat_map, position_or_len}
 use Rattle.std.proofs.lemmas.List.{map-append}
 use Rattle.std.proofs.lemmas.Bool.Decides.{nat_tests, Decides-eqb}
+use Rattle.std.proofs.lemmas.List.Concat.{flat_map_single}
 use Rattle.ss_text.specs.Texts.{Text, Row, text_eq, row_eq}
 use Rattle.schema_model.specs.Catalogue.{RelationValue, DatabaseValue, CatalogueValue, with_row}
 use Rattle.schema_model.specs.Changes.{after, at_relation_in, less_row}
@@ -21,7 +22,7 @@ use Rattle.schema_delta.specs.declared.spec.FlatSpec.{FlatSpec}
 use Rattle.schema_delta.specs.Flat.{values_of, inside, goes_over, part, own, whole, flat}
 use Rattle.plan_law.specs.Touched.{Marked}
 use Rattle.plan_law.specs.Marks.{OfRow, comes, goes, is_changed, alone, with_mark, marked_part, marked_whole, marked_flat}
-use Rattle.plan_law.proofs.FlatForm.{none_each, same_each, all_unit, singles}
+use Rattle.plan_law.proofs.FlatForm.{none_each, same_each, all_unit}
 use Rattle.plan_law.proofs.TouchedLaws.{plain, any, cells_of, weigh-cells}
 use Rattle.operator_law.specs.Bags.{weigh, SameBag}
 use Rattle.operator_law.proofs.Weights.{weigh-same, weigh-map, weigh-append, weigh-flat_map}
@@ -35,7 +36,7 @@ pick_each : (wanted attributes : Row) (rows : List Row) → pick_value wanted (a
 pick_each wanted attributes rows = one (has_all wanted attributes)
   where
     one : (h : Bool) → cond h (map (picked wanted attributes) rows) [] ≡ flat_map (λ row. cond h (picked wanted attributes row ∷ []) []) rows
-    one true = sym (singles (picked wanted attributes) rows)
+    one true = sym (flat_map_single (picked wanted attributes) rows)
     one false = sym (none_each rows)
 
 fold_each : (wanted attributes : Row) (rows : List Row) → fold_value wanted (attributes, rows) ≡ flat_map (λ row. fold_value wanted (attributes, row ∷ [])) rows

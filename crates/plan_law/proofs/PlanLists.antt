@@ -2,6 +2,7 @@
 use Rattle.std.proofs.Common.{◌≡◌, ◌⊎◌, inl, inr, subst, ℕ, suc, List, [], ◌∷◌, ◌++◌, length, map, filter, Bool, true, false, not, cond, refl, arith, ap, sym, ◌∙◌, Option, Some, None, append-nil, append_assoc}
 use Rattle.std.specs.Prelude.{zip, position, fold}
 use Rattle.std.specs.List.{list_all, filter_map, AllByRecursion}
+use Rattle.std.proofs.lemmas.Bool.{and_from}
 use Rattle.ss_text.specs.Texts.{Row}
 use Rattle.schema_model.specs.Catalogue.{CatalogueValue}
 use Rattle.schema_model.specs.Sound.{IsSound}
@@ -17,7 +18,7 @@ use Rattle.plan_law.specs.Columns.{Combo, term_eq, header, headers_from, spec_of
 use Rattle.plan_law.specs.Links.{Source, Given, Right, in_either, source_of, Link, places_from, column_link, equality_link, links, link_holds, is_left, is_own, own_links, own_holds}
 use Rattle.plan_law.specs.Chain.{chain}
 use Rattle.plan_law.specs.PlanRows.{texts, own_rows, joints_from, rows_from, plan_rows, plan_header, row_facts}
-use Rattle.plan_law.proofs.Columns.{Has, has_either, has_from, and_both, all_has, all_from}
+use Rattle.plan_law.proofs.Columns.{Has, has_either, has_from, all_has, all_from}
 use Rattle.plan_law.proofs.Agree.{same_test}
 use Rattle.plan_law.proofs.LinkLaws.{tested_links}
 use Rattle.plan_law.proofs.KeyLaws.{has_unfiltered, has_filtered}
@@ -64,11 +65,11 @@ module _ (q : Query) (d : List Term) where
       one (inl m) =
           let c = has_from (column_link q [] d) (places_from Right 0 d) l m in
           let p = link_parts (source_of [] d (resolved q.decls c.0.1)) (Some c.0.0) l c.2 in
-          and_both (not (is_left l.0)) (not (is_left l.1)) (source_start (resolved q.decls c.0.1) l.0 p.0) (carried c.0.0 l.1 p.1 (right_start 0 d c.0 c.1))
+          and_from (not (is_left l.0)) (not (is_left l.1)) (source_start (resolved q.decls c.0.1) l.0 p.0) (carried c.0.0 l.1 p.1 (right_start 0 d c.0 c.1))
       one (inr m) =
           let e = has_from (equality_link q [] d) (equalities q.condition) l m in
           let p = link_parts (source_of [] d (resolved q.decls e.0.0)) (source_of [] d (resolved q.decls e.0.1)) l e.2 in
-          and_both (not (is_left l.0)) (not (is_left l.1)) (source_start (resolved q.decls e.0.0) l.0 p.0) (source_start (resolved q.decls e.0.1) l.1 p.1)
+          and_from (not (is_left l.0)) (not (is_left l.1)) (source_start (resolved q.decls e.0.0) l.0 p.0) (source_start (resolved q.decls e.0.1) l.1 p.1)
 
   pub start_tested : (row : Row) → length row ≡ length d → is_tested q (zip d row) ≡ own_holds q [] d row
   start_tested row wide =

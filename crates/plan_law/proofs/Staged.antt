@@ -1,8 +1,10 @@
 -- Tests on the way weigh what the same tests at the end do.
-use Rattle.std.proofs.Common.{◌≡◌, ℕ, ◌+◌, List, [], ◌∷◌, ◌++◌, map, filter, Bool, true, false, ◌&&◌, cond, refl, arith, ap, sym, ◌∙◌, Option, Some, None}
+use Rattle.std.proofs.Common.{◌≡◌, ℕ, List, [], ◌∷◌, ◌++◌, map, filter, Bool, true, false, ◌&&◌, cond, refl, arith, ap, sym, ◌∙◌, Option, Some, None}
 use Rattle.std.specs.Prelude.{fold, flat_map}
 use Rattle.std.specs.List.{list_all}
 use Rattle.std.proofs.lemmas.List.Folds.{list_all-append}
+use Rattle.std.proofs.lemmas.Bool.{and_from}
+use Rattle.std.proofs.Math.Nat.{add-zero}
 use Rattle.ss_text.specs.Texts.{Text}
 use Rattle.view_def.specs.declared.written.Op.TheVariants.{Eq, Ne, Lt, Le, Gt, Ge}
 use Rattle.plan_law.specs.Kinds.{Term}
@@ -13,7 +15,7 @@ use Rattle.view_def.specs.Terms.{terms_of_view}
 use Rattle.valuation_meaning.specs.Valuations.{counts, meets}
 use Rattle.valuation_meaning.specs.Terms.{are_defined}
 use Rattle.plan_law.specs.Columns.{Combo, read, is_consistent, may_equal, sides_of, equalities, is_tested, stage}
-use Rattle.plan_law.proofs.Columns.{and_left, and_right, and_both, all_has, all_from, consistent_start, found_more}
+use Rattle.plan_law.proofs.Columns.{and_left, and_right, all_has, all_from, consistent_start, found_more}
 use Rattle.plan_law.proofs.Steps.{combined}
 use Rattle.valuation_meaning.specs.Early.{listed}
 use Rattle.valuation_meaning.specs.Operands.{resolved}
@@ -32,7 +34,7 @@ may_equal_more (Some s) (Some t) a' b' f g e =
 pub tested_start : (q : Query) (x y : Combo) → is_tested q (x ++ y) ≡ true → is_tested q x ≡ true
 tested_start q x y e =
     let holds : Combo → Term × Term → Bool = λ (z : Combo) (p : Term × Term). may_equal (read q z p.0) (read q z p.1) in
-    and_both (is_consistent q x) (list_all (holds x) (equalities q.condition))
+    and_from (is_consistent q x) (list_all (holds x) (equalities q.condition))
     (consistent_start q x y (and_left (is_consistent q (x ++ y)) (list_all (holds (x ++ y)) (equalities q.condition)) e))
     (all_from (holds x) (equalities q.condition) (λ p m.
     may_equal_more (read q x p.0) (read q x p.1) (read q (x ++ y) p.0) (read q (x ++ y) p.1) (λ t. found_more x y (resolved q.decls p.0) t) (λ t. found_more x y (resolved q.decls p.1) t)
@@ -57,10 +59,7 @@ module _ (q : Query) (f : Combo → ℕ) where
   tested_or_none x rest false e = sym (none_tested x rest e)
 
   pub staged : (rest : List (List Combo)) (xs : List Combo) → weigh where_tested (fold (stage q) xs rest) ≡ weigh (λ x. weigh where_tested (combined x rest)) xs
-  staged [] xs = weigh-same _ _ (λ x. plus_none (where_tested x)) xs
-    where
-      plus_none : (n : ℕ) → n ≡ n + 0
-      plus_none n = omega arith
+  staged [] xs = weigh-same _ _ (λ x. sym (add-zero (where_tested x))) xs
   staged (ys ∷ rest) xs =
       staged rest (stage q xs ys)
       ∙ weigh-flat_map _ (λ x. filter (is_tested q) (map (λ y. x ++ y) ys)) xs
@@ -94,7 +93,7 @@ module _ (a : Reading) where
   sides_hold (AnyOf xs) e = refl
   sides_hold (AllOf xs) e = refl
   sides_hold (NotOf x) e = refl
-  sides_hold (Compares s Eq t) e = and_both (hold (s, t)) true (one (a s) (a t) e) refl
+  sides_hold (Compares s Eq t) e = and_from (hold (s, t)) true (one (a s) (a t) e) refl
     where
       one : (o p : Option Text) → compares_values Eq o p ≡ true → may_equal o p ≡ true
       one None p e = refl
@@ -107,7 +106,7 @@ module _ (a : Reading) where
   sides_hold (Compares s Ge t) e = refl
 
   both_hold : (ps rest : List (Term × Term)) → list_all hold ps ≡ true → list_all hold rest ≡ true → list_all hold (ps ++ rest) ≡ true
-  both_hold ps rest e f = list_all-append hold ps rest ∙ and_both (list_all hold ps) (list_all hold rest) e f
+  both_hold ps rest e f = list_all-append hold ps rest ∙ and_from (list_all hold ps) (list_all hold rest) e f
 
   each_hold : (xs : Conditions) → each_is_true a xs ≡ true → list_all hold (flat_map sides_of (listed xs)) ≡ true
   each_hold none e = refl

@@ -1,5 +1,5 @@
 -- The facts of a view are those of its full combinations.
-use Rattle.std.proofs.Common.{◌≡◌, inl, inr, ℕ, ◌+◌, List, [], ◌∷◌, true, ◌&&◌, cond, refl, arith, ap, sym, ◌∙◌, Option, Some, is_some, filter}
+use Rattle.std.proofs.Common.{◌≡◌, inl, inr, ℕ, ◌+◌, List, [], ◌∷◌, true, ◌&&◌, cond, refl, ap, sym, ◌∙◌, Option, Some, is_some, filter}
 use Rattle.std.specs.Prelude.{filter_map, fold}
 use Rattle.ss_text.specs.Texts.{Text}
 use Rattle.schema_model.specs.Catalogue.{CatalogueValue}
@@ -15,6 +15,7 @@ use Rattle.valuation_meaning.specs.Meaning.{fact_of, facts}
 use Rattle.plan_law.specs.Columns.{Combo, alias_cell, read, is_consistent, stage, bases, combo_facts, terms_over}
 use Rattle.plan_law.specs.Laws.{CombosList}
 use Rattle.std.proofs.Math.Seq.{take-length}
+use Rattle.std.proofs.Math.Nat.{add-zero}
 use Rattle.plan_law.proofs.Columns.{Has, has_left}
 use Rattle.plan_law.proofs.Held.{Fits}
 use Rattle.plan_law.proofs.Steps.{combined}
@@ -49,13 +50,10 @@ module _ (c : CatalogueValue) (sound : IsSound c) (q : Query) (fits : Fits q) wh
   facts_of_combos f =
       facts_listed c sound q fits f
       ∙ weigh-same_where (λ y. terms_over y ≡ whole_header q fits) _ _ (full_there f) (combined [] (bases c q)) (combined_over c q q.decls 0 [])
-      ∙ plus_none (weigh (where_tested q (fact_there f)) (combined [] (bases c q)))
+      ∙ sym (add-zero (weigh (where_tested q (fact_there f)) (combined [] (bases c q))))
       ∙ sym (staged q (fact_there f) (bases c q) ([] ∷ []))
       ∙ all_tested q (fact_there f) (bases c q) ([] ∷ []) (ap (λ n. n + 0) (tested_counts q [] (f (fact_of q (read q [])))))
       ∙ sym (facts_weigh f (fold (stage q) ([] ∷ []) (bases c q)))
-    where
-      plus_none : (n : ℕ) → n ≡ n + 0
-      plus_none n = omega arith
 
 -- for each sound catalogue and each view of the profile
 pub plan_lists : (c : CatalogueValue) → IsSound c → (q : Query) → IsViewOfProfile q → SameBag (facts c q) (combo_facts q (fold (stage q) ([] ∷ []) (bases c q)))

@@ -3,7 +3,7 @@ use Rattle.std.proofs.Common.{◌≡◌, ℕ, ◌+◌, ◌*◌, ◌≤◌, List,
 use Rattle.plan_law.specs.Touched.{Marked, marked_pairs, count_marked}
 use Rattle.operator_law.specs.Bags.{weigh}
 use Rattle.operator_law.proofs.Weights.{weigh-same, weigh-filter, weigh-map, weigh-flat_map, weigh-plus}
-use Rattle.plan_law.proofs.Weights.{weigh-zero}
+use Rattle.plan_law.proofs.Weights.{weigh-zero, swap_tests}
 
 -- how many pairs pass the test, of those on the left and those on the right that are picked by their marks
 abbrev pub pairs : {A : Type 0} → (List A → List A → Bool) → (Bool → Bool) → (Bool → Bool) → List (Marked A) → List (Marked A) → ℕ
@@ -24,12 +24,6 @@ cells_of {A} p xs = map (λ (x : Marked A). x.0) (filter (λ (x : Marked A). p x
 
 pub weigh-cells : {A : Type 0} (p : Bool → Bool) (f : List A → ℕ) (xs : List (Marked A)) → weigh f (cells_of p xs) ≡ weigh (λ (x : Marked A). cond (p x.1) (f x.0) 0) xs
 weigh-cells {A} p f xs = weigh-map f (λ (x : Marked A). x.0) (filter (λ (x : Marked A). p x.1) xs) ∙ weigh-filter _ (λ (x : Marked A). p x.1) xs
-
-flip : (t b : Bool) (n : ℕ) → cond t (cond b n 0) 0 ≡ cond b (cond t n 0) 0
-flip true true n = refl
-flip true false n = refl
-flip false true n = refl
-flip false false n = refl
 
 -- the marked and the plain are all
 pub weigh-parts : {A : Type 0} (f : List A → ℕ) (xs : List (Marked A)) → weigh f (cells_of any xs) ≡ weigh f (cells_of plain xs) + weigh f (cells_of marked xs)
@@ -63,7 +57,7 @@ module _ {A : Type 0} (t : List A → List A → Bool) where
       one : (x : Marked A) (b : Bool) → weigh (λ (y : Marked A). cond (t x.0 y.0) (cond (b || y.1) 1 0) 0) ys
           ≡ cond b (weigh (λ (y : Marked A). cond true (cond (t x.0 y.0) 1 0) 0) ys) 0 + cond (not b) (weigh (λ (y : Marked A). cond y.1 (cond (t x.0 y.0) 1 0) 0) ys) 0
       one x true = omega arith
-      one x false = omega (arith, weigh-same _ _ (λ (y : Marked A). flip (t x.0 y.0) y.1 1) ys)
+      one x false = omega (arith, weigh-same _ _ (λ (y : Marked A). swap_tests (t x.0 y.0) y.1 1) ys)
 
   -- any are the marked and the plain
   any_right : (p : Bool → Bool) (xs ys : List (Marked A)) → pairs t p any xs ys ≡ pairs t p marked xs ys + pairs t p plain xs ys
@@ -112,7 +106,7 @@ module _ {A : Type 0} (t : List A → List A → Bool) where
           ≡ cond (not b) (weigh (λ y. cond (t x.0 y) (f (x.0 ++ y)) 0) (cells_of plain ys)) 0
       one x true = weigh-zero _ (λ (y : Marked A). none (t x.0 y.0)) ys
       one x false =
-          weigh-same _ _ (λ (y : Marked A). flip (t x.0 y.0) (not y.1) (f (x.0 ++ y.0))) ys
+          weigh-same _ _ (λ (y : Marked A). swap_tests (t x.0 y.0) (not y.1) (f (x.0 ++ y.0))) ys
           ∙ sym (weigh-cells plain (λ y. cond (t x.0 y) (f (x.0 ++ y)) 0) ys)
 
   pub weigh-any : (f : List A → ℕ) (xs ys : List (Marked A)) → weigh f (cells_of any (marked_pairs t xs ys)) ≡ of_picked any f xs ys

@@ -4,6 +4,7 @@ use Rattle.std.specs.Prelude.{zip}
 use Rattle.std.specs.List.{AllByRecursion}
 use Rattle.std.proofs.lemmas.List.{map-append}
 use Rattle.std.proofs.lemmas.Slice.Zip.{seconds-zip, firsts-zip}
+use Rattle.std.proofs.Math.Nat.{add-zero}
 use Rattle.ss_text.specs.Texts.{Text}
 use Rattle.plan_law.specs.Kinds.{Term, Range}
 use Rattle.plan_law.specs.Kinds.range
@@ -14,7 +15,6 @@ use Rattle.plan_law.specs.PlanRows.{texts}
 use Rattle.schema_delta.specs.declared.spec.FlatSpec.{FlatSpec}
 use Rattle.plan_law.specs.Columns.{spec_of}
 use Rattle.plan_law.specs.Touched.{Marked, marked_pairs, count_marked, both_tested, touched, under, marked_bases}
-use Rattle.plan_law.proofs.Weights.{plus_none}
 use Rattle.plan_law.proofs.KeyLaws.{tested_keys}
 use Rattle.plan_law.proofs.Widths.{all_flat_map_of, all_map_of}
 use Rattle.plan_law.proofs.PlainRows.{zipped, sizes, IsUnder}
@@ -140,7 +140,7 @@ module _ (q : Query) (flats : FlatSpec → Marks) where
         weigh-filter f (λ (r : Marked Text). own_holds q [] start r.0) first_flats
         ∙ sym (
         weigh-pairs (both_tested q) (λ (z : Marked Column). f (texts z.0, z.1)) (([], false) ∷ []) first_combos
-        ∙ plus_none (weigh (λ (y : Marked Column). cond (is_tested q y.0) (f (texts y.0, y.1)) 0) first_combos)
+        ∙ add-zero (weigh (λ (y : Marked Column). cond (is_tested q y.0) (f (texts y.0, y.1)) 0) first_combos)
         ∙ weigh-map _ (λ (r : Marked Text). (zip start r.0, r.1)) first_flats
         ∙ weigh-same_where (λ (r : Marked Text). length r.0 ≡ length start) _ _ (λ (r : Marked Text) w.
         ap (λ b. cond b (f (texts (zip start r.0), r.1)) 0) (start_tested q start r.0 w)

@@ -2,6 +2,7 @@
 use Rattle.std.proofs.Common.{◌≡◌, inl, inr, subst, ℕ, ◌+◌, List, [], ◌∷◌, ◌++◌, length, map, Bool, true, false, cond, refl, arith, ap, sym, ◌∙◌, Option, Some, None, is_some, append_assoc, append-nil}
 use Rattle.std.specs.Prelude.{option_to_list, flat_map, zip}
 use Rattle.std.specs.List.{slice_get, range_with_len}
+use Rattle.std.proofs.Math.Nat.{add-zero}
 use Rattle.ss_text.specs.Texts.{Text, Row, text_eq}
 use Rattle.schema_model.specs.Catalogue.{RelationValue, DatabaseValue, CatalogueValue}
 use Rattle.schema_model.specs.Sound.{IsRelation, IsSound}
@@ -16,7 +17,7 @@ use Rattle.valuation_meaning.specs.Terms.{Reading}
 use Rattle.valuation_meaning.specs.Meaning.{term_of}
 use Rattle.schema_delta.specs.Flat.{flat}
 use Rattle.plan_law.specs.Columns.{Combo, tested_terms, wanted, fold_of, spec_of, fold_header, header}
-use Rattle.plan_law.proofs.Weights.{plus_none, weigh-places}
+use Rattle.plan_law.proofs.Weights.{weigh-places}
 use Rattle.plan_law.proofs.Columns.{Has, has_left, has_right}
 use Rattle.plan_law.proofs.Held.{Picked, PickedFor, HeldTuple, fold_is}
 use Rattle.plan_law.proofs.Agree.{left, left-own, IsWeight}
@@ -119,7 +120,7 @@ module _ (c : CatalogueValue) (sound : IsSound c) (q : Query) (folds : FoldsText
       some_cells : (cells : Row) → cells_under rel.attributes (wanted q k) row ≡ Some cells → (fold : Option ℕ) → fold_of q k ≡ fold → weigh row_weight (per_field (is_some (fold_of q k)) (fields rel row) cells) ≡ inside d rel (left c g longer x ds)
       some_cells cells are None none =
           ap (λ (o : Option ℕ). weigh (λ tail. right c sound q g weight (x ++ (term_of p, d.name) ∷ (term_of r, rel.name) ∷ zip (map (cell_term k) (wanted q k) ++ fold_header k o) tail) more) (per_field (is_some o) (fields rel row) cells)) none
-          ∙ plus_none (right c sound q g weight (x ++ (term_of p, d.name) ∷ (term_of r, rel.name) ∷ zip (map (cell_term k) (wanted q k) ++ []) cells) more)
+          ∙ add-zero (right c sound q g weight (x ++ (term_of p, d.name) ∷ (term_of r, rel.name) ∷ zip (map (cell_term k) (wanted q k) ++ []) cells) more)
           ∙ ap (λ (h : List Term). right c sound q g weight (x ++ (term_of p, d.name) ∷ (term_of r, rel.name) ∷ zip h cells) more) (append-nil (map (cell_term k) (wanted q k)))
           ∙ alone cells are none
       some_cells cells are (Some u) fold =
@@ -140,7 +141,7 @@ module _ (c : CatalogueValue) (sound : IsSound c) (q : Query) (folds : FoldsText
       each_row (Some cells) are =
           sym (
           weigh-flat_map row_weight (per_field (is_some (fold_of q k)) (fields rel row)) (cells ∷ [])
-          ∙ plus_none (weigh row_weight (per_field (is_some (fold_of q k)) (fields rel row) cells))
+          ∙ add-zero (weigh row_weight (per_field (is_some (fold_of q k)) (fields rel row) cells))
           ∙ some_cells cells are (fold_of q k) refl)
 
     pub step_tuples : Step c sound q g weight v x k size ds more (range.Tuples p r)

@@ -20,9 +20,6 @@ weigh-filter_map {X} {Y} f h (x ∷ xs) = one (h x) (weigh-filter_map f h xs)
     one None e = omega (arith, e)
     one (Some y) e = omega (arith, e)
 
-pub plus_none : (n : ℕ) → n + 0 ≡ n
-plus_none n = omega arith
-
 -- a test in front
 pub cond-none : (b : Bool) → ◌≡◌ {A = ℕ} (cond b 0 0) 0
 cond-none = elim [ true ↦ refl | false ↦ refl ]

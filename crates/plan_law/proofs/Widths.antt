@@ -4,6 +4,7 @@ use Rattle.std.specs.Prelude.{flat_map, zip, slice_index_or}
 use Rattle.std.specs.List.{slice_get, AllByRecursion}
 use Rattle.std.proofs.lemmas.List.{length-append, length-map, map-append}
 use Rattle.std.proofs.lemmas.Slice.Zip.{firsts-zip}
+use Rattle.std.proofs.Math.Nat.{add-zero}
 use Rattle.ss_text.specs.Texts.{Text, Row}
 use Rattle.schema_model.specs.Catalogue.{RelationValue, DatabaseValue, CatalogueValue}
 use Rattle.plan_law.specs.Kinds.{Place, Term, Range}
@@ -87,11 +88,8 @@ tuple_width q k x = one (fold_of q k)
     size : (o : Option ℕ) → length (map (cell_term k) (wanted q k) ++ fold_header k o) ≡ length (wanted q k) + length (fold_header k o)
     size o = length-append (map (cell_term k) (wanted q k)) (fold_header k o) ∙ ap (λ n. n + length (fold_header k o)) (length-map (wanted q k) (cell_term k))
 
-    plus_none : (n : ℕ) → n + 0 ≡ n
-    plus_none n = omega arith
-
     one : (o : Option ℕ) → AllByRecursion (HasWidth (length (map (cell_term k) (wanted q k) ++ fold_header k o))) (cond (is_some o) (fold_value (wanted q k) x) (pick_value (wanted q k) x))
-    one None = subst (λ n. AllByRecursion (HasWidth n) (pick_value (wanted q k) x)) (sym (size None ∙ plus_none (length (wanted q k)))) (pick_width (wanted q k) x)
+    one None = subst (λ n. AllByRecursion (HasWidth n) (pick_value (wanted q k) x)) (sym (size None ∙ add-zero (length (wanted q k)))) (pick_width (wanted q k) x)
     one (Some u) = subst (λ n. AllByRecursion (HasWidth n) (fold_value (wanted q k) x)) (sym (size (Some u))) (fold_width (wanted q k) x)
 
 values_width : (a : Place) (x : SheetValue) → AllByRecursion (HasWidth 2) (values_of a x)

@@ -1,5 +1,5 @@
 -- What a plan stands for, by the joins of its fields.
-use Rattle.std.proofs.Common.{◌≡◌, List, map, Option, refl, ap, sym, ◌∙◌, subst}
+use Rattle.std.proofs.Common.{◌≡◌, List, map, Option, refl, sym, ◌∙◌, subst}
 use Rattle.std.specs.List.{AllZip}
 use Rattle.schema_model.specs.Catalogue.{CatalogueValue}
 use Rattle.view_def.specs.Query.{Query}
@@ -8,7 +8,7 @@ use Rattle.plan_law.specs.Chain.{Joint, SideMoves}
 use Rattle.plan_law.specs.PlanRows.{plan_joints, first_rows, further_rows}
 use Rattle.plan_walk.specs.Stages.{joint_in, sides_in, side_moves}
 use Rattle.plan_translate.specs.declared.plan.Plan.TheInside.{Inside}
-use Rattle.plan_translate.specs.Read.{is_read, kept_moves}
+use Rattle.plan_translate.specs.Read.{is_read}
 use Rattle.plan_translate.specs.Moves.{MovesChain, MovesSides}
 use Rattle.plan_translate.specs.Plans.{PlanValue, query_in, JoinsStand, PlanStands, StandsAs}
 use Rattle.plan_translate.specs.PlanFields.{query_inside, seen, IsPlan}

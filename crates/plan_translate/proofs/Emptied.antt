@@ -1,6 +1,5 @@
 -- Moves of sides of which the right ones are emptied, one after another.
-use Rattle.std.proofs.Common.{◌≡◌, ◌<◌, ◌+◌, ℕ, zero, suc, List, [], ◌∷◌, length, map, get_or, set, refl, ap, sym, ◌∙◌, subst, arith}
-use Rattle.operator_law.specs.declared.delta.Signed.{Signed}
+use Rattle.std.proofs.Common.{◌≡◌, ◌<◌, ◌+◌, ℕ, zero, suc, List, [], ◌∷◌, length, map, get_or, set, refl, ap, ◌∙◌, arith}
 use Rattle.plan_law.specs.Chain.{SideMoves}
 use Rattle.plan_walk.specs.Stages.{side_moves}
 use Rattle.plan_translate.specs.Read.{left_moves}

@@ -1,5 +1,5 @@
 -- What fills a plan.
-use Rattle.std.proofs.Common.{◌≡◌, ◌+◌, ◌≤◌, ℕ, List, [], ◌∷◌, Vec, length, map, get_or, drop, Bool, true, false, cond, None, refl, ap, sym, ◌∙◌, subst, arith}
+use Rattle.std.proofs.Common.{◌≡◌, ◌+◌, ◌≤◌, List, [], ◌∷◌, Vec, length, map, get_or, drop, Bool, true, cond, None, refl, ap, sym, ◌∙◌, subst, arith}
 use Rattle.std.specs.Global.{Global}
 use Rattle.std.proofs.lemmas.List.{length-map}
 use Rattle.ss_text.specs.Texts.{Row}

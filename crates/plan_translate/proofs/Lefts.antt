@@ -1,5 +1,5 @@
 -- Joins that keep their left sides alone, beside those that keep both.
-use Rattle.std.proofs.Common.{◌≡◌, ◌+◌, ℕ, List, [], ◌∷◌, Bool, true, false, cond, length, map, get_or, drop, refl, ap, sym, ◌∙◌, subst, arith}
+use Rattle.std.proofs.Common.{◌≡◌, List, [], ◌∷◌, Bool, true, false, cond, length, map, get_or, drop, refl, ap, sym, ◌∙◌, subst, arith}
 use Rattle.std.specs.List.{AllZip}
 use Rattle.std.proofs.lemmas.List.{length-map}
 use Rattle.ss_text.specs.Texts.{Row}
@@ -10,7 +10,7 @@ use Rattle.plan_law.specs.Chain.{Joint, Sides, SideMoves, joint_rows, Keeps}
 use Rattle.plan_walk.specs.Stages.{joint_in, sides_in, side_moves}
 use Rattle.plan_translate.specs.Read.{left_side, left_moves}
 use Rattle.plan_translate.specs.Moves.{MovesChain}
-use Rattle.plan_translate.specs.Sides.{LikeJoin, CanMove, Moved, AllMoved}
+use Rattle.plan_translate.specs.Sides.{LikeJoin, CanMove, AllMoved}
 use Rattle.plan_translate.proofs.Each.{Pair}
 use Rattle.plan_translate.proofs.Stages.{can_move, keeps_on, like_keeps}
 

@@ -1,6 +1,6 @@
 -- Moves that pass a plan's tests are those of the law, and walk as it says.
-use Rattle.std.proofs.Common.{◌≡◌, ◌<◌, ◌≤◌, take, get_or, ℕ, zero, suc, List, [], ◌∷◌, ◌++◌, ◌&&◌, cond, filter, map, Bool, refl, ap, sym, ◌∙◌, subst, arith, None, Option, length, true, false}
-use Rattle.std.specs.List.{list_all, slice_get, AllZip, AllByRecursion}
+use Rattle.std.proofs.Common.{◌≡◌, ◌<◌, ◌≤◌, take, get_or, ℕ, suc, List, [], ◌∷◌, ◌++◌, cond, filter, map, Bool, refl, ap, sym, ◌∙◌, subst, arith, length, true, false}
+use Rattle.std.specs.List.{list_all, AllZip, AllByRecursion}
 use Rattle.std.specs.Prelude.{Vec}
 use Rattle.std.specs.Global.{Global}
 use Rattle.std.proofs.lemmas.List.{length_push, length-map, length-take-le, map-append, take_all}
@@ -10,46 +10,26 @@ use Rattle.plan_law.specs.Kinds.{Term, Range}
 use Rattle.plan_law.specs.Kinds.range
 use Rattle.view_def.specs.Query.{Query}
 use Rattle.operator_law.specs.declared.delta.Signed.{Signed}
-use Rattle.operator_law.specs.Bags.{MovesBag}
 use Rattle.schema_delta.specs.declared.spec.FlatSpec.{FlatSpec}
 use Rattle.schema_delta.specs.Flat.{flat, MovesBetween}
 use Rattle.plan_law.specs.Net.{SameNet, IsNet}
-use Rattle.plan_law.specs.Columns.{header, may_equal}
-use Rattle.plan_law.specs.Links.{Source, Link, source_text, link_holds, own_links, own_holds}
+use Rattle.plan_law.specs.Columns.{header}
+use Rattle.plan_law.specs.Links.{own_links, own_holds}
 use Rattle.plan_law.specs.Links as link
 use Rattle.plan_law.specs.PlanMoves.{own_moves, moves_from, first_moves, further_moves}
+use Rattle.plan_law.proofs.ChainLaw.{moves_net}
 use Rattle.plan_form.specs.declared.base.Equal.{Equal}
-use Rattle.plan_form.specs.Cells.{text_in, right_cell}
 use Rattle.plan_form.specs.Bases.{BaseValue, own_cells, equal_holds, base_form, bases_from}
+use Rattle.plan_form.proofs.Columns.{own_tested}
 use Rattle.plan_translate.specs.Parts.{bases_of, passing, each_passing, own_tests}
 use Rattle.plan_translate.proofs.Bases.{FirstBase}
 use Rattle.plan_translate.proofs.Each.{one_more}
-
-no_cell : (i : ℕ) → ◌≡◌ {A = Option (List ℕ)} None (slice_get [] i)
-no_cell zero = refl
-no_cell (suc i) = refl
-
-text_at : (row : Row) (s : Source) → text_in row (right_cell s) ≡ source_text [] row s
-text_at row (link.Given t) = refl
-text_at row (link.Left i) = no_cell i
-text_at row (link.Right j) = refl
-
-link_at : (row : Row) (l : Link) → equal_holds row (own_cells l) ≡ link_holds [] row l
-link_at row l =
-    ap (λ a. may_equal a (text_in row (right_cell l.1))) (text_at row l.0)
-    ∙ ap (λ b. may_equal (source_text [] row l.0) b) (text_at row l.1)
-
-pub links_at : (row : Row) (ls : List Link) → list_all (equal_holds row) (map own_cells ls) ≡ list_all (link_holds [] row) ls
-links_at row [] = refl
-links_at row (l ∷ ls) =
-    ap (λ b. b && list_all (equal_holds row) (map own_cells ls)) (link_at row l)
-    ∙ ap (λ b. link_holds [] row l && b) (links_at row ls)
 
 passing_own : (q : Query) (h d : List Term) (ms : List Signed) → passing (map own_cells (own_links q h d)) ms ≡ own_moves q h d ms
 passing_own q h d [] = refl
 passing_own q h d (m ∷ ms) =
     let ts = map own_cells (own_links q h d) in
-    ap (λ (b : Bool). cond b (m ∷ passing ts ms) (passing ts ms)) (links_at m.row (own_links q h d))
+    ap (λ (b : Bool). cond b (m ∷ passing ts ms) (passing ts ms)) (own_tested m.row (own_links q h d))
     ∙ ap (λ (l : List Signed). cond (own_holds q h d m.row) (m ∷ l) l) (passing_own q h d ms)
 
 abbrev pub own_in : BaseValue → List Equal
@@ -79,10 +59,6 @@ module _ (q : Query) (b : FirstBase q) where
   own_split tests are nets some =
       ap (λ (ts : List (List Equal)). each_passing ts nets) (are ∙ ap (map own_in) b.bases)
       ∙ subst (λ (ds : List Range). AreOwn q ds nets (each_passing (map own_in (base_form q [] 0 b.first ∷ bases_from q (header q 0 b.first) 1 b.rest)) nets)) (sym b.all) (own_first nets some)
-
--- moves in net move as much
-pub moves_net : (xs ys : List Row) (ms ns : List Signed) → MovesBag xs ms ys → SameNet ms ns → MovesBag xs ns ys
-moves_net xs ys ms ns h same f = omega (arith, h f, same f)
 
 pub flat_nets : (c c' : CatalogueValue) (ss : List FlatSpec) (mss nss : List (List Signed)) → AllZip (MovesBetween c c') ss mss → AllZip SameNet mss nss → AllZip (MovesBetween c c') ss nss
 flat_nets c c' [] [] [] moved same = tt

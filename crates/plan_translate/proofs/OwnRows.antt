@@ -18,16 +18,17 @@ use Rattle.plan_law.proofs.First.{first_of}
 use Rattle.plan_law.proofs.Profile.{ranges}
 use Rattle.plan_form.specs.declared.base.Equal.{Equal}
 use Rattle.plan_form.specs.Bases.{own_cells, bases_from}
+use Rattle.plan_form.proofs.Columns.{own_tested}
 use Rattle.plan_translate.specs.Parts.{bases_of, own_tests}
 use Rattle.plan_translate.specs.Listed.{rows_passing, own_listed}
-use Rattle.plan_translate.proofs.OwnMoves.{links_at, own_in}
+use Rattle.plan_translate.proofs.OwnMoves.{own_in}
 use Rattle.plan_translate.proofs.Each.{one_more}
 
 rows_own : (q : Query) (h d : List Term) (rows : List Row) → rows_passing (map own_cells (own_links q h d)) rows ≡ filter (own_holds q h d) rows
 rows_own q h d [] = refl
 rows_own q h d (x ∷ xs) =
     let ts = map own_cells (own_links q h d) in
-    ap (λ (b : Bool). cond b (x ∷ rows_passing ts xs) (rows_passing ts xs)) (links_at x (own_links q h d))
+    ap (λ (b : Bool). cond b (x ∷ rows_passing ts xs) (rows_passing ts xs)) (own_tested x (own_links q h d))
     ∙ ap (λ (l : List Row). cond (own_holds q h d x) (x ∷ l) l) (rows_own q h d xs)
 
 module _ (c : CatalogueValue) where

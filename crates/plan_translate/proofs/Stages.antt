@@ -22,14 +22,13 @@ use Rattle.plan_law.specs.Laws.{IsWalk}
 use Rattle.plan_law.specs.PlanRows.{specs_from, own_rows, rows_from, joints_from, plan_joints, first_rows, further_rows}
 use Rattle.plan_law.specs.PlanMoves.{own_moves, moves_from, first_moves, further_moves, fact_rows, fact_moves}
 use Rattle.plan_law.proofs.First.{First, first_of}
-use Rattle.plan_law.proofs.ChainLaw.{joint_moved}
+use Rattle.plan_law.proofs.ChainLaw.{joint_moved, moves_net}
 use Rattle.plan_law.proofs.PlanLaws.{facts_move}
 use Rattle.plan_walk.specs.Stages.{joint_in, sides_in, side_moves}
 use Rattle.plan_translate.specs.Moves.{MovesChain, MovesAll}
 use Rattle.plan_translate.specs.Plans.{PlanMoveValue, PlanMoves}
 use Rattle.plan_translate.specs.Walked.{Walked}
 use Rattle.plan_translate.specs.Sides.{SameKeys, LikeJoin, CanMove, AllMoved}
-use Rattle.plan_translate.proofs.OwnMoves.{moves_net}
 
 -- the sides' moves of a walk take what comes to each join to what comes to it after the change
 walk_moves : (js : List Joint) (ks : List Sides) (xs xs' : List Row) (yss yss' : List (List Row)) (ms out : List Signed) (nss : List (List Signed)) (ps : List SideMoves)

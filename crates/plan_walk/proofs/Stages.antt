@@ -54,10 +54,6 @@ pub nets_push : (ps : List SideMoves) (p : SideMoves) → AreNet ps → IsNet p.
 nets_push [] p h l r = (l, r, tt)
 nets_push (p' ∷ ps) p h l r = (h.0, h.1, nets_push ps p h.2 l r)
 
-pub all_left : {X : Type 0} (P : X → Type 0) (xs ys : List X) → AllByRecursion P (xs ++ ys) → AllByRecursion P xs
-all_left P [] ys h = tt
-all_left P (x ∷ xs) ys h = (h.0, all_left P xs ys h.1)
-
 pub all_last : {X : Type 0} (P : X → Type 0) (xs : List X) (y : X) → AllByRecursion P (xs ++ y ∷ []) → P y
 all_last P [] y h = h.0
 all_last P (x ∷ xs) y h = all_last P xs y h.1

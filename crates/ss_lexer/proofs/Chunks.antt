@@ -100,9 +100,6 @@ equal : (a b : ℕ) → (a == b) ≡ true → a ≡ b
 equal a b e = elim (eqb_tells a b) [ inl p ↦ p.1 | inr p ↦ absurd (true≢false (sym e ∙ p.0)) ]
 
 -- words
-pub and_parts : (a b : Bool) → (a && b) ≡ true → (a ≡ true) × (b ≡ true)
-and_parts true b h = (refl, h)
-and_parts false b h = absurd (cc)
 
 -- a word is all of these bytes
 pub record IsWord (w : List ℕ) : Type 0 where

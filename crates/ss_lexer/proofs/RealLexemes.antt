@@ -4,6 +4,7 @@ use Rattle.std.specs.Prelude.{if◌then◌else◌, slice_range}
 use Rattle.std.specs.Char.{is_ascii_digit}
 use Rattle.std.specs.Str.{str_to_ascii_lowercase}
 use Rattle.std.proofs.lemmas.List.{length-take-le, take-append-drop}
+use Rattle.std.proofs.lemmas.Bool.{and_parts}
 use Rattle.ss_text.specs.Texts.{Text, is_in}
 use Rattle.ss_lexer.specs.declared.token.Kind.{Kind}
 use Rattle.ss_lexer.specs.declared.token.Kind.TheVariants as kind
@@ -12,7 +13,7 @@ use Rattle.ss_lexer.specs.Spelling.{is_blank, is_letter, in_word, goes_on, first
 use Rattle.ss_lexer.specs.Tokens.{Answer, token, quotation, sign, answer, is_number, further, followed, tokens_from, tokens}
 use Rattle.ss_lexer.specs.Lexemes.{Lexeme, Ident, Key, Piece, keywords, word, lexeme_of, lexeme_in, piece_in, pieces}
 use Rattle.ss_lexer.proofs.Spans.{stands, word_some, word_inside, further_inside}
-use Rattle.ss_lexer.proofs.Chunks.{IsWord, and_parts, slice_middle}
+use Rattle.ss_lexer.proofs.Chunks.{IsWord, slice_middle}
 
 -- an identifier is a word that spells no keyword
 abbrev pub IsReal : Lexeme → Type 0

@@ -4,25 +4,18 @@ use Rattle.std.specs.Prelude.{IfOk, OnErr, slice_get}
 use Rattle.std.specs.List.{prefix_len}
 use Rattle.std.proofs.lemmas.List.{drop-drop}
 use Rattle.std.proofs.lemmas.Bool.Decides.{eqb_tells}
+use Rattle.std.proofs.Math.Bool.{and-true, and-false}
 use Rattle.ss_lexer.specs.Spelling.{is_blank, first_passes}
 use Rattle.ss_lexer.specs.declared.token.Kind.{Kind}
 use Rattle.ss_lexer.specs.Tokens.{Answer, token, answer, is_num, followed, tokens_from, behind_first, IsFirst}
 use Rattle.ss_lexer.proofs.Spans.{Stands, stands}
-
-and_true : (b : Bool) → (b && true) ≡ b
-and_true true = refl
-and_true false = refl
-
-and_false : (b : Bool) → (b && false) ≡ false
-and_false true = refl
-and_false false = refl
 
 -- the tokens behind so many blanks
 abbrev behind_some : Bool → ℕ → List ℕ → ℕ → List Answer
 behind_some behind at xs n = tokens_from (behind && (n == 0)) 0 (at + n) (drop n xs)
 
 behind_none : (behind : Bool) (at : ℕ) (xs : List ℕ) → tokens_from behind 0 at xs ≡ behind_some behind at xs 0
-behind_none behind at xs = ap (λ b. tokens_from b 0 at xs) (sym (and_true behind)) ∙ ap (λ m. tokens_from (behind && true) 0 m xs) (sym (add-zero at))
+behind_none behind at xs = ap (λ b. tokens_from b 0 at xs) (sym (and-true behind)) ∙ ap (λ m. tokens_from (behind && true) 0 m xs) (sym (add-zero at))
 
 behind_one : (behind : Bool) (at x : ℕ) (xs : List ℕ) (n : ℕ) → tokens_from false 0 (suc at) xs ≡ behind_some false (suc at) xs n → (b : Bool) → is_blank x ≡ b → tokens_from behind 0 at (x ∷ xs) ≡ behind_some behind at (x ∷ xs) (cond b (1 + n) 0)
 behind_one behind at x xs n h false e = behind_none behind at (x ∷ xs)
@@ -37,7 +30,7 @@ behind_one behind at x xs n h true e =
     later at n = omega arith
 
     not_none : (b : Bool) (n : ℕ) → (b && (1 + n == 0)) ≡ false
-    not_none b n = ap (λ c. b && c) (elim (eqb_tells (1 + n) 0) as (λ _. (1 + n == 0) ≡ false) [ inl p ↦ absurd (omega arith) | inr p ↦ p.0 ]) ∙ and_false b
+    not_none b n = ap (λ c. b && c) (elim (eqb_tells (1 + n) 0) as (λ _. (1 + n == 0) ≡ false) [ inl p ↦ absurd (omega arith) | inr p ↦ p.0 ]) ∙ and-false b
 
 -- blanks mean nothing
 pub behind_blanks : (behind : Bool) (at : ℕ) (xs : List ℕ) → tokens_from behind 0 at xs ≡ behind_some behind at xs (prefix_len is_blank xs)

@@ -1,8 +1,8 @@
 -- A phrase reads some of the pieces ahead, or stops at one of them, where these have their end.
-use Rattle.std.proofs.Common.{◌≡◌, ℕ, zero, suc, ◌+◌, ◌<◌, ◌≤◌, Bool, true, false, List, [], ◌∷◌, ◌++◌, length, Option, Some, None, ◌⊎◌, ⊎_elim, refl, sym, ◌∙◌, ap, subst, inl, inr, arith, length-append}
+use Rattle.std.proofs.Common.{◌≡◌, ℕ, zero, suc, ◌<◌, ◌≤◌, Bool, true, false, List, [], ◌∷◌, length, Option, Some, None, ◌⊎◌, ⊎_elim, refl, ap, subst, inl, inr, arith, length-append}
 use Rattle.std.specs.Prelude.{MatchBool}
 use Rattle.ss_lexer.specs.Lexemes.{Piece}
-use Rattle.ss_parser.specs.Phrases.{Phrase, next, passes, token, token_reads, token_stops, gives, ◌>>=◌, by_next, Listed, last, more, ListStops, here, later, listed, limit}
+use Rattle.ss_parser.specs.Phrases.{Phrase, next, passes, token, gives, ◌>>=◌, by_next, last, more, here, later, listed, limit}
 use Rattle.ss_parser.specs.Ahead.{is_end}
 use Rattle.ss_parser.proofs.PhraseLaws.{Laws}
 

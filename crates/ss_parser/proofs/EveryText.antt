@@ -1,22 +1,21 @@
 -- Every text is read as a view, or is refused at some place.
-use Rattle.std.proofs.Common.{◌≡◌, ◌≢◌, ℕ, zero, suc, Bool, true, false, List, [], ◌∷◌, map, length, Option, Some, None, Ok, Err, ◌⊎◌, ⊎_elim, refl, sym, ◌∙◌, ap, subst, inl, inr}
+use Rattle.std.proofs.Common.{◌≡◌, ◌≢◌, ℕ, zero, suc, Bool, true, false, List, [], ◌∷◌, map, length, Option, Some, None, Ok, Err, ⊎_elim, refl, sym, ◌∙◌, ap, subst, inl, inr}
 use Rattle.std.specs.Prelude.{◌&&◌, not, if◌then◌else◌, codes, MatchBool}
 use Rattle.std.specs.Str.{str_to_ascii_lowercase}
+use Rattle.std.proofs.lemmas.Bool.{and_parts}
 use Rattle.ss_text.specs.Texts.{Text, is_in}
 use Rattle.view_def.specs.declared.written.Name.{Name}
 use Rattle.view_def.specs.declared.written.RawTerm.TheVariants as term
 use Rattle.view_def.specs.declared.written.RawRange.{RawRange}
 use Rattle.view_def.specs.declared.written.RawRange.TheVariants as range
-use Rattle.view_def.specs.RawConditions.{Raw, NotRaw, CompareRaw}
-use Rattle.view_def.specs.Tree.{ViewTree}
+use Rattle.view_def.specs.RawConditions.{NotRaw, CompareRaw}
 use Rattle.ss_lexer.specs.declared.token.Kind.{Kind}
 use Rattle.ss_lexer.specs.declared.token.Kind.TheVariants as kind
 use Rattle.ss_lexer.specs.declared.token.TokenFault.TheVariants as token_fault
 use Rattle.ss_lexer.specs.Tokens.{Answer, tokens}
 use Rattle.ss_lexer.specs.Sound.{is_last, is_inside, are_sound}
-use Rattle.ss_lexer.specs.Lexemes.{Lexeme, Ident, Key, Quoted, Literal, Mark, Finish, Bad_byte, Open_quote, Piece, keywords, word, lexeme_of, lexeme_in, piece_in, pieces}
+use Rattle.ss_lexer.specs.Lexemes.{Lexeme, Ident, Key, Quoted, Literal, Mark, Finish, Bad_byte, Open_quote, Piece, keywords, word, lexeme_of, piece_in, pieces}
 use Rattle.ss_lexer.proofs.Spans.{sound_tokens}
-use Rattle.ss_lexer.proofs.Chunks.{and_parts}
 use Rattle.ss_parser.specs.declared.fault.ParseFault.{ParseFault}
 use Rattle.ss_parser.specs.declared.fault.ParseFault.TheVariants as fault
 use Rattle.ss_parser.specs.Phrases.{Phrase, gives, ◌>>=◌, by_next, listed, limit}
@@ -25,11 +24,11 @@ use Rattle.ss_parser.specs.Terms.{one, just, key, sign, says_key, says_sign, is_
 use Rattle.ss_parser.specs.Declarations.{decl_of, var, arrow_var, column_var, cell_var, in_relation, in_database, behind_name, named, decl}
 use Rattle.ss_parser.specs.Conditions.{an_operator, operator, comparison, any_of, all_of, all, any, negation, group, starts_term, opens, inside, nested, unit}
 use Rattle.ss_parser.specs.Views.{head_of, columns, target, header, selection, declarations, says_finish, is_finish, finish, closed, end, filtered, unfiltered, ending, tree_with, view}
-use Rattle.ss_parser.specs.Refused.{HasReading, IsRead, IsRefused, fault_at, fault_by}
+use Rattle.ss_parser.specs.Refused.{HasReading, IsRefused, fault_at, fault_by}
 use Rattle.ss_parser.proofs.ViewLaws.{name_laws, a_term_laws, decl_laws, after_term, word as a_word, the_sign, unit_laws, all_laws, after_all}
 use Rattle.ss_parser.proofs.PhraseLaws.{always}
 use Rattle.ss_parser.proofs.Refusals.{is_read, refused, refused_too_deep}
-use Rattle.ss_parser.proofs.Decided.{AreEnded, SomeRead, AllRead, Stopped, Decided, AllDecided, token_decided, last_decided, gives_decided, then_decided, then_all_decided, mapped_decided, mapped_all_decided, by_next_decided, by_next_all_decided, limit_decided, listed_decided}
+use Rattle.ss_parser.proofs.Decided.{AreEnded, AllRead, Stopped, Decided, AllDecided, token_decided, last_decided, gives_decided, then_decided, then_all_decided, mapped_decided, mapped_all_decided, by_next_decided, by_next_all_decided, limit_decided, listed_decided}
 
 -- a piece that says one of these is no end, where none of these is
 module _ {A : Type 0} (f : Lexeme → Option A) (inner : (l : Lexeme) (a : A) → f l ≡ Some a → ends l ≡ false) where

@@ -1,6 +1,7 @@
 -- The pieces ahead, as a reader moves on.
 use Rattle.std.proofs.Common.{◌≡◌, ℕ, Bool, true, false, ◌&&◌, ◌||◌, not, List, [], ◌∷◌, length, drop, map, Some, Ok, Err, refl, sym, ap, ◌∙◌, subst, unwrap_or}
 use Rattle.std.specs.Prelude.{slice_get, slice_range}
+use Rattle.std.proofs.lemmas.Bool.{and_parts}
 use Rattle.ss_lexer.specs.declared.token.Kind.{Kind}
 use Rattle.ss_lexer.specs.declared.token.Kind.TheVariants as kind
 use Rattle.ss_lexer.specs.declared.token.TokenFault.TheVariants as fault
@@ -10,10 +11,6 @@ use Rattle.ss_lexer.specs.Lexemes.{Piece, lexeme_of, piece_in, pieces}
 use Rattle.ss_lexer.proofs.Spans.{sound_tokens}
 use Rattle.ss_parser.specs.Phrases.{next, passes}
 use Rattle.ss_parser.specs.Ahead.{pieces_ahead, is_held, ends, is_end}
-
-and_parts : (a b : Bool) → (a && b) ≡ true → (a ≡ true) × (b ≡ true)
-and_parts true b h = (refl, h)
-and_parts false b h = absurd (cc)
 
 same : (x a : Answer) → Some x ≡ Some a → x ≡ a
 same x a e = ap (λ o. unwrap_or o a) e

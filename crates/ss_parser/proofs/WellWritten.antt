@@ -1,12 +1,13 @@
 -- What is read is well written.
-use Rattle.std.proofs.Common.{◌≡◌, ◌≤◌, ℕ, suc, Bool, true, false, List, [], ◌∷◌, length, Option, Some, None, refl, sym, ◌∙◌, ap, subst, arith}
-use Rattle.std.specs.Prelude.{◌&&◌, IfSome}
+use Rattle.std.proofs.Common.{◌≡◌, ◌≤◌, ℕ, suc, Bool, true, false, List, [], ◌∷◌, length, Option, Some, None, refl, arith}
+use Rattle.std.specs.Prelude.{IfSome}
+use Rattle.std.proofs.lemmas.Bool.{and_from}
 use Rattle.view_def.specs.RawConditions.{Raw, AnyRaw, AllRaw, NotRaw, CompareRaw, Raws, none, more}
 use Rattle.view_def.specs.Tree.{ViewTree}
 use Rattle.view_def.specs.Print.{is_any, is_joined}
 use Rattle.view_def.specs.Written.{has_two, is_well_joined, are_well_joined, is_well_joined_filter, IsWritten}
 use Rattle.ss_parser.specs.Refused.{IsRead}
-use Rattle.ss_parser.proofs.Printable.{SomeEach, Inside, Two, Bare, Members, GoodTree}
+use Rattle.ss_parser.proofs.Printable.{SomeEach, Inside, Two, Bare, Members}
 use Rattle.ss_parser.proofs.Kept.{good_tree}
 
 one_at_least : {A : Type 0} (G : A → Type 0) (xs : List A) → SomeEach G xs → 1 ≤ length xs
@@ -23,19 +24,16 @@ inside_has : (b : Bool) (B : ℕ → Type 0) (joined : Bool) (n : ℕ) → ((m :
 inside_has true B joined n has h = has h.0 h.2
 inside_has false B joined n has h = has n h
 
-both : (a b : Bool) → a ≡ true → b ≡ true → (a && b) ≡ true
-both a b e f = ap (λ x. x && b) e ∙ f
-
 mutual
   bare_joined : (c : Raw) (n : ℕ) → Bare c n → is_well_joined c ≡ true
-  bare_joined (AnyRaw cs) n h = both (has_two cs) (are_well_joined cs) (two_has cs h.0) (members_joined is_any cs n h.1)
-  bare_joined (AllRaw cs) n h = both (has_two cs) (are_well_joined cs) (two_has cs h.0) (members_joined is_joined cs n h.1)
+  bare_joined (AnyRaw cs) n h = and_from (has_two cs) (are_well_joined cs) (two_has cs h.0) (members_joined is_any cs n h.1)
+  bare_joined (AllRaw cs) n h = and_from (has_two cs) (are_well_joined cs) (two_has cs h.0) (members_joined is_joined cs n h.1)
   bare_joined (NotRaw c) n h = inside_has (is_joined c) (Bare c) (is_well_joined c) h.0 (bare_joined c) h.2
   bare_joined (CompareRaw s op t) n h = refl
 
   members_joined : (needed : Raw → Bool) (cs : Raws) (n : ℕ) → Members needed cs n → are_well_joined cs ≡ true
   members_joined needed none n h = refl
-  members_joined needed (more c cs) n h = both (is_well_joined c) (are_well_joined cs) (inside_has (needed c) (Bare c) (is_well_joined c) n (bare_joined c) h.0) (members_joined needed cs n h.1)
+  members_joined needed (more c cs) n h = and_from (is_well_joined c) (are_well_joined cs) (inside_has (needed c) (Bare c) (is_well_joined c) n (bare_joined c) h.0) (members_joined needed cs n h.1)
 
 filter_joined : (o : Option Raw) → IfSome o (λ c. Bare c 64) → is_well_joined_filter o ≡ true
 filter_joined None h = refl

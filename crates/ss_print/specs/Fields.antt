@@ -1,5 +1,5 @@
 -- The name and the fields of each refusal, as they are printed.
-use Rattle.std.specs.Prelude.{ℕ, List, [], ◌∷◌, ◌++◌, Option, None, Some, option_to_list, slice_index_or, codes, decimal}
+use Rattle.std.specs.Prelude.{ℕ, [], ◌∷◌, option_to_list, slice_index_or, codes, decimal}
 use Rattle.ss_text.specs.Texts.{Text, Row}
 use Rattle.schema_model.specs.declared.refusal.Which.{Which}
 use Rattle.schema_model.specs.declared.refusal.Which.TheVariants.{Databases, Relations, Attributes, Rows}

@@ -20,7 +20,7 @@ use Rattle.ss_top.specs.Open.{OpenValue}
 use Rattle.ss_top.specs.Stages.{refusal_of}
 use Rattle.ss_top.specs.declared.word.Word.{Word}
 use Rattle.ss_top.specs.declared.word.Word.TheVariants as word
-use Rattle.ss_top.specs.Answers.{Answer, answer, by_spelling, by_first, by_fields, by_word, by_broken, by_group, by_change, by_fault, by_view, by_open, refusing, giving_up, beginning, keeping, aborting, changing, committing, syncing, in_group, word_in, end_effects, end_view}
+use Rattle.ss_top.specs.Answers.{Answer, answer, by_spelling, by_first, by_word, by_broken, by_group, by_change, by_fault, by_view, by_open, refusing, giving_up, beginning, keeping, aborting, changing, committing, syncing, in_group, word_in, end_effects, end_view}
 
 -- what holds of each kind of answer, by what is known there
 pub record Cases (o : OpenValue) (P : Answer → Type 0) : Type 0 where

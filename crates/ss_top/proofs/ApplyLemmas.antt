@@ -1,10 +1,9 @@
 -- From the opening of a view's folder and the lines behind it to a run of `apply`.
-use Rattle.std.proofs.Common.{◌≡◌, ◌≢◌, ℕ, true, List, [], ◌∷◌, ◌++◌, Option, Some, refl, sym, ap, ◌∙◌, subst, inl, inr}
-use Rattle.std.specs.Prelude.{◌⊎◌, Result, Ok, Err, IfOk, OnErr, IsErrOf}
+use Rattle.std.proofs.Common.{◌≡◌, ℕ, true, List, [], Option, Some, refl, sym, ap, ◌∙◌, subst, inl, inr}
+use Rattle.std.specs.Prelude.{Result, Ok, Err, IfOk, OnErr, IsErrOf}
 use Rattle.outside.specs.States.{StoreState, SinkState}
 use Rattle.outside.specs.Reading.{OnlyRead}
-use Rattle.outside.specs.Tree.{Tree}
-use Rattle.effects.specs.Effects.{Effect, World, world_of, contents, Partly}
+use Rattle.effects.specs.Effects.{World, world_of, contents, Partly}
 use Rattle.effects.specs.declared.stop.Stop.{Stop}
 use Rattle.effects.specs.declared.stop.Stop.TheVariants as stop
 use Rattle.effects.proofs.EffectLemmas.{partly_more}
@@ -13,9 +12,8 @@ use Rattle.course.specs.declared.status.Verdict.{Verdict}
 use Rattle.course.specs.declared.status.Verdict.TheVariants as verdict
 use Rattle.course.specs.declared.status.Halt.{Halt}
 use Rattle.course.specs.declared.status.Halt.TheVariants as halt
-use Rattle.course.specs.Answering.{Reply, Continues, Finishes, Ending, ending, follow, course, Ran, AnsweredSome, EndedOver, IsReadOut}
+use Rattle.course.specs.Answering.{Reply, Continues, Finishes, ending, follow, course, Ran, AnsweredSome, EndedOver, IsReadOut}
 use Rattle.course.specs.Answering as lines
-use Rattle.view_apply.specs.declared.opening.OpenedFolder.{OpenedFolder}
 use Rattle.view_apply.specs.declared.opening.OpenedFolder.TheVariants as read
 use Rattle.view_apply.specs.Applying.{ApplyState, step, finish}
 use Rattle.view_apply.specs.Opening.{Opens}
@@ -23,7 +21,7 @@ use Rattle.view_apply.proofs.CourseLemmas.{halts_so}
 use Rattle.ss_top.specs.declared.apply.Folder.TheVariants as folder
 use Rattle.ss_top.specs.Commands.{can_apply}
 use Rattle.ss_top.specs.Steps.{FolderOpens, IsFolderRefusal, IdleStop}
-use Rattle.ss_top.specs.Course.{Course, RanBy, RanSome, Took, by_lines, first, verdict_status, status_of, is_done, IsReadWhole, IsWholeInput}
+use Rattle.ss_top.specs.Course.{RanBy, RanSome, Took, by_lines, verdict_status, status_of, is_done, IsReadWhole, IsWholeInput}
 use Rattle.ss_top.proofs.DriveLemmas.{went_on, ended_later, took_behind}
 
 -- a folder was read, was refused, or was not read

@@ -1,5 +1,5 @@
 -- Lines that are answered behind an opening, whatever the machine.
-use Rattle.std.proofs.Common.{◌≡◌, ℕ, List, [], ◌++◌, Option, refl, sym, ap, ◌∙◌, subst, append_assoc, inr}
+use Rattle.std.proofs.Common.{◌≡◌, ℕ, List, ◌++◌, Option, refl, sym, ap, ◌∙◌, subst, append_assoc, inr}
 use Rattle.std.specs.Prelude.{Result, Ok, Err}
 use Rattle.effects.specs.Effects.{Effect, World, Contents, contents, performed, Partly}
 use Rattle.effects.proofs.EffectLemmas.{performed_append, partly_later}

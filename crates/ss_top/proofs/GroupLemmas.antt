@@ -2,20 +2,18 @@
 use Rattle.std.proofs.Common.{◌≡◌, ◌∷◌, ◌++◌, [], List, Option, None, Some, refl, sym, ap, subst}
 use Rattle.std.specs.Prelude.{IsTrue, unwrap_or, option_map}
 use Rattle.std.specs.List.{AllByRecursion}
-use Rattle.std.specs.Option.{option_or}
 use Rattle.outside.specs.Tree.{Tree}
 use Rattle.schema_model.specs.Catalogue.{CatalogueValue}
 use Rattle.schema_model.specs.declared.change.Change.{Change}
-use Rattle.schema_model.specs.declared.refusal.Refusal.{Refusal}
 use Rattle.schema_model.specs.Changes.{after, after_all, is_well_formed}
 use Rattle.schema_model.specs.Refusals.{fault, group_fault}
-use Rattle.view_def.specs.Query.{Query}
 use Rattle.view_session.specs.Named.{Names, with_change, with_changes}
 use Rattle.view_session.specs.Session.{SessionState, holding, working}
 use Rattle.kept_sources.specs.Synced.{Synced, synced}
 use Rattle.ss_top.specs.Open.{OpenValue}
 use Rattle.ss_top.specs.Answers.{end_view, sync_writes}
 use Rattle.ss_top.proofs.AnswerCases.{end_case}
+use Rattle.change_draft.proofs.DraftLemmas.{accepted_one_more}
 
 -- the changes that a group holds are well formed, and each is accepted after those before it
 pub record IsGroup (s : SessionState) : Type 0 where
@@ -31,14 +29,6 @@ formed_more : (gs : List Change) (g : Change) → AllByRecursion (λ x. IsTrue (
 formed_more [] g h well = (well, tt)
 formed_more (x ∷ gs) g h well = (h.0, formed_more gs g h.1 well)
 
-both_none : (a b d : Option Refusal) → option_or a b ≡ None → (b ≡ None → d ≡ None) → option_or a d ≡ None
-both_none None b d h then = then h
-both_none (Some r) b d h then = absurd (cc h)
-
-accepted_more : (c : CatalogueValue) (gs : List Change) (g : Change) → group_fault c gs ≡ None → fault (after_all c gs) g ≡ None → group_fault c (gs ++ g ∷ []) ≡ None
-accepted_more c [] g h fits = ap (λ (r : Option Refusal). option_or r None) fits
-accepted_more c (x ∷ gs) g h fits = both_none (fault c x) (group_fault (after c x) gs) (group_fault (after c x) (gs ++ g ∷ [])) h (λ rest. accepted_more (after c x) gs g rest fits)
-
 pub one_more : (s : SessionState) (g : Change) → IsTrue (is_well_formed g) → fault (working s) g ≡ None → IsGroup s → IsGroup (holding s g)
 one_more s g well fits h = record { formed = each s.held h.formed; accepted = all s.held h.accepted fits }
   where
@@ -48,7 +38,7 @@ one_more s g well fits h = record { formed = each s.held h.formed; accepted = al
 
     all : (o : Option (List Change)) → group_fault s.catalogue (unwrap_or o []) ≡ None → fault (after_all s.catalogue (unwrap_or o [])) g ≡ None → group_fault s.catalogue (unwrap_or (option_map (λ gs. gs ++ g ∷ []) o) []) ≡ None
     all None f fits = refl
-    all (Some gs) f fits = accepted_more s.catalogue gs g f fits
+    all (Some gs) f fits = accepted_one_more s.catalogue gs g f fits
 
 -- changes name no labels
 pub labels_stay : (n : Names) (c : CatalogueValue) (gs : List Change) → (with_changes n c gs).labels ≡ n.labels

@@ -39,9 +39,10 @@ use Rattle.view_folder.proofs.FolderLemmas.{apart_sorted, now, synced as synced_
 use Rattle.view_folder.proofs.LaterLemmas.{later, later_synced, later_holds, later_counted}
 use Rattle.view_session.specs.Named.{Names}
 use Rattle.view_session.specs.Session.{opened, cleared, tables_of, lines_to, moved, holding, working, committed, SessionState}
+use Rattle.view_session.proofs.UpkeepLemmas.{meaning_in_order}
 use Rattle.kept_sources.specs.Counted.{tree_after, counted}
 use Rattle.kept_sources.specs.Synced.{Synced, unsaved, synced, saving}
-use Rattle.kept_sources.proofs.AfterLemmas.{Silent, stored_by, stored_after, silent_after}
+use Rattle.kept_sources.proofs.AfterLemmas.{Silent, stored_by, stored_after, silent_after, none_risen}
 use Rattle.kept_sources.proofs.LoadedLemmas.{sound_loaded}
 use Rattle.kept_sources.proofs.SavingLemmas.{SourcesKept, Pending, InView, kept_first, pending_first, pending_change, pending_committed, kept_synced, kept_beside, saved_silent, tree_saved}
 use Rattle.course.specs.Answering.{Continues, follow}
@@ -53,7 +54,7 @@ use Rattle.ss_top.specs.Answers.{Answer, answer, refusing, giving_up, beginning,
 use Rattle.ss_top.proofs.AnswerCases.{answer_case, answer_query, end_case}
 use Rattle.ss_top.proofs.GroupLemmas.{IsGroup, no_group, one_more, labels_stay}
 use Rattle.ss_top.specs.Promises.{printed_by, opening_writes, Takes}
-use Rattle.ss_top.proofs.StageLemmas.{meaning_in_order, are_view_files}
+use Rattle.ss_top.proofs.StageLemmas.{are_view_files}
 
 -- the script of two meanings takes the one to the other
 pub script_takes : (o : SessionState) (c : CatalogueValue) → Takes (tables_of o) (meaning c o.query) (lines_to o c)
@@ -129,9 +130,6 @@ pub record Keeps (t : Tree) (c0 : CatalogueValue) (s : Stored) (es : List Effect
 pub tree_left : (es : List Effect) (s u : Stored) → ((held : Option (List ℕ)) → performed es (record { stored = Some s; held = held }) ≡ record { stored = Some u; held = with_bytes (printed_by es) held }) → u.tree ≡ tree_after es s.tree
 tree_left es s u done =
     ap (λ (o : Option Stored). (unwrap_or o u).tree) (sym (ap (λ (c : Contents). c.stored) (done None)) ∙ stored_after es (record { stored = Some s; held = None }) s refl)
-
-none_risen : (w : ℕ) → w ≡ risen w 0
-none_risen w = omega arith
 
 -- nothing was done
 with_none : (held : Option (List ℕ)) → with_bytes [] held ≡ held

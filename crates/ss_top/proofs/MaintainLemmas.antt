@@ -1,24 +1,24 @@
 -- From an opening and the answers behind it to a run of `maintain`.
-use Rattle.std.proofs.Common.{◌≡◌, ℕ, Bool, true, false, List, [], ◌∷◌, ◌++◌, Option, Some, refl, sym, ap, ◌∙◌, subst, append_assoc, arith, inl, inr}
+use Rattle.std.proofs.Common.{◌≡◌, ℕ, Bool, true, false, List, [], ◌∷◌, ◌++◌, Option, Some, refl, ap, ◌∙◌, subst, arith, inl, inr}
 use Rattle.std.specs.Prelude.{Result, Ok, Err, IfOk, OnErr, if◌then◌else◌}
-use Rattle.effects.specs.Effects.{Effect, World, Contents, contents, performed, Partly}
+use Rattle.effects.specs.Effects.{Effect, World, contents}
 use Rattle.effects.specs.Blame.{Blames}
 use Rattle.effects.specs.declared.stop.Stop.{Stop}
 use Rattle.effects.specs.declared.stop.Stop.TheVariants as stop
-use Rattle.effects.proofs.EffectLemmas.{performed_append, partly_more, partly_later}
+use Rattle.effects.proofs.EffectLemmas.{partly_more}
 use Rattle.tab_lines.specs.Lines.{lines_of}
 use Rattle.course.proofs.AnsweringLemmas.{steady_more}
 use Rattle.course.specs.declared.status.Verdict.{Verdict}
 use Rattle.course.specs.declared.status.Verdict.TheVariants as verdict
 use Rattle.course.specs.declared.status.Halt.{Halt}
 use Rattle.course.specs.declared.status.Halt.TheVariants as halt
-use Rattle.course.specs.Answering.{Reply, Continues, Finishes, Ending, ending, follow, course, Ran, CutOff, AnsweredSome, EndedOver, IsReadOut, BlamesRun}
+use Rattle.course.specs.Answering.{Reply, Continues, Finishes, ending, follow, course, Ran, AnsweredSome, EndedOver, IsReadOut, BlamesRun}
 use Rattle.course.specs.Answering as lines
 use Rattle.ss_top.specs.declared.opening.Opened.TheVariants as opened_as
 use Rattle.ss_top.specs.Open.{OpenValue}
 use Rattle.ss_top.specs.Steps.{Opens, IsRefusal}
 use Rattle.ss_top.specs.Commands.{can_maintain}
-use Rattle.ss_top.specs.Course.{Course, GaveOut, RanBy, RanSome, Took, by_lines, first, verdict_status, status_of, is_refused_status, IsWholeInput}
+use Rattle.ss_top.specs.Course.{Course, RanBy, RanSome, Took, by_lines, verdict_status, status_of, is_refused_status, IsWholeInput}
 use Rattle.ss_top.specs.Answers.{step, finish, answer, end_view}
 use Rattle.ss_top.proofs.DriveLemmas.{went_on, ended_later, took_behind}
 

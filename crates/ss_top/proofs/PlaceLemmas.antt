@@ -1,14 +1,13 @@
 -- Effects on what is exempt leave every other file and folder as it was.
-use Rattle.std.proofs.Common.{◌≡◌, ◌≢◌, Bool, true, false, ◌||◌, List, [], ◌∷◌, ◌++◌, Option, None, Some, is_some, length, refl, sym, ap, ◌∙◌, subst, cond, inl, inr}
+use Rattle.std.proofs.Common.{◌≡◌, ◌≢◌, Bool, true, false, ◌||◌, List, [], ◌∷◌, Option, None, Some, is_some, length, refl, sym, ap, ◌∙◌, subst, cond, inl, inr}
 use Rattle.std.specs.Prelude.{option_map, unwrap_or}
 use Rattle.std.specs.Cmp.{both_ways}
 use Rattle.std.specs.Cmp.Lexicographic.{nat_list_cmp_total, texts_ties}
 use Rattle.std.specs.List.{list_any, AllByRecursion}
 use Rattle.std.specs.FinMap as map
-use Rattle.std.specs.Ordering.{eq_by_cmp}
-use Rattle.std.proofs.lemmas.Bool.{false≢true, true≢false, false_from_ne_true, or_right}
+use Rattle.std.proofs.lemmas.Bool.{false≢true, false_from_ne_true, or_right}
 use Rattle.std.proofs.lemmas.List.Folds.{list_any-append}
-use Rattle.ss_text.specs.Texts.{Text, text_cmp, text_eq, is_in}
+use Rattle.ss_text.specs.Texts.{Text, text_eq, is_in}
 use Rattle.ss_text.proofs.KeyLemmas.{text_order, equal_itself}
 use Rattle.outside.specs.Tree.{Tree, Place, fronts, folder_path, with_folders, has_folder, has_empty_folder}
 use Rattle.outside.specs.WholeLaw.{is_eq_true, place_exact}

@@ -4,8 +4,6 @@ use Rattle.ss_text.specs.Texts.{Row}
 use Rattle.schema_model.specs.Catalogue.{CatalogueValue}
 use Rattle.view_def.specs.Query.{Query}
 use Rattle.flow_law.specs.Facts.{illegal, conflict, first_refusal, refusal_by}
-use Rattle.flow_law.specs.InOrder.{AreTables}
-use Rattle.flow_law.proofs.FactTableLemmas.{tables_in_order}
 use Rattle.valuation_meaning.specs.Meaning.{facts, shape_of, meaning}
 use Rattle.valuation_meaning.specs.Refusal.{refusal}
 use Rattle.valuation_meaning.specs.declared.evaluation.EvalFault.{EvalFault}
@@ -18,11 +16,8 @@ use Rattle.ss_top.specs.Stages.{files_of_view, refusal_of}
 use Rattle.ss_top.specs.Records.{HasRecords}
 use Rattle.flow_law.specs.declared.refused.IllegalLabel.{IllegalLabel}
 use Rattle.flow_law.specs.declared.refused.Clash.{Clash}
+use Rattle.view_session.proofs.UpkeepLemmas.{meaning_in_order}
 use Rattle.load_run.proofs.TableLemmas.{meaning_fits as fits}
-
-pub meaning_in_order : (c : CatalogueValue) (q : Query) → AreTables (meaning c q)
-unfolding meaning
-meaning_in_order c q = tables_in_order (shape_of q) (facts c q)
 
 -- the files of a view's tables
 pub are_view_files : (c : CatalogueValue) (q : Query) → AreViewFiles (files_of_view c q)

@@ -31,6 +31,7 @@ use Rattle.valuation_meaning.specs.Elements.{Valuation}
 use Rattle.valuation_meaning.specs.Valuations.{valuations}
 use Rattle.valuation_meaning.specs.Meaning.{facts, fact_of, cell_of_reading, constant_label, shape_of, meaning, given}
 use Rattle.view_session.specs.Session.{tables_of, lines_to, working}
+use Rattle.view_session.proofs.UpkeepLemmas.{meaning_in_order}
 use Rattle.load_run.proofs.TableLemmas.{all_mapped}
 use Rattle.ss_print.specs.Fields.{illegal_fields, clash_fields}
 use Rattle.ss_top.specs.Open.{OpenValue}
@@ -38,7 +39,6 @@ use Rattle.ss_top.specs.Stages.{DefinitionOrRefusal, Accepted, ReadsAs, by_typin
 use Rattle.ss_top.specs.Opening.{IsDefinition}
 use Rattle.ss_top.specs.Answers.{Answer, answer}
 use Rattle.ss_top.specs.Promises.{TakesBy, EachTakes}
-use Rattle.ss_top.proofs.StageLemmas.{meaning_in_order}
 use Rattle.ss_top.proofs.AnswerCases.{answer_case}
 
 -- the facts of a view of the profile fit its form

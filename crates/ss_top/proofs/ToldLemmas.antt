@@ -1,5 +1,5 @@
 -- What is known of a store that tells what it holds.
-use Rattle.std.proofs.Common.{◌≡◌, ℕ, List, Option, None, Some, ap}
+use Rattle.std.proofs.Common.{◌≡◌, ℕ, Option, None, Some, ap}
 use Rattle.outside.specs.Tree.{Tree}
 use Rattle.effects.specs.Effects.{World, Stored, contents, stored_of}
 

@@ -1,6 +1,7 @@
 -- What a reader of lines took so far in a call, and what it answers.
-use Rattle.std.proofs.Common.{◌≡◌, inl, inr, ℕ, ◌+◌, ◌==◌, Bool, true, false, ◌||◌, cond, List, [], ◌∷◌, ◌++◌, length, Option, None, Some, unwrap_or, Result, Ok, Err, refl, sym, ap, ◌∙◌, subst, append_assoc, append-nil, arith, length-append}
+use Rattle.std.proofs.Common.{◌≡◌, inl, inr, ℕ, ◌+◌, ◌==◌, Bool, true, false, ◌||◌, cond, List, [], ◌∷◌, ◌++◌, length, Option, None, Some, Result, Ok, Err, refl, sym, ap, ◌∙◌, subst, append_assoc, append-nil, arith, length-append}
 use Rattle.std.proofs.lemmas.Bool.{or_parts}
+use Rattle.std.proofs.lemmas.Option.{same_Some}
 use Rattle.outside.specs.Streams.{before}
 use Rattle.tab_lines.specs.Lines.{has_feed, lines_of}
 use Rattle.tab_lines.specs.Taking.{LinesState, most_taken, is_ready, ahead, Answers, TakesPiece, IsTakenLine, Reads, IsNextOf}
@@ -25,9 +26,6 @@ before_none : (rest : Option (List ℕ)) → rest ≡ before [] rest
 before_none None = refl
 before_none (Some bytes) = refl
 
-told : {A : Type 0} (a b : A) → Some a ≡ Some b → a ≡ b
-told a b e = ap (λ o. unwrap_or o a) e
-
 pub going_none : (s : LinesState) (rest : Option (List ℕ)) → Going s s rest rest
 going_none s rest = record {
   part = [];
@@ -37,7 +35,7 @@ going_none s rest = record {
   soon = inl refl;
   ended = λ h. h;
   end = λ going ended bytes is. absurd (cc);
-  same = λ bytes more is later. ap (ahead s) (told bytes more (sym is ∙ later));
+  same = λ bytes more is later. ap (ahead s) (same_Some bytes more (sym is ∙ later));
 }
 
 before_both : (a b : List ℕ) (o : Option (List ℕ)) → before a (before b o) ≡ before (a ++ b) o

@@ -1,5 +1,5 @@
 -- The walk over the declarations, where fewer folds are kept than stand before.
-use Rattle.std.proofs.Common.{◌≡◌, ◌≢◌, ◌<◌, ◌≤◌, ◌+◌, arith, List, Option, Some, None, ℕ, sym, ap, ◌∙◌, length, take, drop, get_or}
+use Rattle.std.proofs.Common.{◌≡◌, ◌≢◌, ◌<◌, ◌≤◌, ◌+◌, arith, List, Some, None, ℕ, sym, ap, ◌∙◌, length, take, drop, get_or}
 use Rattle.std.proofs.lemmas.List.{length-take-le}
 use Rattle.view_def.specs.declared.written.RawDecl.{RawDecl}
 use Rattle.var_typing.specs.declared.fault.TypeFault.{TypeFault}

@@ -1,11 +1,12 @@
 -- Lists of folds that refuse the same.
-use Rattle.std.proofs.Common.{◌≡◌, ◌==◌, ◌<◌, ◌+◌, ◌∷◌, ◌++◌, [], ℕ, Bool, true, false, List, Option, None, refl, sym, ap, ◌∙◌, arith, take, get_or, length, append-nil}
-use Rattle.std.specs.Prelude.{◌||◌, ◌&&◌}
-use Rattle.std.specs.List.{list_any, flat_map}
+use Rattle.std.proofs.Common.{◌≡◌, ◌<◌, ◌+◌, ◌∷◌, ◌++◌, [], ℕ, Bool, true, false, List, Option, refl, sym, ap, ◌∙◌, arith, take, get_or, length, append-nil}
+use Rattle.std.specs.Prelude.{◌||◌}
+use Rattle.std.specs.List.{list_any}
 use Rattle.std.proofs.lemmas.Bool.Decides.{nat_tests}
 use Rattle.std.proofs.lemmas.List.{take_more}
 use Rattle.std.proofs.lemmas.List.Concat.{flat_map-append}
 use Rattle.std.proofs.lemmas.List.Folds.{list_any-append}
+use Rattle.std.proofs.Math.Bool.{or-false, or-true}
 use Rattle.ss_text.specs.Texts.{Text}
 use Rattle.view_def.specs.declared.written.RawDecl.{RawDecl}
 use Rattle.view_def.specs.declared.written.RawRange.{RawRange}
@@ -15,16 +16,8 @@ use Rattle.var_typing.specs.declared.fault.TypeFault.TheVariants.{TwoFolds}
 use Rattle.var_typing.specs.declared.folds.Fold.{Fold}
 use Rattle.var_typing.specs.Refusals.{◌or_else◌, where_true}
 use Rattle.var_typing.specs.Scope.{tuple_fault, name_fault}
-use Rattle.var_typing.specs.Folds.{is_other, is_same, has_other, two_folds, attribute_fault, fold_of, SameOthers}
+use Rattle.var_typing.specs.Folds.{is_other, is_same, has_other, two_folds, fold_of, SameOthers}
 use Rattle.var_typing.specs.Declarations.{too_many, range_fault, declared_twice, range_folds, alias_folds, declaration_after}
-
-or_false : (a : Bool) → (a || false) ≡ a
-or_false true = refl
-or_false false = refl
-
-or_true : (a : Bool) → (a || true) ≡ true
-or_true true = refl
-or_true false = refl
 
 same_is_other : (h f g : Fold) → is_same f g ≡ true → is_other h f ≡ true → is_other h g ≡ true
 same_is_other h f g s o = grind (arith, nat_tests)
@@ -36,12 +29,12 @@ others_too h f (g ∷ gs) s o = by_first (is_same f g) refl s (λ r. others_too 
   where
     by_first : (b : Bool) → is_same f g ≡ b → (b || list_any (is_same f) gs) ≡ true → (list_any (is_same f) gs ≡ true → list_any (is_other h) gs ≡ true) → list_any (is_other h) (g ∷ gs) ≡ true
     by_first true e r later = ap (λ b. b || list_any (is_other h) gs) (same_is_other h f g e o)
-    by_first false e r later = ap (λ b. is_other h g || b) (later r) ∙ or_true (is_other h g)
+    by_first false e r later = ap (λ b. is_other h g || b) (later r) ∙ or-true (is_other h g)
 
 -- a fold that stands there already
 pub same_others : (folds : List Fold) (f : Fold) → list_any (is_same f) folds ≡ true → SameOthers (folds ++ f ∷ []) folds
 same_others folds f s h =
-    list_any-append (is_other h) folds (f ∷ []) ∙ ap (λ b. list_any (is_other h) folds || b) (or_false (is_other h f))
+    list_any-append (is_other h) folds (f ∷ []) ∙ ap (λ b. list_any (is_other h) folds || b) (or-false (is_other h f))
     ∙ joined (list_any (is_other h) folds) (is_other h f) (others_too h f folds s)
   where
     joined : (a b : Bool) → (b ≡ true → a ≡ true) → (a || b) ≡ a

@@ -1,9 +1,8 @@
 -- The columns of a header, one column on.
-use Rattle.std.proofs.Common.{◌≡◌, ◌≢◌, ◌<◌, ◌+◌, ◌∷◌, ◌++◌, [], ℕ, Bool, true, false, List, Option, Some, None, refl, sym, ap, ◌∙◌, arith, length, map, take, drop, get_or, is_some, append-nil}
+use Rattle.std.proofs.Common.{◌≡◌, ◌≢◌, ◌<◌, ◌+◌, ◌∷◌, ◌++◌, [], ℕ, true, false, List, Option, Some, None, refl, sym, ap, ◌∙◌, arith, length, take, drop, get_or, is_some, append-nil}
 use Rattle.std.specs.List.{list_any}
 use Rattle.std.proofs.lemmas.List.{map_more, length-take-le, length-map}
 use Rattle.std.proofs.lemmas.List.Elements.{filter_map-append}
-use Rattle.ss_text.specs.Texts.{Text, Row}
 use Rattle.view_def.specs.declared.written.Name.{Name}
 use Rattle.view_def.specs.declared.written.RawDecl.{RawDecl}
 use Rattle.view_def.specs.declared.typed.Place.{Place}

@@ -1,5 +1,5 @@
 -- What is among the elements of a list, by recursion on the list.
-use Rattle.std.proofs.Common.{◌≡◌, ◌<◌, ◌+◌, ◌∷◌, ◌++◌, [], ◌⊎◌, inl, inr, ℕ, zero, suc, Bool, true, false, List, Option, Some, None, refl, sym, ap, ◌∙◌, subst, arith, length, map, take, drop}
+use Rattle.std.proofs.Common.{◌≡◌, ◌<◌, ◌∷◌, ◌++◌, [], ◌⊎◌, inl, inr, ℕ, zero, suc, Bool, true, false, List, Option, Some, None, refl, sym, ap, ◌∙◌, subst, arith, length, map, take, drop}
 use Rattle.std.specs.Prelude.{Contains, option_and_then, option_to_list, slice_get, slice_index_or, remove, flat_map, ◌&&◌, ◌||◌}
 use Rattle.std.specs.List.{list_all, list_any}
 use Rattle.var_typing.specs.Typed.{without}

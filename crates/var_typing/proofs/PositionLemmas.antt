@@ -1,5 +1,5 @@
 -- The first element that passes a test, in a list with one more element at its end.
-use Rattle.std.proofs.Common.{◌≡◌, ◌+◌, ◌∷◌, ◌++◌, [], ℕ, Bool, true, false, List, Option, Some, None, refl, sym, ap, ◌∙◌, arith, cond, length, is_some, add-zero, zero, suc}
+use Rattle.std.proofs.Common.{◌≡◌, ◌+◌, ◌∷◌, ◌++◌, [], ℕ, Bool, true, false, List, Some, None, refl, sym, ap, ◌∙◌, arith, cond, length, is_some, add-zero, suc}
 use Rattle.std.specs.Prelude.{position, ◌||◌}
 use Rattle.std.specs.List.{list_any, find, position_from}
 use Rattle.std.proofs.lemmas.Iterator.Adapters.{position_from-zero}

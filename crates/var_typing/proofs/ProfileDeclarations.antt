@@ -1,11 +1,11 @@
 -- Declarations that pass typing: how many, and each over those before it.
-use Rattle.std.proofs.Common.{◌≡◌, ◌<◌, ◌≤◌, ◌+◌, ◌∷◌, ◌++◌, [], ℕ, Bool, true, false, List, Option, None, refl, sym, ap, ◌∙◌, subst, arith, length, map, append_assoc, append-nil, length-append, count_by, cond}
+use Rattle.std.proofs.Common.{◌≡◌, ◌<◌, ◌≤◌, ◌+◌, ◌∷◌, ◌++◌, [], ℕ, Bool, true, false, List, Option, None, refl, sym, ap, ◌∙◌, subst, arith, length, append_assoc, append-nil, length-append, count_by, cond}
 use Rattle.std.specs.Prelude.{nat_le, ◌&&◌, ◌||◌}
 use Rattle.std.proofs.lemmas.Bool.Decides.{nat_tests}
 use Rattle.std.proofs.lemmas.List.Sums.{sum_by-append, sum_by-cons}
 use Rattle.ss_text.specs.Texts.{Text}
 use Rattle.ss_text.proofs.PlaceLemmas.{map_last}
-use Rattle.view_def.specs.Profile.{is_range_over, are_ranges_after}
+use Rattle.view_def.specs.Profile.{are_ranges_after}
 use Rattle.view_def.specs.Profile as profile
 use Rattle.view_def.specs.declared.typed.Range.{Range}
 use Rattle.view_def.specs.declared.written.RawDecl.{RawDecl}
@@ -13,8 +13,8 @@ use Rattle.view_def.specs.declared.written.RawRange.{RawRange}
 use Rattle.view_def.specs.declared.written.RawRange.TheVariants as raw
 use Rattle.var_typing.specs.declared.fault.TypeFault.{TypeFault}
 use Rattle.var_typing.specs.declared.fault.TypeFault.TheVariants.{TooMany}
-use Rattle.var_typing.specs.Declarations.{ranges_over_rows, too_many, range_fault, declared_twice, alias_folds, declaration_fault, declarations_fault, typed_range}
-use Rattle.var_typing.specs.Refusals.{where_true, ◌or_else◌, in_turn}
+use Rattle.var_typing.specs.Declarations.{ranges_over_rows, too_many, range_fault, alias_folds, declaration_fault, declarations_fault, typed_range}
+use Rattle.var_typing.specs.Refusals.{in_turn}
 use Rattle.var_typing.proofs.ProfileScope.{ranges_of, range_over}
 use Rattle.var_typing.proofs.WalkLemmas.{none_left, none_right, not_true}
 

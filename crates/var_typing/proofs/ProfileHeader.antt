@@ -1,7 +1,7 @@
 -- Columns that pass typing: distinct constants, and at most one variable.
-use Rattle.std.proofs.Common.{◌≡◌, ◌<◌, ◌≤◌, ◌+◌, ◌∷◌, ◌++◌, [], ℕ, zero, suc, Bool, true, false, not, List, Option, Some, None, refl, sym, ap, ◌∙◌, subst, arith, length, map, is_some, cond, append-nil, length-append}
-use Rattle.std.specs.Prelude.{bytes_eq, position, option_and_then, slice_get, remove, ◌&&◌, ◌||◌}
-use Rattle.std.specs.List.{list_all, list_any, find, IsDistinct, AllByRecursion}
+use Rattle.std.proofs.Common.{◌≡◌, ◌<◌, ◌≤◌, ◌+◌, ◌∷◌, ◌++◌, [], ℕ, zero, suc, Bool, true, false, not, List, Option, Some, None, refl, sym, ap, ◌∙◌, subst, arith, length, is_some, cond, append-nil, length-append}
+use Rattle.std.specs.Prelude.{bytes_eq, position, option_and_then, slice_get, ◌&&◌, ◌||◌}
+use Rattle.std.specs.List.{list_all, list_any, find, IsDistinct}
 use Rattle.std.specs.Option.{ForSome}
 use Rattle.std.specs.Cmp.Lexicographic.{nat_list_eq_equiv}
 use Rattle.std.proofs.lemmas.List.{length-map}
@@ -10,7 +10,8 @@ use Rattle.std.proofs.lemmas.List.Elements.{filter_map-append}
 use Rattle.std.proofs.lemmas.List.Folds.{list_any-append}
 use Rattle.std.proofs.lemmas.List.Quantifiers.{position-Some}
 use Rattle.std.proofs.lemmas.Map.Keys.{IsDistinct-cons, IsDistinct-head, IsDistinct-tail}
-use Rattle.std.proofs.lemmas.Option.{slice_get-get_or}
+use Rattle.std.proofs.lemmas.Bool.{not-false}
+use Rattle.std.proofs.Math.Bool.{or-false}
 use Rattle.ss_text.specs.Texts.{Text, Row, text_eq, is_in}
 use Rattle.ss_text.specs.Label.{is_table_label}
 use Rattle.ss_text.proofs.PlaceLemmas.{map_last, each_last}
@@ -19,9 +20,8 @@ use Rattle.view_def.specs.declared.typed.Place.{Place}
 use Rattle.view_def.specs.declared.typed.Place.TheVariants as place
 use Rattle.view_def.specs.declared.written.Name.{Name}
 use Rattle.view_def.specs.declared.written.RawDecl.{RawDecl}
-use Rattle.var_typing.specs.declared.fault.TypeFault.{TypeFault}
 use Rattle.var_typing.specs.declared.fault.TypeFault.TheVariants.{WrongKind, BadLabel, ColumnTwice, TwoVariableColumns, NoConstantColumn}
-use Rattle.var_typing.specs.Header.{name_label_fault, database_fault, label_fault, is_variable, constant_text, column_places, constants_of, column_after, column_fault, columns_fault, is_empty}
+use Rattle.var_typing.specs.Header.{database_fault, label_fault, is_variable, constant_text, column_places, constants_of, column_after, column_fault, columns_fault, is_empty}
 use Rattle.var_typing.specs.Refusals.{where_true, in_turn}
 use Rattle.var_typing.specs.Scope.{is_tuple, variable_named, variable_or, place_named}
 use Rattle.var_typing.specs.Typed.{without}
@@ -30,17 +30,13 @@ use Rattle.var_typing.proofs.ProfileDeclarations.{in_turn_keeps}
 use Rattle.var_typing.proofs.ProfileScope.{ranges_of, text_variable, variable_within}
 use Rattle.var_typing.proofs.WalkLemmas.{none_left, none_right, not_true}
 
-turned : (b : Bool) → not b ≡ false → b ≡ true
-turned true h = refl
-turned false h = absurd (cc)
-
 pub legal_database : (x : Text) (v : Option ℕ) → database_fault x v ≡ None → is_table_label x ≡ true
-legal_database x None h = turned (is_table_label x) (not_true _ (BadLabel x) h)
+legal_database x None h = not-false (is_table_label x) (not_true _ (BadLabel x) h)
 legal_database x (Some k) h = absurd (cc)
 
 module _ (ds : List RawDecl) where
   label_of : (x : Text) (v : Option ℕ) → ((k : ℕ) → v ≡ Some k → k < length ds) → label_fault ds x v ≡ None → is_label_over (ranges_of ds ds) (variable_or x v) ≡ true
-  label_of x None within h = turned (is_table_label x) (not_true _ (BadLabel x) h)
+  label_of x None within h = not-false (is_table_label x) (not_true _ (BadLabel x) h)
   label_of x (Some k) within h = text_variable ds k (within k refl) (not_true (is_tuple ds k) (WrongKind x) h)
 
   pub label_over : (n : Name) → label_fault ds n.text (variable_named ds n) ≡ None → is_label_over (ranges_of ds ds) (place_named ds n) ≡ true
@@ -73,10 +69,6 @@ record AreColumns (ds : List RawDecl) (places : List Place) : Type 0 where
   count : length (constants_of places) + one_if (list_any is_variable places) ≡ length places
   texts : list_all (has_text (ranges_of ds ds)) places ≡ true
 
-or_false : (a : Bool) → (a || false) ≡ a
-or_false true = refl
-or_false false = refl
-
 list_all_last : {A : Type 0} (p : A → Bool) (xs : List A) (x : A) → list_all p xs ≡ true → p x ≡ true → list_all p (xs ++ x ∷ []) ≡ true
 list_all_last p [] x h e = ap (λ b. b && true) e
 list_all_last p (y ∷ xs) x h e = by_head (p y) h (λ r. list_all_last p xs x r e)
@@ -105,7 +97,7 @@ module _ (ds : List RawDecl) where
       → column_after ds (constants_of places) (list_any is_variable places) x v ≡ None → AreColumns ds places → AreColumns ds (places ++ variable_or x v ∷ [])
   one_more places x None within h c =
       let constants = filter_map-append constant_text places (place.Fixed x ∷ []) in
-      let varies = list_any-append is_variable places (place.Fixed x ∷ []) ∙ or_false (list_any is_variable places) in
+      let varies = list_any-append is_variable places (place.Fixed x ∷ []) ∙ or-false (list_any is_variable places) in
       record {
         distinct = subst (λ (l : Row). IsDistinct bytes_eq l) (sym constants) (distinct_last (constants_of places) x c.distinct (not_true _ (ColumnTwice x) h));
         count =

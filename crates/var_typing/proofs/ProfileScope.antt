@@ -1,10 +1,11 @@
 -- What passes typing is over the declarations in sight.
-use Rattle.std.proofs.Common.{◌≡◌, ◌<◌, ◌≤◌, ◌+◌, ◌∷◌, ◌++◌, [], ℕ, zero, suc, Bool, true, false, not, List, Option, Some, None, refl, sym, ap, ◌∙◌, subst, arith, length, map, append-nil, if◌then◌else◌}
+use Rattle.std.proofs.Common.{◌≡◌, ◌<◌, ◌∷◌, ◌++◌, [], ℕ, zero, suc, Bool, true, false, not, List, Option, Some, None, refl, sym, ap, ◌∙◌, arith, length, map, append-nil, if◌then◌else◌}
 use Rattle.std.specs.Prelude.{slice_get, nat_le, option_map, ◌&&◌}
 use Rattle.std.specs.Option.{option_map_or}
 use Rattle.std.proofs.lemmas.Bool.Decides.{nat_tests}
 use Rattle.std.proofs.lemmas.List.Quantifiers.{position-Some}
 use Rattle.std.proofs.lemmas.Option.{slice_get-map}
+use Rattle.std.proofs.lemmas.Bool.{and_from}
 use Rattle.ss_text.specs.Texts.{Text, text_eq}
 use Rattle.view_def.specs.Profile.{is_tuple_variable, is_text_variable, has_text, is_range_over, is_term_over}
 use Rattle.view_def.specs.Profile as profile
@@ -15,7 +16,6 @@ use Rattle.view_def.specs.declared.written.RawRange.{RawRange}
 use Rattle.view_def.specs.declared.written.RawRange.TheVariants as raw
 use Rattle.view_def.specs.declared.written.RawTerm.{RawTerm}
 use Rattle.view_def.specs.declared.written.RawTerm.TheVariants as raw_term
-use Rattle.var_typing.specs.declared.fault.TypeFault.{TypeFault}
 use Rattle.var_typing.specs.declared.fault.TypeFault.TheVariants.{NotDeclared, WrongKind}
 use Rattle.var_typing.specs.declared.folds.Fold.{Fold}
 use Rattle.var_typing.specs.Declarations.{range_fault, typed_range}
@@ -45,10 +45,6 @@ at_front (x ∷ xs) ys (suc k) lt = at_front xs ys k (omega arith)
 
 not_within : (m n : ℕ) → nat_le m n ≡ false → n < m
 not_within m n h = grind (arith, nat_tests)
-
-both : (a b : Bool) → a ≡ true → b ≡ true → (a && b) ≡ true
-both true b h k = k
-both false b h k = absurd (cc)
 
 module _ (ds before rest : List RawDecl) (whole : ds ≡ before ++ rest) where
   -- a variable in sight, by its kind
@@ -99,17 +95,17 @@ module _ (ds before rest : List RawDecl) (whole : ds ≡ before ++ rest) where
       → (is_tuple_variable (ranges_of ds before) (variable_at ds x) && has_text (ranges_of ds before) (place_named ds a)) ≡ true
   attribute_over folds x a h =
       let more = none_right (tuple_fault ds (length before) x) (name_fault ds (length before) a or_else two_folds folds x (fold_of ds x a)) h in
-      both _ _ (tuple_over x (none_left (tuple_fault ds (length before) x) (name_fault ds (length before) a or_else two_folds folds x (fold_of ds x a)) h))
+      and_from _ _ (tuple_over x (none_left (tuple_fault ds (length before) x) (name_fault ds (length before) a or_else two_folds folds x (fold_of ds x a)) h))
       (name_over a (none_left (name_fault ds (length before) a) (two_folds folds x (fold_of ds x a)) more))
 
   pub range_over : (folds : List Fold) (r : RawRange) → range_fault ds (length before) folds r ≡ None → is_range_over (ranges_of ds before) (typed_range ds r) ≡ true
   range_over folds raw.Databases h = refl
   range_over folds (raw.Relations db) h = name_over db h
-  range_over folds (raw.Attributes db rel) h = both _ _ (name_over db (none_left _ _ h)) (name_over rel (none_right _ _ h))
-  range_over folds (raw.Tuples db rel) h = both _ _ (name_over db (none_left _ _ h)) (name_over rel (none_right _ _ h))
+  range_over folds (raw.Attributes db rel) h = and_from _ _ (name_over db (none_left _ _ h)) (name_over rel (none_right _ _ h))
+  range_over folds (raw.Tuples db rel) h = and_from _ _ (name_over db (none_left _ _ h)) (name_over rel (none_right _ _ h))
   range_over folds (raw.Values db rel a) h =
       let later = none_right _ _ h in
-      both _ _ (both _ _ (name_over db (none_left _ _ h)) (name_over rel (none_left _ _ later))) (name_over a (none_right _ _ later))
+      and_from _ _ (and_from _ _ (name_over db (none_left _ _ h)) (name_over rel (none_left _ _ later))) (name_over a (none_right _ _ later))
   range_over folds (raw.Alias x a) h = attribute_over folds x a h
 
 -- a declared identifier is in range

@@ -1,17 +1,17 @@
 -- Terms and folds of a view that passes typing.
-use Rattle.std.proofs.Common.{◌≡◌, ◌+◌, ◌∷◌, ◌++◌, [], ◌⊎◌, inl, inr, ℕ, Bool, true, false, List, Option, Some, None, refl, sym, ap, ◌∙◌, subst, arith, length, map, append_assoc, append-nil}
+use Rattle.std.proofs.Common.{◌≡◌, ◌∷◌, ◌++◌, [], ◌⊎◌, inl, inr, ℕ, Bool, true, false, List, None, refl, sym, ap, ◌∙◌, subst, arith, length, map, append_assoc, append-nil}
 use Rattle.std.specs.Prelude.{flat_map, not, ◌&&◌, ◌||◌, ◌==◌}
-use Rattle.std.specs.List.{list_any}
 use Rattle.std.proofs.lemmas.Bool.Decides.{nat_tests}
 use Rattle.std.proofs.lemmas.List.{map-append}
 use Rattle.std.proofs.lemmas.List.Concat.{flat_map-append}
 use Rattle.std.proofs.lemmas.List.Folds.{list_any-append}
+use Rattle.std.proofs.lemmas.Bool.{or_from}
 use Rattle.ss_text.specs.Texts.{Text}
-use Rattle.view_def.specs.Conditions.{Condition, Conditions, none, more}
+use Rattle.view_def.specs.Conditions.{none, more}
 use Rattle.view_def.specs.Profile.{is_term_over, cell_folds, range_folds, term_folds}
 use Rattle.view_def.specs.RawConditions as raw_conditions
 use Rattle.view_def.specs.RawConditions.{Raw, Raws, AnyRaw, AllRaw, NotRaw, CompareRaw}
-use Rattle.view_def.specs.Terms.{terms_of, terms_of_each, terms_of_filter}
+use Rattle.view_def.specs.Terms.{terms_of, terms_of_each}
 use Rattle.view_def.specs.Written as written
 use Rattle.view_def.specs.Profile as profile
 use Rattle.view_def.specs.declared.typed.Place.{Place}
@@ -23,16 +23,14 @@ use Rattle.view_def.specs.declared.written.RawRange.{RawRange}
 use Rattle.view_def.specs.declared.written.RawRange.TheVariants as raw
 use Rattle.view_def.specs.declared.written.RawTerm.{RawTerm}
 use Rattle.view_def.specs.declared.written.RawTerm.TheVariants as raw_term
-use Rattle.var_typing.specs.declared.fault.TypeFault.{TypeFault}
 use Rattle.var_typing.specs.declared.fault.TypeFault.TheVariants.{TwoFolds}
 use Rattle.var_typing.specs.declared.folds.Fold.{Fold}
 use Rattle.var_typing.specs.Declarations as declarations
 use Rattle.var_typing.specs.Declarations.{too_many, range_fault, alias_folds, declaration_fault, declarations_fault, typed_range}
 use Rattle.var_typing.specs.Folds.{fold_at, fold_of, is_other, has_other, two_folds, attribute_fault}
-use Rattle.var_typing.specs.Refusals.{◌or_else◌, in_turn}
 use Rattle.var_typing.specs.Scope.{place_named, variable_at, name_fault, tuple_fault}
 use Rattle.var_typing.specs.Terms as terms
-use Rattle.var_typing.specs.Terms.{term_fault, terms_fault, terms_in, terms_in_each, terms_in_filter, typed_term, typed_condition, typed_conditions}
+use Rattle.var_typing.specs.Terms.{term_fault, terms_fault, terms_in, terms_in_each, typed_term, typed_condition, typed_conditions}
 use Rattle.var_typing.proofs.Members.{Among, among_append, among_left, among_right, among_flat_map, among_flat_map_back, among_map, none_among}
 use Rattle.var_typing.proofs.ProfileDeclarations.{in_turn_keeps}
 use Rattle.var_typing.proofs.ProfileScope.{ranges_of, term_over}
@@ -48,17 +46,13 @@ other_back f g = grind (arith, nat_tests)
 not_other_itself : (f : Fold) → is_other f f ≡ false
 not_other_itself f = grind (arith, nat_tests)
 
-or_both : (a b : Bool) → a ≡ false → b ≡ false → (a || b) ≡ false
-or_both false b h k = k
-or_both true b h k = absurd (cc)
-
 -- one more that has no other
 no_other_last : (fs : List Fold) (f : Fold) → NoOther fs → has_other fs f ≡ false → NoOther (fs ++ f ∷ [])
 no_other_last fs f h k g i = list_any-append (is_other g) fs (f ∷ []) ∙ cases (among_append g fs (f ∷ []) i)
   where
     cases : Among g fs ⊎ Among g (f ∷ []) → (has_other fs g || (is_other g f || false)) ≡ false
-    cases (inl i) = or_both _ _ (h g i) (or_both _ _ (other_back g f ∙ none_among (is_other f) g fs k i) refl)
-    cases (inr (inl e)) = or_both _ _ (ap (has_other fs) e ∙ k) (or_both _ _ (ap (λ (x : Fold). is_other x f) e ∙ not_other_itself f) refl)
+    cases (inl i) = or_from _ _ (h g i) (or_from _ _ (other_back g f ∙ none_among (is_other f) g fs k i) refl)
+    cases (inr (inl e)) = or_from _ _ (ap (has_other fs) e ∙ k) (or_from _ _ (ap (λ (x : Fold). is_other x f) e ∙ not_other_itself f) refl)
     cases (inr (inr j)) = absurd j
 
 -- the fold of an attribute place that passes

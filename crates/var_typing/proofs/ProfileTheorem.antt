@@ -1,9 +1,8 @@
 -- What typing gives for a written view is a view of the profile.
-use Rattle.std.proofs.Common.{◌≡◌, ◌≤◌, ◌++◌, ◌⊎◌, inl, inr, ℕ, Bool, true, List, Option, Some, None, Result, Ok, Err, refl, sym, ap, ◌∙◌, subst, arith, length, map}
-use Rattle.std.specs.Prelude.{option_map, option_to_list, option_and_then, slice_get, position}
-use Rattle.std.specs.List.{list_all}
+use Rattle.std.proofs.Common.{◌≡◌, ◌≤◌, ◌++◌, ◌⊎◌, inl, inr, List, Option, Some, None, Ok, refl, sym, ◌∙◌, subst, arith, length, map}
+use Rattle.std.specs.Prelude.{option_map, option_to_list, position}
 use Rattle.std.proofs.lemmas.List.{length-map, map-append}
-use Rattle.view_def.specs.Profile.{IsViewOfProfile, is_term_over, is_well_joined_filter, folds_of_view}
+use Rattle.view_def.specs.Profile.{IsViewOfProfile, is_term_over, is_well_joined_filter}
 use Rattle.view_def.specs.Query.{Query}
 use Rattle.view_def.specs.RawConditions.{Raw}
 use Rattle.view_def.specs.Terms.{terms_of_filter, terms_of_view}
@@ -12,14 +11,12 @@ use Rattle.view_def.specs.Written as written
 use Rattle.view_def.specs.Written.{IsWritten}
 use Rattle.view_def.specs.declared.typed.Term.{Term}
 use Rattle.view_def.specs.declared.written.RawDecl.{RawDecl}
-use Rattle.view_def.specs.declared.written.RawTerm.{RawTerm}
 use Rattle.var_typing.specs.declared.fault.TypeFault.{TypeFault}
 use Rattle.var_typing.specs.Declarations.{alias_folds, declarations_fault, typed_range}
-use Rattle.var_typing.specs.Header.{database_fault, label_fault, columns_fault, column_places, is_variable, header_fault, count_fault}
-use Rattle.var_typing.specs.Refusals.{◌or_else◌}
+use Rattle.var_typing.specs.Header.{database_fault, label_fault, column_places, is_variable, header_fault, count_fault}
 use Rattle.var_typing.specs.Scope.{variable_named}
-use Rattle.var_typing.specs.Terms.{terms_fault, terms_in_filter, typed_term, typed_condition}
-use Rattle.var_typing.specs.Typed.{fault_of, answered, without, query_from, typed}
+use Rattle.var_typing.specs.Terms.{terms_in_filter, typed_term, typed_condition}
+use Rattle.var_typing.specs.Typed.{fault_of, answered, query_from, typed}
 use Rattle.var_typing.proofs.Members.{Among, among_append, among_left, among_right, among_split, among_contains, among_all}
 use Rattle.var_typing.proofs.ProfileDeclarations.{few_declarations, few_over_rows, ranges_in_turn}
 use Rattle.var_typing.proofs.ProfileHeader.{legal_database, label_over, distinct_constants, some_constant, keys_many, spot_few, with_value, with_column, column_over}

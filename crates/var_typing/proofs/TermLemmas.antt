@@ -3,9 +3,8 @@ use Rattle.std.proofs.Common.{◌≡◌, ◌≢◌, ◌<◌, ◌+◌, ◌∷◌,
 use Rattle.std.specs.List.{flat_map}
 use Rattle.std.proofs.lemmas.List.{take_more, drop_more}
 use Rattle.std.proofs.lemmas.List.Concat.{flat_map-append}
-use Rattle.ss_text.specs.Texts.{Text}
 use Rattle.ss_text.proofs.PlaceLemmas.{map_last}
-use Rattle.view_def.specs.Conditions.{Condition, Conditions, more, condition_of, conditions_of}
+use Rattle.view_def.specs.Conditions.{more, condition_of, conditions_of}
 use Rattle.view_def.specs.RawConditions.{raw_of, raws}
 use Rattle.view_def.specs.declared.typed.Cond.{Cond}
 use Rattle.view_def.specs.declared.written.RawCond.{RawCond}

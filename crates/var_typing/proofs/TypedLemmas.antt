@@ -1,12 +1,11 @@
 -- The whole walk: which part of it refuses first, and what stands where none does.
-use Rattle.std.proofs.Common.{◌≡◌, ◌≢◌, ◌<◌, ◌++◌, [], ℕ, Bool, true, false, not, List, Option, Some, None, Ok, Err, refl, sym, ap, ◌∙◌, arith, length, map}
-use Rattle.std.specs.Prelude.{nat_eq, position, option_map}
+use Rattle.std.proofs.Common.{◌≡◌, ◌≢◌, ◌<◌, ◌++◌, [], ℕ, false, not, List, Option, Some, None, Ok, Err, refl, sym, ap, ◌∙◌, arith, length, map}
+use Rattle.std.specs.Prelude.{nat_eq}
 use Rattle.std.specs.Option.{ForSome}
 use Rattle.std.proofs.lemmas.Bool.Decides.{nat_tests}
 use Rattle.std.proofs.lemmas.List.{length-map}
 use Rattle.std.proofs.lemmas.List.Quantifiers.{position-Some}
 use Rattle.ss_text.specs.Texts.{Text}
-use Rattle.view_def.specs.Query.{Query}
 use Rattle.view_def.specs.Tree.{ViewTree}
 use Rattle.view_def.specs.Conditions.{Condition}
 use Rattle.view_def.specs.declared.typed.Place.{Place}

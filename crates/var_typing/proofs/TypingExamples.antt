@@ -1,5 +1,5 @@
 -- Examples of typing: views of every kind, each refusal, and views that meet two causes at once.
-use Rattle.std.proofs.Common.{◌≡◌, refl, ℕ, List, [], ◌∷◌, ◌++◌, map, Option, Some, None, Result, Ok, Err, true, false}
+use Rattle.std.proofs.Common.{◌≡◌, refl, List, [], ◌∷◌, map, Option, Some, None, Ok, Err, true, false}
 use Rattle.std.specs.Prelude.{codes}
 use Rattle.std.specs.Str.{is_utf8, chars}
 use lib.Utf8.{encode}
@@ -16,7 +16,7 @@ use Rattle.view_def.specs.declared.typed.Place.TheVariants.{Fixed, Var}
 use Rattle.view_def.specs.declared.typed.Term.{Term}
 use Rattle.view_def.specs.declared.typed.Term.TheVariants as term
 use Rattle.view_def.specs.declared.typed.Range.TheVariants as range
-use Rattle.view_def.specs.RawConditions.{Raw, raws, AnyRaw, AllRaw, NotRaw, CompareRaw}
+use Rattle.view_def.specs.RawConditions.{Raw, CompareRaw}
 use Rattle.view_def.specs.Conditions.{Compares}
 use Rattle.view_def.specs.Tree.{ViewTree}
 use Rattle.view_def.specs.Query.{Query}

@@ -1,7 +1,5 @@
 -- The declarations, from left to right.
-use Rattle.std.specs.Prelude.{ℕ, Bool, true, false, ◌&&◌, ◌||◌, nat_le, List, [], ◌∷◌, length, flat_map, count_by, Option, Some, None, is_some}
-use Rattle.ss_text.specs.Texts.{Text}
-use Rattle.view_def.specs.declared.written.Name.{Name}
+use Rattle.std.specs.Prelude.{ℕ, Bool, true, false, ◌&&◌, ◌||◌, nat_le, List, [], length, flat_map, count_by, Option, None, is_some}
 use Rattle.view_def.specs.declared.written.RawRange.{RawRange}
 use Rattle.view_def.specs.declared.written.RawRange.TheVariants as raw
 use Rattle.view_def.specs.declared.written.RawDecl.{RawDecl}

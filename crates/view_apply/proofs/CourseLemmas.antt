@@ -1,5 +1,5 @@
 -- Lines that were all taken, one after the other: the script that they say was applied.
-use Rattle.std.proofs.Common.{◌≡◌, ◌+◌, ◌∷◌, ◌++◌, ◌∙◌, [], ℕ, suc, List, Bool, true, false, Option, None, Some, refl, sym, ap, subst, length, map, arith}
+use Rattle.std.proofs.Common.{◌≡◌, ◌+◌, ◌∷◌, ◌++◌, ◌∙◌, [], ℕ, suc, List, Bool, true, false, Option, Some, refl, sym, ap, subst, length, map, arith}
 use Rattle.std.specs.Prelude.{◌||◌, Result, Ok, Err}
 use Rattle.std.specs.List.{list_any}
 use Rattle.std.proofs.lemmas.List.Folds.{list_any-append}
@@ -34,11 +34,8 @@ pub record Applies (s : ApplyState) (script : List TableLine) (u : ApplyState) :
   pub shape : u.shape ≡ s.shape
   pub before : u.before ≡ s.before
 
-no_more : (n : ℕ) → n ≡ n + 0
-no_more n = omega arith
-
 applies_none : (s : ApplyState) → Applies s [] s
-applies_none s = record { tables = refl; named = λ labels h. h; lines = no_more s.lines; view_db = refl; shape = refl; before = refl }
+applies_none s = record { tables = refl; named = λ labels h. h; lines = omega arith; view_db = refl; shape = refl; before = refl }
 
 one_more : (a b c : ℕ) → c ≡ a + 1 + b → c ≡ a + suc b
 one_more a b c e = omega arith

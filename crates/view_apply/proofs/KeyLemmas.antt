@@ -1,5 +1,5 @@
 -- The keys of tables to which lines are applied.
-use Rattle.std.proofs.Common.{◌≡◌, ◌≢◌, ◌==◌, ◌∷◌, [], ℕ, List, Bool, true, false, Option, None, Some, Bor, is_some, cond, refl, ap, subst, length, map, inl, inr}
+use Rattle.std.proofs.Common.{◌≡◌, ◌≢◌, ◌==◌, ◌∷◌, [], List, Bool, true, false, Option, None, Some, Bor, is_some, cond, refl, ap, subst, length, map, inl, inr}
 use Rattle.std.specs.Prelude.{Ok}
 use Rattle.std.specs.Option.{option_copied}
 use Rattle.std.specs.List.{AllByRecursion}
@@ -16,7 +16,7 @@ use Rattle.flow_law.specs.Tables.{TableValue, TablesValue, empty_table}
 use Rattle.flow_law.specs.Lines.{table_after, at_table, after_line, label_of}
 use Rattle.change_script.specs.declared.applying.ApplyFault.{ApplyFault}
 use Rattle.change_script.specs.Applied.{wrong_key, key_fault, line_fault, unless, applied_line}
-use Rattle.view_folder.specs.TableFiles.{FitsShape, FitShape}
+use Rattle.view_folder.specs.TableFiles.{FitShape}
 use Rattle.view_folder.specs.Held.{KeysFit, AllKeysFit}
 
 -- what is borrowed is there where it is

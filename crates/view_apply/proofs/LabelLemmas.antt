@@ -1,5 +1,5 @@
 -- A label among ascending ones.
-use Rattle.std.proofs.Common.{◌≡◌, ◌∷◌, [], ◌<◌, ℕ, zero, suc, List, Result, Ok, Err, refl, sym, ap, ◌∙◌, subst, length, map, arith}
+use Rattle.std.proofs.Common.{◌≡◌, ◌∷◌, [], ℕ, zero, suc, List, Ok, Err, refl, sym, subst, length, map, arith}
 use Rattle.std.specs.Prelude.{insert}
 use Rattle.std.specs.List.{AllByRecursion}
 use Rattle.std.specs.List.Sorted.{IsStrictlySortedBy, IsSearchInRange, IsBinarySearchResult}

@@ -5,7 +5,7 @@ use Rattle.ss_text.specs.Texts.{Text, Row}
 use Rattle.outside.specs.States.{StoreState, SinkState}
 use Rattle.outside.specs.Reading.{OnlyRead}
 use Rattle.outside.specs.Tree.{Tree}
-use Rattle.effects.specs.Effects.{Effect, Contents, World, world_of, contents, performed, Partly}
+use Rattle.effects.specs.Effects.{Effect, Contents, world_of, contents, performed, Partly}
 use Rattle.effects.specs.declared.stop.Stop.{Stop}
 use Rattle.effects.specs.declared.stop.Stop.TheVariants as stop
 use Rattle.effects.specs.Blame.{Steady, SinkBlames, Blames}
@@ -19,7 +19,6 @@ use Rattle.view_folder.specs.Files.{view_folder}
 use Rattle.view_folder.specs.Held.{held, is_refusal}
 use Rattle.run_lines.specs.Printing.{refuses}
 use Rattle.view_apply.specs.Refused.{tables_fields}
-use Rattle.view_apply.specs.declared.opening.OpenedFolder.{OpenedFolder}
 use Rattle.view_apply.specs.declared.opening.OpenedFolder.TheVariants.{Open, Refused}
 use Rattle.view_apply.specs.Applying.{ApplyState, just_read, by_folder, opening}
 use Rattle.view_apply.specs.Opening.{Opens}

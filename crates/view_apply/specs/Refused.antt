@@ -1,9 +1,9 @@
 -- The name and the fields of each refusal of a line and of a view folder, as they are printed.
-use Rattle.std.specs.Prelude.{ℕ, List, [], ◌∷◌, ◌++◌, Option, None, Some, option_to_list, slice_index_or, codes, decimal}
+use Rattle.std.specs.Prelude.{ℕ, [], ◌∷◌, Option, None, Some, option_to_list, slice_index_or, codes, decimal}
 use Rattle.ss_text.specs.Texts.{Text, Row}
 use Rattle.flow_law.specs.declared.refused.IllegalLabel.{IllegalLabel}
 use Rattle.flow_law.specs.declared.line.TableLine.{TableLine}
-use Rattle.flow_law.specs.declared.line.TableLine.TheVariants.{TableMinus, TablePlus, RowMinus, ColumnMinus, ColumnPlus, RowPlus, Cell}
+use Rattle.flow_law.specs.declared.line.TableLine.TheVariants.{ColumnMinus, ColumnPlus, Cell}
 use Rattle.flow_law.specs.Lines.{label_of}
 use Rattle.change_script.specs.declared.reading.ScriptFault.{ScriptFault}
 use Rattle.change_script.specs.declared.reading.ScriptFault.TheVariants as script

@@ -1,6 +1,6 @@
 -- What the lines of an input say, and what is left of a folder when they were applied.
-use Rattle.std.specs.Prelude.{◌≡◌, ◌+◌, ◌||◌, ℕ, List, [], ◌∷◌, ◌++◌, length, map, filter, is_some, Option, None, Some, Result, Ok, Err}
-use Rattle.ss_text.specs.Texts.{Text, Row, is_in}
+use Rattle.std.specs.Prelude.{ℕ, List, [], ◌∷◌, ◌++◌, Option, None, Some, Result, Ok, Err}
+use Rattle.ss_text.specs.Texts.{Row}
 use Rattle.tab_lines.specs.Spelling.{unspell}
 use Rattle.flow_law.specs.declared.line.TableLine.{TableLine}
 use Rattle.change_script.specs.declared.reading.ScriptLine.{ScriptLine}

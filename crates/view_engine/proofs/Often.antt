@@ -3,6 +3,7 @@ use Rattle.std.proofs.Common.{◌≡◌, ◌+◌, ◌∷◌, [], ℕ, Bool, List
 use Rattle.std.specs.Prelude.{◌||◌, nat_lt}
 use Rattle.std.specs.List.{AllByRecursion, list_any}
 use Rattle.std.specs.Ordering.{eq_by_cmp}
+use Rattle.std.proofs.lemmas.Bool.{or_right}
 use Rattle.ss_text.specs.Texts.{Text}
 use Rattle.ss_text.proofs.KeyLemmas.{IsKeyOrder, equal_is, equal_itself}
 use Rattle.ss_text.proofs.SetLemmas.{SameElements}
@@ -17,10 +18,6 @@ use Rattle.operator_law.proofs.Weights.{weigh-sum_by, weigh-map}
 
 fact_order : IsKeyOrder fact_cmp (eq_by_cmp fact_cmp)
 fact_order = record { total = fact_total; same = fact_same; ties = λ f g. refl }
-
-any_or : (b c : Bool) → c ≡ true → (b || c) ≡ true
-any_or true c e = refl
-any_or false c e = e
 
 any_weighs : (p : Fact → Bool) (fs : List Fact) → nat_lt 0 (weigh (λ (f : Fact). cond (p f) 1 0) fs) ≡ list_any p fs
 any_weighs p [] = refl
@@ -58,7 +55,7 @@ module _ (fs gs : List Fact) (often : EachAsOften fs gs) where
       of_some [] sub = tt
       of_some (f ∷ hs) sub =
           let here : list_any (eq_by_cmp fact_cmp f) (f ∷ hs) ≡ true = ap (λ (b : Bool). b || list_any (eq_by_cmp fact_cmp f) hs) (equal_itself fact_order f) in
-          (among P fs h f (same_elements.same (eq_by_cmp fact_cmp f) ∙ sub (eq_by_cmp fact_cmp f) here), of_some hs (λ p any. sub p (any_or (p f) (list_any p hs) any)))
+          (among P fs h f (same_elements.same (eq_by_cmp fact_cmp f) ∙ sub (eq_by_cmp fact_cmp f) here), of_some hs (λ p any. sub p (or_right (p f) (list_any p hs) any)))
 
   pub bear_same : (o : Option Text) → BearLabel o fs → BearLabel o gs
   bear_same None h = tt

@@ -10,13 +10,13 @@ use Rattle.std.specs.declared.cmp.Ordering.{Ordering}
 use Rattle.std.specs.declared.cmp.Ordering.TheVariants.{Less, Equal, Greater}
 use Rattle.std.specs.Cmp.Lexicographic.{texts_ties}
 use Rattle.std.specs.List.Sorted.{IsStrictlySortedBy}
-use Rattle.std.proofs.lemmas.Bool.{false_from_ne_true, or_right, and_parts, or_parts}
+use Rattle.std.proofs.lemmas.Bool.{false_from_ne_true, or_right, and_parts, or_parts, not-true}
 use Rattle.std.proofs.lemmas.Slice.Eq.{bytes_eq-Decides}
 use Rattle.std.proofs.lemmas.Cmp.{nat_list_cmp_total, tied_itself, eq_by_cmp_equiv}
 use Rattle.ss_text.specs.Texts.{Text, text_cmp, text_eq, is_in}
 use Rattle.outside.specs.Counts.{risen}
 use Rattle.outside.specs.Tree.{Tree, Place, place_cmp, file_at, files_of, names_in}
-use Rattle.outside.specs.WholeLaw.{place_exact}
+use Rattle.outside.specs.WholeLaw.{place_exact, is_eq_true}
 use Rattle.outside.proofs.PlaceLemmas.{place_total, names_ascend}
 use Rattle.effects.specs.Effects.{Stored, performed, writing, removing}
 use Rattle.effects.proofs.EffectLemmas.{performed_append}
@@ -28,14 +28,9 @@ use Rattle.view_folder.specs.Sync.{written, removed, opening_sync, opening_count
 same_name : (d q k : Text) → eq_by_cmp place_cmp (d, q) (d, k) ≡ text_eq q k
 same_name d q k = ap (λ o. is_eq (ordering_then o (text_cmp q k))) (tied_itself nat_list_cmp_total d) ∙ sym (texts_ties q k)
 
-is_equal : (o : Ordering) → is_eq o ≡ true → o ≡ Equal
-is_equal Less h = absurd (cc)
-is_equal Equal h = refl
-is_equal Greater h = absurd (cc)
-
 -- and not in two folders
 other_folder : (p : Place) (d k : Text) → p.0 ≢ d → eq_by_cmp place_cmp p (d, k) ≡ false
-other_folder p d k ne = false_from_ne_true _ (λ t. ne (ap (λ (q : Place). q.0) (place_exact p (d, k) (is_equal _ t))))
+other_folder p d k ne = false_from_ne_true _ (λ t. ne (ap (λ (q : Place). q.0) (place_exact p (d, k) (is_eq_true _ t))))
 
 -- a file that is written, and what is there beside it
 pub write_at : (d k bytes : Text) (s : Stored) (q : Text) → file_at (writing d k bytes s).tree d q ≡ cond (text_eq q k) (Some bytes) (file_at s.tree d q)
@@ -131,7 +126,7 @@ named_there d q (p ∷ ps) =
     ] refl
   where
     apart : bytes_eq p.0 d ≡ false → eq_by_cmp place_cmp (d, q) p ≡ false
-    apart e = false_from_ne_true _ (λ t. let same : (d, q) ≡ p = place_exact (d, q) p (is_equal _ t) in let one = (bytes_eq-Decides p.0 d).1 (sym (ap (λ (x : Place). x.0) same)) in cc)
+    apart e = false_from_ne_true _ (λ t. let same : (d, q) ≡ p = place_exact (d, q) p (is_eq_true _ t) in let one = (bytes_eq-Decides p.0 d).1 (sym (ap (λ (x : Place). x.0) same)) in cc)
 
 pub there : (t : Tree) (d q : Text) → is_in q (files_of t d) ≡ is_some (file_at t d q)
 there t d q = named_there d q (map.keys t.files) ∙ sym (map.contains_key-keys t.files (d, q))
@@ -222,19 +217,22 @@ module _ {K X : Type 0} (R : K → K → Ordering) where
       let parts = and_parts (is_lt (R k e.0)) (below_all R k es) h in
       (less (R k e.0) parts.0, each_below k es parts.1)
 
-  keys_ascend : (es : List (K × X)) → map.is_sorted R es ≡ true → IsStrictlySortedBy R (each (λ (e : K × X). e.0) es)
+  pub keys_ascend : (es : List (K × X)) → map.is_sorted R es ≡ true → IsStrictlySortedBy R (each (λ (e : K × X). e.0) es)
   unfolding IsStrictlySortedBy
   keys_ascend [] h = tt
   keys_ascend (e ∷ es) h =
       let parts = and_parts (below_all R e.0 es) (map.is_sorted R es) h in
       (each_below e.0 es parts.0, keys_ascend es parts.1)
 
-is_true : (b : Bool) → T b → b ≡ true
+pub is_true : (b : Bool) → T b → b ≡ true
 is_true true h = refl
 is_true false h = absurd h
 
+pub files_ascend : (t : Tree) (d : Text) → IsStrictlySortedBy text_cmp (files_of t d)
+files_ascend t d = names_ascend d (map.keys t.files) (keys_ascend place_cmp (map.entries t.files) (is_true _ (map.entries_sorted t.files)))
+
 apart_files : (t : Tree) (d : Text) → Apart (files_of t d)
-apart_files t d = apart_sorted (files_of t d) (names_ascend d (map.keys t.files) (keys_ascend place_cmp (map.entries t.files) (is_true _ (map.entries_sorted t.files))))
+apart_files t d = apart_sorted (files_of t d) (files_ascend t d)
 
 one_named : (fs : List File) (q : Text) → is_named fs q ≡ true → is_some (bytes_in fs q) ≡ true
 one_named [] q h = absurd (cc)
@@ -299,12 +297,8 @@ module _ (d : Text) (fs : List File) (s : Stored) (h : AreViewFiles fs) where
   pub each_there : AreThere d others (wrote d fs s).tree
   each_there = each_among (λ n. is_some (file_at (wrote d fs s).tree d n) ≡ true) others (λ q e.
       let among = and_parts (is_csv_name q && not (is_named fs q)) (is_in q (files_of s.tree d)) (sym (in_filter (λ n. is_csv_name n && not (is_named fs n)) q (files_of s.tree d)) ∙ e) in
-      let unnamed = not_true (is_named fs q) (and_parts (is_csv_name q) (not (is_named fs q)) among.0).1 in
+      let unnamed = not-true (is_named fs q) (and_parts (is_csv_name q) (not (is_named fs q)) among.0).1 in
       ap is_some (written_at d fs s q h ∙ ap (λ o. option_or o (file_at s.tree d q)) (none_named fs q unnamed)) ∙ sym (there s.tree d q) ∙ among.1)
-    where
-      not_true : (b : Bool) → not b ≡ true → b ≡ false
-      not_true true e = absurd (cc)
-      not_true false e = refl
 
   pub others_apart : Apart others
   others_apart = apart_filter (λ n. is_csv_name n && not (is_named fs n)) (files_of s.tree d) (apart_files s.tree d)

@@ -5,7 +5,7 @@ use Rattle.std.specs.Option.{option_or}
 use Rattle.std.specs.List.{AllByRecursion, IsDistinct, list_all, list_any}
 use Rattle.std.specs.List.Sorted.{IsStrictlySortedBy}
 use Rattle.std.specs.declared.cmp.Ordering.TheVariants.{Less}
-use Rattle.std.proofs.lemmas.Bool.{and_parts, or_parts}
+use Rattle.std.proofs.lemmas.Bool.{and_parts, or_parts, not-true}
 use Rattle.std.proofs.lemmas.List.{take-append-drop}
 use Rattle.ss_text.specs.Texts.{Text, Row, text_cmp, row_cmp, row_eq, is_in}
 use Rattle.ss_text.specs.Label.{is_column_label, has_label_length, is_column_byte}
@@ -133,10 +133,6 @@ ascending_distinct [] h = tt
 ascending_distinct (x ∷ xs) h = (less_apart x xs h.0, ascending_distinct xs h.1)
 
 -- a legal column differs from all constant columns
-not_true : (b : Bool) → not b ≡ true → b ≡ false
-not_true true h = absurd (cc)
-not_true false h = refl
-
 none_like : (column : Text) (constants : Row) → list_any (λ c. bytes_eq c column) constants ≡ false → Apart column constants
 none_like column [] h = tt
 none_like column (c ∷ cs) h =
@@ -146,7 +142,7 @@ none_like column (c ∷ cs) h =
 column_apart : (column : Text) (constants : Row) → is_column_label column constants ≡ true → Apart column constants
 unfolding is_column_label
 column_apart column constants h =
-    none_like column constants (not_true (list_any (λ c. bytes_eq c column) constants) (and_parts (has_label_length column && list_all is_column_byte column) (not (list_any (λ c. bytes_eq c column) constants)) h).1)
+    none_like column constants (not-true (list_any (λ c. bytes_eq c column) constants) (and_parts (has_label_length column && list_all is_column_byte column) (not (list_any (λ c. bytes_eq c column) constants)) h).1)
 
 columns_apart : (columns constants : Row) → AllByRecursion (λ column. is_column_label column constants ≡ true) columns → AllApart columns constants
 columns_apart [] constants h = tt

@@ -86,11 +86,11 @@ fn spliced(alloc: Global, spot: usize, constant: &Row, dynamic: &[Text]) -> Resu
 }
 
 // Puts copies of these texts last.
-fn append(record: &mut Vec<Text>, texts: &[Text]) -> Result<(), NoMemory>
-    ensures { IfOk result (λ _. record.new.items ≡ record.old.items ++ texts.now) }
+fn append(row: &mut Vec<Text>, texts: &[Text]) -> Result<(), NoMemory>
+    ensures { IfOk result (λ _. row.new.items ≡ row.old.items ++ texts.now) }
 {
     for text in texts {
-        record.push(text.copy()?)?;
+        row.push(text.copy()?)?;
     }
     Ok(())
 }

@@ -1,4 +1,3 @@
-use Rattle.std.proofs.Common.{◌≡◌}
 use Rattle.change_draft.proofs.counted.once_more.Goals as goal
 
 pub returns-clause-more : goal.returns-clause-more

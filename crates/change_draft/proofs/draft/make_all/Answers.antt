@@ -1,4 +1,4 @@
-use Rattle.std.proofs.Common.{◌≡◌, ◌<◌, ◌≤◌, ◌+◌, length, arith, sym, subst, refl}
+use Rattle.std.proofs.Common.{◌<◌, ◌+◌, length, arith, sym, subst, refl}
 use Rattle.schema_model.specs.Catalogue.{CatalogueValue}
 use Rattle.change_draft.proofs.DraftLemmas.{IsLeft, can_make, one_made, all_made}
 use Rattle.change_draft.proofs.draft.make_all.Goals as goal

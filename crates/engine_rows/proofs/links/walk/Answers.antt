@@ -1,5 +1,4 @@
-use Rattle.std.proofs.Common.{◌≡◌, ℕ, sym, ◌∙◌}
-use Rattle.row_links.specs.Parts.{cells_at, same_cells}
+use Rattle.std.proofs.Common.{sym, ◌∙◌}
 use Rattle.row_links.specs.Live.{at_place}
 use Rattle.row_links.proofs.Seen.{some_row}
 use Rattle.row_links.proofs.Places.{passing_behind}

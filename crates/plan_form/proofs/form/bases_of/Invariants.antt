@@ -1,6 +1,6 @@
 use Rattle.std.proofs.Common.{◌≡◌, ◌++◌, [], drop, map}
 use Rattle.view_def.specs.Query.{query_of}
-use Rattle.plan_law.specs.Columns.{tested_terms, headers_from}
+use Rattle.plan_law.specs.Columns.{headers_from}
 use Rattle.plan_form.specs.Bases.{base_value, bases_from}
 use Rattle.plan_form.proofs.form.bases_of.Given as goal
 

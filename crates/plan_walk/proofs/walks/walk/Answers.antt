@@ -8,8 +8,9 @@ use Rattle.join_delta.specs.Joins.{JoinValue}
 use Rattle.plan_law.specs.Net.{IsNet}
 use Rattle.plan_law.specs.Chain.{Walks, walk_pairs}
 use Rattle.plan_walk.specs.Stages.{joint_in, sides_in, side_moves}
-use Rattle.plan_walk.proofs.Stages.{walks_on, pairs_on, nets_on, long_on, all_left, all_last}
+use Rattle.plan_walk.proofs.Stages.{walks_on, pairs_on, nets_on, long_on, all_last}
 use Rattle.plan_walk.proofs.walks.walk.Goals as goal
+use Rattle.ss_text.proofs.GroupLemmas.{all_front}
 
 pub bounds-joins-len : goal.bounds-joins-len
 bounds-joins-len g c =
@@ -43,7 +44,7 @@ loop-right-preserved g c =
       walks = walks_on joins n join lt at olds_sides sides out right m longer was.counted pushed c.args.first olds next refl was.walks c.in_ok-moves.ensures.next;
       counted = long_on joins n join lt at olds_sides sides out right m longer was.counted pushed;
       nets = λ f h.
-          let before = was.nets f (all_left IsNet olds (right ∷ []) h) in
+          let before = was.nets f (all_front IsNet olds (right ∷ []) h) in
           (nets_on joins n join lt at olds_sides sides out right m longer was.counted pushed before.0 before.1 (all_last IsNet olds right h), c.in_ok-moves.ensures.net);
       cost = omega (arith, was.cost, c.in_ok-moves.ensures.cost, pairs_on joins n join lt at olds_sides sides out right m longer was.counted pushed);
       rises = omega (arith, was.rises, c.in_ok-moves.ensures.rises);

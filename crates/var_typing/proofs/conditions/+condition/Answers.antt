@@ -5,7 +5,7 @@ use Rattle.view_def.specs.Conditions.{AnyOf, AllOf, condition_of, conditions_of}
 use Rattle.view_def.specs.RawConditions.{Raw, AnyRaw, AllRaw, raw_of, raws}
 use Rattle.view_def.specs.declared.written.RawCond.{RawCond}
 use Rattle.view_def.specs.declared.written.RawCond.TheFolds.{the_lemmas}
-use Rattle.var_typing.specs.Terms.{terms_fault, terms_in, terms_in_each, typed_condition, typed_conditions}
+use Rattle.var_typing.specs.Terms.{terms_fault, terms_in, terms_in_each, typed_condition}
 use Rattle.var_typing.proofs.TermLemmas.{typed_members, member_passed, member_refused, member_taken, member_typed}
 use Rattle.var_typing.proofs.conditions.+condition.Goals as goal
 

@@ -5,7 +5,6 @@ use Rattle.view_def.specs.Conditions.{Condition, condition_of}
 use Rattle.view_def.specs.RawConditions.{raw_of}
 use Rattle.view_def.specs.declared.typed.Term.{Term}
 use Rattle.view_def.specs.declared.written.RawDecl.{RawDecl}
-use Rattle.view_def.specs.declared.written.RawTerm.{RawTerm}
 use Rattle.var_typing.specs.Terms.{terms_in_filter, typed_term, typed_condition}
 use Rattle.var_typing.proofs.TermLemmas.{first_refused, then_more}
 use Rattle.var_typing.proofs.view.type_body.Goals as goal

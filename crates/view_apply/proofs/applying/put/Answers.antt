@@ -1,6 +1,3 @@
-use Rattle.std.proofs.Common.{◌∙◌, ap}
-use Rattle.std.specs.Prelude.{insert}
-use Rattle.ss_text.specs.Texts.{Text}
 use Rattle.view_apply.proofs.LabelLemmas.{found_kept, missing_placed, missing_ascends}
 use Rattle.view_apply.proofs.applying.put.Goals as goal
 

@@ -1,4 +1,4 @@
-use Rattle.std.proofs.Common.{◌≡◌, ◌+◌, ◌-◌, ◌<◌, ◌∙◌, sym, arith}
+use Rattle.std.proofs.Common.{◌+◌, ◌-◌, ◌∙◌, sym, arith}
 use Rattle.change_draft.proofs.RowsLaw.{told_alike, untold}
 use Rattle.change_draft.proofs.counted.RowCounts.fills.Goals as goal
 

@@ -1,4 +1,4 @@
-use Rattle.std.proofs.Common.{◌≡◌, ◌∙◌}
+use Rattle.std.proofs.Common.{◌∙◌}
 use Rattle.change_draft.proofs.RowsLaw.{schema_judged, of_others}
 use Rattle.change_draft.proofs.counted.RowCounts.judge.Goals as goal
 

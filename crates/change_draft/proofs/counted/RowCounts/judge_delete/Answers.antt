@@ -1,4 +1,4 @@
-use Rattle.std.proofs.Common.{◌≡◌, ◌+◌, ◌∙◌, ℕ, ap, sym}
+use Rattle.std.proofs.Common.{◌+◌, ◌∙◌, ℕ, ap, sym}
 use Rattle.std.specs.Prelude.{nat_le}
 use Rattle.counts.specs.Counted.{counted}
 use Rattle.schema_model.specs.States.{plain_relation}

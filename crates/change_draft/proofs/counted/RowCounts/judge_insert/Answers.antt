@@ -1,4 +1,4 @@
-use Rattle.std.proofs.Common.{◌≡◌, ◌+◌, ◌-◌, ◌∙◌, ℕ, ap, sym}
+use Rattle.std.proofs.Common.{◌+◌, ◌-◌, ◌∙◌, ℕ, ap, sym}
 use Rattle.std.specs.Prelude.{nat_le}
 use Rattle.change_draft.proofs.RowsLaw.{full_behind, insert_refused, insert_full, insert_free}
 use Rattle.change_draft.proofs.counted.RowCounts.judge_insert.Goals as goal

@@ -1,8 +1,6 @@
-use Rattle.std.proofs.Common.{◌≡◌, List, subst, sym}
+use Rattle.std.proofs.Common.{◌≡◌, subst, sym}
 use Rattle.schema_model.specs.Changes.{after_all}
-use Rattle.schema_model.specs.declared.change.Change.{Change}
 use Rattle.change_draft.specs.Drafts.{DraftState, without_rows}
-use Rattle.change_draft.specs.Counted.{AreCounted}
 use Rattle.change_draft.specs.Kept.{CountedIn}
 use Rattle.change_draft.specs.declared.draft.Kept.{Kept}
 use Rattle.change_draft.proofs.RowsLaw.{left_by_all}

@@ -1,9 +1,9 @@
 use Rattle.std.proofs.Common.{◌≡◌, ◌<◌, ◌≤◌, ◌-◌, ap, sym, length, arith}
 use Rattle.ss_text.specs.Texts.{Row}
+use Rattle.ss_text.proofs.GroupLemmas.{all_weaker}
 use Rattle.flow_law.specs.Tables.{table_value}
 use Rattle.flow_law.proofs.TableLemmas.{column_placed, column_placed_in_order}
 use Rattle.kept_tables.specs.Kept.{kept_table}
-use Rattle.kept_tables.proofs.EachLemmas.{all_weaker}
 use Rattle.kept_tables.proofs.table.KeptTable.add_column.Goals as goal
 
 pub insert_column-requires-clause-within : goal.insert_column-requires-clause-within

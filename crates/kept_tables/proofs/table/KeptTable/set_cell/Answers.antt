@@ -2,12 +2,12 @@ use Rattle.std.proofs.Common.{◌≡◌, ◌<◌, [], Bool, true, refl, ap, sym,
 use Rattle.std.specs.Prelude.{◌&&◌}
 use Rattle.ss_text.specs.Texts.{Row, row_eq}
 use Rattle.ss_text.specs.Places.{changed_where}
+use Rattle.ss_text.proofs.GroupLemmas.{all_weaker}
 use Rattle.flow_law.specs.declared.line.TableLine.TheVariants.{Cell}
 use Rattle.flow_law.specs.Tables.{table_value}
 use Rattle.flow_law.specs.Lines.{with_cell_at}
 use Rattle.flow_law.proofs.TableLemmas.{place_of_column, line_in_order}
 use Rattle.kept_tables.specs.Kept.{kept_table}
-use Rattle.kept_tables.proofs.EachLemmas.{all_weaker}
 use Rattle.kept_tables.proofs.table.KeptTable.set_cell.Goals as goal
 
 both : {a b : Bool} → a ≡ true → b ≡ true → (a && b) ≡ true

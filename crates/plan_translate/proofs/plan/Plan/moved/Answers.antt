@@ -9,7 +9,6 @@ use Rattle.plan_walk.specs.Stages.{side_moves}
 use Rattle.plan_walk.specs.declared.walks.WalkMoves.{WalkMoves}
 use Rattle.plan_translate.specs.Read.{left_moves, kept_moves}
 use Rattle.plan_translate.specs.Plans.{PlanMoveValue, query_in}
-use Rattle.plan_translate.proofs.Each.{Pair}
 use Rattle.plan_translate.proofs.Moving.{output_in, reads_in, walked_by}
 use Rattle.plan_translate.proofs.plan.Plan.moved.Goals as goal
 use Rattle.plan_translate.proofs.plan.Plan.moved.Goals.{then-self, else-self}

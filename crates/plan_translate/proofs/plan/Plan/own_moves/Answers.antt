@@ -1,4 +1,4 @@
-use Rattle.std.proofs.Common.{◌≡◌, ◌∷◌, List, length, arith, ap, sym, ◌∙◌}
+use Rattle.std.proofs.Common.{◌≡◌, List, length, arith, ap, sym, ◌∙◌}
 use Rattle.operator_law.specs.declared.delta.Signed.{Signed}
 use Rattle.plan_law.specs.Net.{SameNet}
 use Rattle.plan_translate.specs.Parts.{own_tests, each_passing}

@@ -1,4 +1,4 @@
-use Rattle.std.proofs.Common.{◌≡◌, ◌≢◌, arith, sym, ap, ◌∙◌}
+use Rattle.std.proofs.Common.{◌≡◌, ◌≢◌, arith, ap, ◌∙◌}
 use Rattle.ss_print.specs.Fields.{group_broken_fields}
 use Rattle.ss_top.specs.Open.{OpenValue}
 use Rattle.ss_top.proofs.AnswerLemmas.{unbroken_does, broken_does}
