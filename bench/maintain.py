@@ -92,8 +92,9 @@ VIEWS = {
 }
 
 
-# So many times each run is made, in turn with the others.
+# So many times each run is made, in turn with the others. Those of `load` are short, and there are more of them.
 ROUNDS = 3
+LOAD_ROUNDS = 7
 
 
 def ended(words, root, given=None):
@@ -203,7 +204,7 @@ def time_in_sqlite(rows, count):
 def loads(counts):
     """The least of several runs of `load` for each of these numbers of changes, in turn."""
     made = {count: [] for count in counts}
-    for _ in range(ROUNDS):
+    for _ in range(LOAD_ROUNDS):
         for count, runs in made.items():
             done = run([program(), "load", str(count), "1"], ".")
             if done.status != 0:
