@@ -5,8 +5,8 @@ use Rattle.std.specs.declared.cmp.Ordering.TheVariants.{Less, Equal, Greater}
 use Rattle.std.specs.Ordering.{nat_cmp, ordering_then}
 use Rattle.std.proofs.lemmas.Bool.{ltb-true, ltb-false}
 use Rattle.ss_text.specs.Texts.{Text, Row, text_cmp, row_cmp}
-use Rattle.text_fronts.specs.Front.{front_of, is_whole, AreDigits, first_of}
-use Rattle.text_fronts.proofs.FrontLemmas.{equal_is, by_fronts, whole_same, behind_same, rows_by_fronts}
+use Rattle.ss_text.specs.Front.{front_of, is_whole, AreDigits, first_of}
+use Rattle.ss_text.proofs.FrontLemmas.{equal_is, by_fronts, whole_same, behind_same, rows_by_fronts}
 use Rattle.fact_tables.specs.Next.{next_of, holds_first, shortened, BeginsWith}
 
 -- what is next to the front

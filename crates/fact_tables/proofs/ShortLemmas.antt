@@ -5,7 +5,7 @@ use Rattle.std.specs.Int.{w64, to_be_bytes}
 use Rattle.std.proofs.lemmas.Bool.{ltb-false}
 use native.Mathlib.Nat.{div-div-eq-div-mul, pow-suc}
 use Rattle.ss_text.specs.Texts.{Text, Row}
-use Rattle.text_fronts.specs.Front.{with_bytes, front_of, is_whole, AreDigits, first_of}
+use Rattle.ss_text.specs.Front.{with_bytes, front_of, is_whole, AreDigits, first_of}
 use Rattle.fact_tables.specs.Next.{next_of, shortened}
 
 -- the first n bytes, 0 for each that is missing

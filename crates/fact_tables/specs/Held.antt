@@ -1,7 +1,7 @@
 -- What holds the values of a key.
 use Rattle.std.specs.Prelude.{ℕ, ◌≡◌, [], ◌∷◌, length, slice_index_or}
 use Rattle.ss_text.specs.Texts.{Text, Row}
-use Rattle.text_fronts.specs.Front.{front_of, AreDigits}
+use Rattle.ss_text.specs.Front.{front_of, AreDigits}
 use Rattle.fact_tables.specs.declared.values.Held.{Held}
 use Rattle.fact_tables.specs.declared.values.Held.TheVariants.{One, Two, Three, Many}
 

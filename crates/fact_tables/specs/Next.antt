@@ -1,7 +1,7 @@
 -- How the fronts of a row compare: that of its first text, and that of what is next to it.
 use Rattle.std.specs.Prelude.{ℕ, ◌≡◌, Bool, ◌||◌, if◌then◌else◌, [], ◌∷◌, length, drop, take}
 use Rattle.ss_text.specs.Texts.{Text, Row}
-use Rattle.text_fronts.specs.Front.{front_of, is_whole, first_of}
+use Rattle.ss_text.specs.Front.{front_of, is_whole, first_of}
 
 -- what is next to the front of the first text: the second text, where that front has all bytes, and else those that are left
 abbrev pub next_of : Row → Text

@@ -4,7 +4,7 @@ ghost use Rattle.std.specs.Ordering.{eq_by_cmp, as_partial_cmp};
 ghost use Rattle.std.specs.Cmp.{partial_equiv_from_equiv, partial_order_from_agreeing_total};
 ghost use Rattle.std.specs.Cmp.Lexicographic.{lists_equiv, lists_total, lists_ties, nat_list_eq_equiv, nat_list_cmp_total, texts_ties};
 ghost use Rattle.ss_text.specs.Texts.{text_cmp, row_cmp, row_eq};
-ghost use Rattle.text_fronts.specs.Front.{front_of, AreDigits, first_of};
+ghost use Rattle.ss_text.specs.Front.{front_of, AreDigits, first_of};
 ghost use Rattle.fact_tables.specs.Next.{next_of, holds_first, shortened, BeginsWith};
 
 use crate::short::ShortFirst;
@@ -13,7 +13,7 @@ use ss_text::{NoMemory, Row, Text};
 use std::alloc::Global;
 use std::cmp::Ordering;
 use std::marker::Model;
-use text_fronts::{front_of, is_whole};
+use ss_text::{front_of, is_whole};
 
 /// The values of the constant columns, which contracts see as a row; equality and order are those of the row. Two
 /// fronts stand beside them, so that most comparisons read no value: that of the first value, and that of what is
@@ -30,7 +30,7 @@ pub struct Key<'a> {
 impl<'a> Model for Key<'a> {
     ghost use Rattle.std.specs.Prelude.{◌≡◌, length, take};
     ghost use Rattle.ss_text.specs.Texts.{Row};
-    ghost use Rattle.text_fronts.specs.Front.{front_of, AreDigits, first_of};
+    ghost use Rattle.ss_text.specs.Front.{front_of, AreDigits, first_of};
     ghost use Rattle.fact_tables.specs.Next.{next_of, shortened, BeginsWith};
 
     ghost Value = { Row };

@@ -3,14 +3,14 @@ ghost use Rattle.std.specs.Prelude.{◌≡◌, ◌==◌, refl, Some, bytes_eq, l
 ghost use Rattle.std.specs.Ordering.{nat_cmp};
 ghost use Rattle.std.specs.Cmp.{partial_equiv_from_equiv};
 ghost use Rattle.std.specs.Cmp.Lexicographic.{slice_cmp, nat_list_eq_equiv, nat_list_cmp_total, texts_ties, texts_po};
-ghost use Rattle.text_fronts.specs.Front.{front_of, AreDigits};
+ghost use Rattle.ss_text.specs.Front.{front_of, AreDigits};
 
 use crate::short::Short;
 use ss_text::{NoMemory, Text};
 use std::alloc::Global;
 use std::cmp::Ordering;
 use std::marker::Model;
-use text_fronts::{front_of, is_whole};
+use ss_text::{front_of, is_whole};
 
 /// A text, which contracts see as its bytes; equality and order are those of the text. Its front stands beside it,
 /// so that most comparisons read no text.
@@ -22,7 +22,7 @@ pub struct Label<'a> {
 
 impl<'a> Model for Label<'a> {
     ghost use Rattle.std.specs.Prelude.{◌≡◌, List, ℕ};
-    ghost use Rattle.text_fronts.specs.Front.{front_of, AreDigits};
+    ghost use Rattle.ss_text.specs.Front.{front_of, AreDigits};
 
     ghost Value = { List ℕ };
 

@@ -8,7 +8,7 @@ use crate::three::Three;
 use ss_text::Text;
 use std::cmp::Ordering;
 use std::marker::Model;
-use text_fronts::{front_of, is_whole};
+use ss_text::{front_of, is_whole};
 
 /// The values of the constant columns, which contracts see as a row. One or two stand in place, so that no list of
 /// them need be made. Beside three stands the front of the third, so that a short one is not read.

@@ -4,10 +4,10 @@ use Rattle.std.specs.Prelude.{remove, slice_set, slice_index_or, bytes_eq, IsTru
 use Rattle.std.specs.List.{flat_map, zip, list_any, list_all, AllByRecursion, IsDistinct}
 use Rattle.ss_text.specs.Texts.{Text, Row, row_eq, is_in}
 use Rattle.operator_law.specs.declared.delta.Signed.{Signed}
-use Rattle.sheets.specs.declared.change.SheetChange.{SheetChange}
-use Rattle.sheets.specs.declared.change.SheetChange.TheVariants.{Up, Down, Add, Drop, Rename, Born, Gone}
+use Rattle.fold_op.specs.declared.change.SheetChange.{SheetChange}
+use Rattle.fold_op.specs.declared.change.SheetChange.TheVariants.{Up, Down, Add, Drop, Rename, Born, Gone}
 use Rattle.operator_law.specs.Bags.{weigh, come, go, MovesBag, signed, all_signed, less_first}
-use Rattle.sheets.specs.Sheets.{SheetValue, sheet_after, IsSheet, FitsSheet, with_last, less_place, absent}
+use Rattle.fold_op.specs.Sheets.{SheetValue, sheet_after, IsSheet, FitsSheet, with_last, less_place, absent}
 use Rattle.operator_law.proofs.Weights.{weigh-append, weigh-push, weigh-map, weigh-flat_map, weigh-same, weigh-same_where, weigh-plus, weigh-none}
 use Rattle.operator_law.proofs.SignedRows.{come-up, go-up, come-down, go-down, stays, all_come, all_go, moves_on, weigh-less_first}
 use Rattle.fold_op.specs.Cells.{has_all, place_of, places_of, cell_at, picked}

@@ -3,10 +3,10 @@ use Rattle.std.specs.Prelude.{ℕ, Bool, true, false, cond, ◌&&◌, List, [], 
 use Rattle.std.specs.List.{flat_map, zip}
 use Rattle.ss_text.specs.Texts.{Text, Row}
 use Rattle.operator_law.specs.declared.delta.Signed.{Signed}
-use Rattle.sheets.specs.declared.change.SheetChange.{SheetChange}
-use Rattle.sheets.specs.declared.change.SheetChange.TheVariants.{Up, Down, Add, Drop, Rename, Born, Gone}
+use Rattle.fold_op.specs.declared.change.SheetChange.{SheetChange}
+use Rattle.fold_op.specs.declared.change.SheetChange.TheVariants.{Up, Down, Add, Drop, Rename, Born, Gone}
 use Rattle.operator_law.specs.Bags.{all_signed}
-use Rattle.sheets.specs.Sheets.{SheetValue, sheet_after}
+use Rattle.fold_op.specs.Sheets.{SheetValue, sheet_after}
 use Rattle.operator_law.specs.Rows.{cells_at}
 use Rattle.fold_op.specs.Cells.{has_all, places_of, cell_at, picked}
 

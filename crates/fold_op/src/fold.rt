@@ -2,7 +2,7 @@
 ghost use Rattle.std.specs.Prelude.{◌≡◌, ◌+◌, ◌≤◌, ◌<◌, ◌∷◌, [], ℕ, IfOk, IfErr, map, length, ◌&&◌};
 ghost use Rattle.operator_law.specs.Bags.{all_signed};
 ghost use Rattle.schema_model.specs.Placed.{placed_rows};
-ghost use Rattle.sheets.specs.Sheets.{FitsSheet, IsSheet};
+ghost use Rattle.fold_op.specs.Sheets.{FitsSheet, IsSheet};
 ghost use Rattle.fold_op.specs.Cells.{has_all};
 ghost use Rattle.fold_op.specs.Flat.{fold_value, fold_moves, column, replaced};
 
@@ -12,7 +12,7 @@ use crate::header::{borrowed, renamed, with_last, with_text, without};
 use crate::moves::replaced;
 use flow_law::Stop;
 use operator_law::{Delta, Operator};
-use sheets::{Sheet, SheetChange, rows_of};
+use crate::{Sheet, SheetChange, rows_of};
 use ss_text::{NoMemory, Row, Steps, Text};
 use std::alloc::Global;
 use std::marker::PhantomData;
@@ -41,7 +41,7 @@ impl<S: Sheet> Fold<S> {
 impl<S: Sheet> Operator for Fold<S> {
     ghost use Rattle.flow_law.specs.declared.refused.Stop.TheVariants.{NoMemory};
     ghost use Rattle.schema_model.specs.Placed.{placed_rows};
-    ghost use Rattle.sheets.specs.Sheets.{FitsSheet};
+    ghost use Rattle.fold_op.specs.Sheets.{FitsSheet};
     ghost use Rattle.fold_op.specs.Flat.{fold_value, fold_moves};
 
     type Input = S;

@@ -1,6 +1,6 @@
 //! Attributes, and rows, after a change.
 ghost use Rattle.std.specs.Prelude.{◌≡◌, ◌<◌, ◌++◌, ◌∷◌, [], IfOk, length, map, remove, slice_set};
-ghost use Rattle.sheets.specs.Sheets.{with_last};
+ghost use Rattle.fold_op.specs.Sheets.{with_last};
 
 use ss_text::{NoMemory, Row, Text};
 use std::alloc::Global;

@@ -14,7 +14,7 @@ use Rattle.plan_law.specs.Kinds.range
 use Rattle.view_def.specs.Query.{Query}
 use Rattle.view_def.specs.Profile.{lists_tuples}
 use Rattle.operator_law.specs.Rows.{cells_at}
-use Rattle.sheets.specs.Sheets.{SheetValue}
+use Rattle.fold_op.specs.Sheets.{SheetValue}
 use Rattle.unite_op.specs.NamedThings.{rows_behind}
 use Rattle.fold_op.specs.Cells.{has_all, place_of, places_of, picked}
 use Rattle.fold_op.specs.Flat.{pick_value, entry, entries, fold_value}

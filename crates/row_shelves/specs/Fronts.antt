@@ -1,7 +1,7 @@
 -- The front of a key.
 use Rattle.std.specs.Prelude.{◌≡◌, ℕ}
 use Rattle.ss_text.specs.Texts.{Row}
-use Rattle.text_fronts.specs.Front.{front_of, first_of, AreDigits}
+use Rattle.ss_text.specs.Front.{front_of, first_of, AreDigits}
 
 -- the number is that of the key's first text, whose bytes are digits
 pub record IsFrontOf (number : ℕ) (key : Row) : Type 0 where

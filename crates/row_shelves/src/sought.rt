@@ -3,7 +3,7 @@ ghost use Rattle.std.specs.Prelude.{◌≡◌};
 
 use ss_text::Row;
 use std::marker::Model;
-use text_fronts::first_front;
+use ss_text::first_front;
 
 /// A key, which contracts see as its row, with the front of its first text.
 #[derive(Drop)]

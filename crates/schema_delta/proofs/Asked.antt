@@ -4,8 +4,8 @@ use Rattle.std.specs.Prelude.{option_and_then}
 use Rattle.std.specs.List.{list_any, position_or_len}
 use Rattle.ss_text.specs.Texts.{Text, Row, row_eq, text_eq, is_in}
 use Rattle.operator_law.proofs.Weights.{place_within}
-use Rattle.sheets.specs.Sheets.{FitsSheet}
-use Rattle.sheets.specs.declared.change.SheetChange.TheVariants.{Up, Down, Add, Drop, Rename}
+use Rattle.fold_op.specs.Sheets.{FitsSheet}
+use Rattle.fold_op.specs.declared.change.SheetChange.TheVariants.{Up, Down, Add, Drop, Rename}
 use Rattle.schema_model.specs.Catalogue.{RelationValue, CatalogueValue, relation_of, relation_in}
 use Rattle.schema_model.specs.Refusals.{fault}
 use Rattle.schema_model.specs.declared.change.Change.TheVariants.{Insert, Delete, AddAttribute, DropAttribute, RenameAttribute}

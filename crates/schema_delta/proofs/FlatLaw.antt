@@ -8,8 +8,8 @@ use Rattle.ss_text.proofs.KeyLemmas.{text_order, equal_is}
 use Rattle.operator_law.specs.declared.delta.Signed.{Signed}
 use Rattle.operator_law.specs.Bags.{MovesBag, all_signed}
 use Rattle.operator_law.proofs.SignedRows.{stays, moves_on}
-use Rattle.sheets.specs.declared.change.SheetChange.{SheetChange}
-use Rattle.sheets.specs.Sheets.{sheet_after}
+use Rattle.fold_op.specs.declared.change.SheetChange.{SheetChange}
+use Rattle.fold_op.specs.Sheets.{sheet_after}
 use Rattle.schema_model.specs.Catalogue.{RelationValue, DatabaseValue, CatalogueValue, relation_value, database_value, relation_name, database_name, database_of, relation_in, relation_of}
 use Rattle.schema_model.specs.Changes.{after, at_database, with_relations, at_relation, placed, without, renamed, without_database}
 use Rattle.schema_model.specs.declared.change.Change.TheVariants.{CreateRelation, DropRelation, RenameRelation, CreateDatabase, DropDatabase, RenameDatabase}

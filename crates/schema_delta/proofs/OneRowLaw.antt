@@ -11,9 +11,9 @@ use Rattle.view_def.specs.declared.typed.Range.TheVariants as range
 use Rattle.operator_law.specs.declared.delta.Signed.{Signed}
 use Rattle.operator_law.specs.Bags.{MovesBag, all_signed}
 use Rattle.operator_law.proofs.SignedRows.{stays, moves_on}
-use Rattle.sheets.specs.declared.change.SheetChange.{SheetChange}
-use Rattle.sheets.specs.declared.change.SheetChange.TheVariants.{Up, Down}
-use Rattle.sheets.specs.Sheets.{SheetValue, IsSheet, FitsSheet, sheet_after}
+use Rattle.fold_op.specs.declared.change.SheetChange.{SheetChange}
+use Rattle.fold_op.specs.declared.change.SheetChange.TheVariants.{Up, Down}
+use Rattle.fold_op.specs.Sheets.{SheetValue, IsSheet, FitsSheet, sheet_after}
 use Rattle.fold_op.specs.Flat.{pick_value, fold_value}
 use Rattle.fold_op.proofs.FlatLemmas.{pick_law}
 use Rattle.fold_op.proofs.FoldLemmas.{fold_law}

@@ -11,9 +11,9 @@ use Rattle.schema_model.specs.Changes.{after, after_all}
 use Rattle.schema_model.specs.declared.change.Change.{Change}
 use Rattle.operator_law.specs.declared.delta.Signed.{Signed}
 use Rattle.operator_law.specs.Bags.{MovesBag}
-use Rattle.sheets.specs.declared.change.SheetChange.{SheetChange}
-use Rattle.sheets.specs.declared.change.SheetChange.TheVariants.{Born, Gone}
-use Rattle.sheets.specs.Sheets.{SheetValue, sheet_after}
+use Rattle.fold_op.specs.declared.change.SheetChange.{SheetChange}
+use Rattle.fold_op.specs.declared.change.SheetChange.TheVariants.{Born, Gone}
+use Rattle.fold_op.specs.Sheets.{SheetValue, sheet_after}
 use Rattle.unite_op.specs.NamedThings.{rows_behind}
 use Rattle.fold_op.specs.Flat.{pick_value, fold_value}
 use Rattle.schema_delta.specs.declared.spec.FlatSpec.{FlatSpec}

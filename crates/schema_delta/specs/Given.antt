@@ -4,8 +4,8 @@ use Rattle.ss_text.specs.Texts.{Row}
 use Rattle.schema_model.specs.States.{RelationState, plain_relation}
 use Rattle.operator_law.specs.declared.delta.Signed.{Signed}
 use Rattle.operator_law.specs.Bags.{MovesBag}
-use Rattle.sheets.specs.declared.change.SheetChange.{SheetChange}
-use Rattle.sheets.specs.Sheets.{SheetValue, sheet_after}
+use Rattle.fold_op.specs.declared.change.SheetChange.{SheetChange}
+use Rattle.fold_op.specs.Sheets.{SheetValue, sheet_after}
 use Rattle.schema_delta.specs.Flat.{sheet_of}
 
 -- a relation as a sheet

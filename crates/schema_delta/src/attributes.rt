@@ -10,7 +10,7 @@ use crate::find::relation_of;
 use fold_op::place_of;
 use operator_law::Delta;
 use schema_model::Catalogue;
-use sheets::SheetChange;
+use fold_op::SheetChange;
 use ss_text::{NoMemory, Steps, Text};
 use std::alloc::Global;
 use std::sync::ledger::Ledger;

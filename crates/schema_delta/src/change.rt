@@ -1,7 +1,7 @@
 //! How a change of one relation moves what it contributes.
 ghost use Rattle.std.specs.Prelude.{◌≡◌, ◌∷◌, [], IfOk, IsTrue};
 ghost use Rattle.operator_law.specs.Bags.{MovesBag, all_signed};
-ghost use Rattle.sheets.specs.Sheets.{FitsSheet};
+ghost use Rattle.fold_op.specs.Sheets.{FitsSheet};
 ghost use Rattle.fold_op.specs.Flat.{pick_value, fold_value, replaced};
 ghost use Rattle.schema_model.specs.States.{plain_relation};
 ghost use Rattle.schema_delta.specs.Flat.{part, inside, values_of, changed_relation, sheet_of, is_inner, names_of};
@@ -13,7 +13,7 @@ use crate::part::{both, goes_over};
 use fold_op::{Fold, Pick, replaced};
 use operator_law::{Delta, Operator};
 use schema_model::Relation;
-use sheets::SheetChange;
+use fold_op::SheetChange;
 use ss_text::{NoMemory, Row, Steps, Text};
 use std::alloc::Global;
 use std::sync::ledger::Ledger;

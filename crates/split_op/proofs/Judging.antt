@@ -13,7 +13,7 @@ use Rattle.fact_counts.specs.Stopped.{StopsFor}
 use Rattle.flow_law.specs.Facts.{Fact, facts_of, illegal_column, conflict}
 use Rattle.flow_law.specs.Script.{lines_for}
 use Rattle.unfold_op.specs.FactMoves.{facts_in}
-use Rattle.split_law.specs.LabelLines.{label_lines, first_conflict, first_illegal_column}
+use Rattle.split_op.specs.LabelLines.{label_lines, first_conflict, first_illegal_column}
 use Rattle.split_op.specs.declared.judged.Judged.{Judged}
 use Rattle.split_op.specs.Labels.{rows_of}
 use Rattle.split_op.specs.PartLines.{GivesPart, StopsAtOnce}

@@ -9,8 +9,8 @@ use Rattle.flow_law.specs.Facts.{Fact, facts_of}
 use Rattle.flow_law.specs.FactRows.{fact_in}
 use Rattle.flow_law.specs.FactTables.{fact_table}
 use Rattle.unfold_op.specs.FactMoves.{facts_in}
-use Rattle.split_law.specs.LabelLines.{table_for}
-use Rattle.split_law.proofs.LabelScript.{any_label}
+use Rattle.split_op.specs.LabelLines.{table_for}
+use Rattle.split_op.proofs.LabelScript.{any_label}
 use Rattle.split_op.specs.Labels.{label_in, rows_of}
 use Rattle.split_op.specs.PartLines.{table_if}
 

@@ -12,3 +12,7 @@ mod FirstFound
 mod SplitMoves
 pub mod SplitKeeps
 mod Adding
+pub mod LabelScript
+pub mod LabelConflict
+pub mod NamedTables
+pub mod LabelIllegal

@@ -23,10 +23,10 @@ use Rattle.fact_counts.specs.Stopped.{StopsFor}
 use Rattle.fact_counts.specs.Touched.{SameBeyond}
 use Rattle.unfold_op.specs.FactMoves.{facts_in, facts_moved}
 use Rattle.unfold_op.specs.OneTables.{OneTableValue, CanKeep}
-use Rattle.split_law.specs.LabelLines.{label_lines, labels_named, first_conflict, first_illegal_column, first_illegal_table}
-use Rattle.split_law.proofs.LabelScript.{script_touched}
-use Rattle.split_law.proofs.LabelConflict.{conflict_of_named, clean_own}
-use Rattle.split_law.proofs.LabelIllegal.{column_of_named, table_of_named, legal_own}
+use Rattle.split_op.specs.LabelLines.{label_lines, labels_named, first_conflict, first_illegal_column, first_illegal_table}
+use Rattle.split_op.proofs.LabelScript.{script_touched}
+use Rattle.split_op.proofs.LabelConflict.{conflict_of_named, clean_own}
+use Rattle.split_op.proofs.LabelIllegal.{column_of_named, table_of_named, legal_own}
 use Rattle.split_op.specs.declared.groups.Group.{Group}
 use Rattle.split_op.specs.Groups.{group_label, grouped}
 use Rattle.split_op.specs.Labels.{label_in, rows_of, moves_of, labels_moved}

@@ -4,7 +4,7 @@ use Rattle.ss_text.specs.Texts.{Text}
 use Rattle.flow_law.specs.declared.shape.Shape.{Shape}
 use Rattle.flow_law.specs.declared.line.TableLine.{TableLine}
 use Rattle.flow_law.specs.Facts.{Fact}
-use Rattle.split_law.specs.LabelLines.{label_lines, first_conflict, first_illegal_column}
+use Rattle.split_op.specs.LabelLines.{label_lines, first_conflict, first_illegal_column}
 use Rattle.split_op.specs.declared.judged.Judged.{Judged}
 
 -- no column of these labels is illegal; the first conflict is this one, or there is none and these are the lines

@@ -9,3 +9,4 @@ pub mod Judged
 pub mod Splits
 pub mod Added
 pub mod SplitFields
+pub mod LabelLines

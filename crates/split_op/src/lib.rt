@@ -2,13 +2,15 @@
 //! for each label where it is a variable.
 //!
 //! Its contract: `Whole` and `Split` obey the law of operators, answer exactly the script between the tables before and
-//! after, and refuse exactly what the definitions refuse. Neither knows how a table keeps its facts.
+//! after, and refuse exactly what the definitions refuse; the labels that a change names tell all of that. It knows nothing
+//! of how a table keeps its facts.
 #![tactic(auto)]
 
 mod add;
 mod count;
 mod groups;
 mod judged;
+mod law;
 mod lines;
 mod moved;
 mod part;
@@ -16,5 +18,9 @@ mod split;
 mod stages;
 mod whole;
 
+pub use law::{
+    conflict_is_of_named_labels, illegal_is_of_named_labels, named_labels_move_tables,
+    script_is_of_named_labels,
+};
 pub use split::{Split, SplitReady};
 pub use whole::Whole;

@@ -9,7 +9,7 @@ ghost use Rattle.flow_law.specs.declared.shape.Shape.{Shape};
 ghost use Rattle.fact_counts.specs.Stopped.{StopsFor};
 ghost use Rattle.operator_law.specs.Bags.{weigh};
 ghost use Rattle.unfold_op.specs.FactMoves.{facts_in};
-ghost use Rattle.split_law.specs.LabelLines.{first_conflict, first_illegal_column, first_illegal_table};
+ghost use Rattle.split_op.specs.LabelLines.{first_conflict, first_illegal_column, first_illegal_table};
 ghost use Rattle.split_op.specs.Groups.{group_label};
 ghost use Rattle.split_op.specs.Labels.{rows_of};
 ghost use Rattle.split_op.specs.Parts.{SameColumns, KeepsPart, FitsPart, FitsParts};

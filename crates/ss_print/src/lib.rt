@@ -1,7 +1,7 @@
-//! The printed fields of each refusal.
+//! The lines that a run prints, and the printed fields of each refusal.
 //!
-//! Its contract: the row of a refusal is its name and its fields, in the order of their definition. It knows
-//! nothing of when a refusal comes.
+//! Its contract: what is told is printed as the spelled row of its definition, each line with its LF, at once; the row of
+//! a refusal is its name and its fields, in the order of their definition. It knows nothing of when something is told.
 #![tactic(auto)]
 
 mod change;
@@ -9,10 +9,15 @@ mod definition;
 mod fields;
 mod group;
 mod load;
+mod printing;
 mod view;
 
 pub use change::{escape_fields, line_fields, refusal_fields};
 pub use definition::{parse_fields, type_fields};
 pub use group::{group_broken_fields, in_group_fields, no_group_fields, open_group_fields};
 pub use load::load_fields;
+pub use printing::{
+    number_text, print_aborted, print_applied, print_begun, print_difference, print_held,
+    print_same, print_script, print_synced, print_usage, refuse, say,
+};
 pub use view::{clash_fields, illegal_fields};

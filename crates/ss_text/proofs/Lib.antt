@@ -7,3 +7,5 @@ pub mod GroupLemmas
 pub mod PairLemmas
 pub mod GroupWalk
 pub mod LeastLemmas
+pub mod Ascends
+pub mod FrontLemmas

@@ -5,3 +5,4 @@ pub mod Label
 pub mod Whole
 pub mod Keys
 mod Held
+pub mod Front

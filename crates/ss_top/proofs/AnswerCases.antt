@@ -12,8 +12,8 @@ use Rattle.schema_model.specs.declared.change.Change.{Change}
 use Rattle.schema_model.specs.declared.change.ChangeFault.{ChangeFault}
 use Rattle.schema_model.specs.declared.change.ChangeFault.TheVariants.{FieldCount}
 use Rattle.schema_model.specs.declared.refusal.Refusal.{Refusal}
-use Rattle.kept_sources.proofs.FormedLemmas.{formed}
-use Rattle.run_lines.specs.Printing.{refuses}
+use Rattle.source_law.proofs.FormedLemmas.{formed}
+use Rattle.ss_print.specs.Printing.{refuses}
 use Rattle.view_session.specs.Session.{working}
 use Rattle.ss_print.specs.Fields.{escape_fields, first_field, line_fields, refusal_fields, group_broken_fields, open_group_fields, in_group_fields, no_group_fields}
 use Rattle.ss_top.specs.Open.{OpenValue}

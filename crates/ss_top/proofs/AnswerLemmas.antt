@@ -22,7 +22,7 @@ use Rattle.flow_law.specs.declared.line.TableLine.{TableLine}
 use Rattle.valuation_meaning.specs.Refusal.{refusal}
 use Rattle.schema_model.specs.declared.pair.Pair.{Pair}
 use Rattle.csv_catalog.specs.Saved.{saved}
-use Rattle.kept_sources.specs.Synced.{saving}
+use Rattle.source_law.specs.Synced.{saving}
 use Rattle.view_session.specs.Session.{SessionState, IsOpenFault, IsAccepted, IsRefused, IsHoldRefused, IsGroupStop, lines_to, working}
 use Rattle.view_session.specs.declared.fault.OpenFault.{OpenFault}
 use Rattle.view_session.specs.declared.fault.OpenFault.TheVariants as opening
@@ -36,7 +36,7 @@ use Rattle.ss_print.specs.Fields.{escape_fields, first_field, line_fields, group
 use Rattle.ss_top.specs.declared.opening.Viewing.TheVariants as viewing
 use Rattle.ss_top.specs.Open.{OpenValue}
 use Rattle.ss_top.specs.declared.word.Word.{Word}
-use Rattle.run_lines.specs.Printing.{refuses, prints_held, prints_script}
+use Rattle.ss_print.specs.Printing.{refuses, prints_held, prints_script}
 use Rattle.ss_top.specs.Stages.{refusal_of}
 use Rattle.ss_top.specs.Steps.{IsFieldsOf, IsHoldFieldsOf, IsStopFieldsOf, IsOpenFieldsOf, Views}
 use Rattle.ss_top.specs.Answers.{Answer, answer, by_spelling, by_row, by_first, by_fields, by_word, by_broken, by_group, by_open, by_change, by_fault, by_view, refusing, giving_up, keeping, changing, committing, word_in, sync_effects, end_effects, end_view, finish}

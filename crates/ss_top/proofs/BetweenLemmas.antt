@@ -12,9 +12,9 @@ use Rattle.outside.specs.WholeLaw.{is_eq_true, place_exact}
 use Rattle.outside.proofs.PlaceLemmas.{place_total}
 use Rattle.outside.proofs.TreeLemmas.{get_made, kept_made}
 use Rattle.effects.specs.Effects.{Effect, Write, Remove, MakeFolder, RemoveFolder, Print, Stored, Contents, after, Off, Partly}
-use Rattle.kept_sources.specs.Counted.{tree_by, tree_after}
-use Rattle.kept_sources.proofs.AfterLemmas.{stored_by, stored_after, made_was, any_same}
-use Rattle.kept_sources.proofs.NamedLemmas.{same_text}
+use Rattle.source_law.specs.Counted.{tree_by, tree_after}
+use Rattle.source_law.proofs.AfterLemmas.{stored_by, stored_after, made_was, any_same}
+use Rattle.source_law.proofs.NamedLemmas.{same_text}
 use Rattle.ss_top.specs.Between.{Broken, NoneBroken, BrokenFile, BrokenFolder, IsBrokenBy, IsBetween}
 use Rattle.ss_top.proofs.PlaceLemmas.{on_path, removed_folder}
 

@@ -16,7 +16,7 @@ use Rattle.ss_top.specs.declared.status.Status.TheVariants as status
 use Rattle.ss_top.specs.Stages.{DefinitionOrRefusal, Accepted, loaded_or_refused, refusal_of, files_of_view}
 use Rattle.ss_top.specs.Checking.{checked}
 use Rattle.ss_top.specs.Verifying.{by_comparison, verified_view, verified_over, verified}
-use Rattle.run_lines.specs.Printing.{same_line}
+use Rattle.ss_print.specs.Printing.{same_line}
 use Rattle.ss_top.specs.Course.{Finished, Did, is_done_status}
 use Rattle.ss_top.specs.Commands.{Check, Verify}
 use Rattle.ss_top.specs.Runs.{course_of}

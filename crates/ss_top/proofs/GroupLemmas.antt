@@ -9,7 +9,7 @@ use Rattle.schema_model.specs.Changes.{after, after_all, is_well_formed}
 use Rattle.schema_model.specs.Refusals.{fault, group_fault}
 use Rattle.view_session.specs.Named.{Names, with_change, with_changes}
 use Rattle.view_session.specs.Session.{SessionState, holding, working}
-use Rattle.kept_sources.specs.Synced.{Synced, synced}
+use Rattle.source_law.specs.Synced.{Synced, synced}
 use Rattle.ss_top.specs.Open.{OpenValue}
 use Rattle.ss_top.specs.Answers.{end_view, sync_writes}
 use Rattle.ss_top.proofs.AnswerCases.{end_case}

@@ -40,15 +40,15 @@ use Rattle.view_folder.proofs.LaterLemmas.{later, later_synced, later_holds, lat
 use Rattle.view_session.specs.Named.{Names}
 use Rattle.view_session.specs.Session.{opened, cleared, tables_of, lines_to, moved, holding, working, committed, SessionState}
 use Rattle.view_session.proofs.UpkeepLemmas.{meaning_in_order}
-use Rattle.kept_sources.specs.Counted.{tree_after, counted}
-use Rattle.kept_sources.specs.Synced.{Synced, unsaved, synced, saving}
-use Rattle.kept_sources.proofs.AfterLemmas.{Silent, stored_by, stored_after, silent_after, none_risen}
-use Rattle.kept_sources.proofs.LoadedLemmas.{sound_loaded}
-use Rattle.kept_sources.proofs.SavingLemmas.{SourcesKept, Pending, InView, kept_first, pending_first, pending_change, pending_committed, kept_synced, kept_beside, saved_silent, tree_saved}
+use Rattle.source_law.specs.Counted.{tree_after, counted}
+use Rattle.source_law.specs.Synced.{Synced, unsaved, synced, saving}
+use Rattle.source_law.proofs.AfterLemmas.{Silent, stored_by, stored_after, silent_after, none_risen}
+use Rattle.source_law.proofs.LoadedLemmas.{sound_loaded}
+use Rattle.source_law.proofs.SavingLemmas.{SourcesKept, Pending, InView, kept_first, pending_first, pending_change, pending_committed, kept_synced, kept_beside, saved_silent, tree_saved}
 use Rattle.course.specs.Answering.{Continues, follow}
 use Rattle.ss_top.specs.Open.{OpenValue, just_opened}
 use Rattle.ss_top.specs.Opening.{opening_effects}
-use Rattle.run_lines.specs.Printing.{prints_synced}
+use Rattle.ss_print.specs.Printing.{prints_synced}
 use Rattle.ss_top.specs.Stages.{files_of_view}
 use Rattle.ss_top.specs.Answers.{Answer, answer, refusing, giving_up, beginning, keeping, aborting, scripting, changing, committing, syncing, view_effects, sync_effects, sync_count, sync_writes, writes_by, synced_by, last_synced, step, end_effects, end_view}
 use Rattle.ss_top.proofs.AnswerCases.{answer_case, answer_query, end_case}

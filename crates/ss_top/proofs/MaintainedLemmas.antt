@@ -9,9 +9,9 @@ use Rattle.effects.specs.Effects.{Effect, World, Stored, Contents, contents, per
 use Rattle.outside.specs.Whole.{IsWhole}
 use Rattle.csv_catalog.specs.Loaded.{loaded}
 use Rattle.csv_catalog.specs.declared.fault.LoadFault.{LoadFault}
-use Rattle.kept_sources.specs.Counted.{tree_after}
-use Rattle.kept_sources.specs.Synced.{Synced, unsaved, synced, SourcesHold}
-use Rattle.kept_sources.proofs.SavingLemmas.{SourcesKept, sources_hold}
+use Rattle.source_law.specs.Counted.{tree_after}
+use Rattle.source_law.specs.Synced.{Synced, unsaved, synced, SourcesHold}
+use Rattle.source_law.proofs.SavingLemmas.{SourcesKept, sources_hold}
 use Rattle.schema_model.specs.Catalogue.{CatalogueValue}
 use Rattle.view_def.specs.Query.{Query}
 use Rattle.view_def.specs.Profile.{IsViewOfProfile}

@@ -14,7 +14,7 @@ use Rattle.outside.specs.WholeLaw.{is_eq_true, place_exact}
 use Rattle.outside.proofs.PlaceLemmas.{place_total}
 use Rattle.outside.proofs.TreeLemmas.{write_broke_off}
 use Rattle.effects.specs.Effects.{Effect, Write, Remove, MakeFolder, RemoveFolder, Print, Stored, World, Contents, contents, after, performed, writing, removing, making_folder, removing_folder, Off, Partly}
-use Rattle.kept_sources.proofs.AfterLemmas.{made_was}
+use Rattle.source_law.proofs.AfterLemmas.{made_was}
 use Rattle.ss_top.specs.Places.{Exempt, is_exempt, is_exempt_folder, OthersStay}
 use Rattle.ss_top.proofs.ToldLemmas.{contents_told}
 

@@ -29,7 +29,7 @@ use Rattle.ss_top.specs.declared.status.Status.{Status}
 use Rattle.ss_top.specs.declared.status.Status.TheVariants as status
 use Rattle.ss_top.specs.Open.{OpenValue}
 use Rattle.ss_top.specs.Stages.{DefinitionOrRefusal, loaded_or_refused, refusal_of, files_of_view}
-use Rattle.run_lines.specs.Printing.{refuses}
+use Rattle.ss_print.specs.Printing.{refuses}
 use Rattle.ss_top.specs.Opening.{opening, with_catalogue, with_view, done_at_once}
 use Rattle.ss_top.specs.Checking.{checked}
 use Rattle.ss_top.specs.Loads.{loaded}

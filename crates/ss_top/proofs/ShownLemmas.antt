@@ -18,7 +18,7 @@ use Rattle.ss_top.specs.declared.status.Status.{Status}
 use Rattle.ss_top.specs.declared.status.Status.TheVariants as status
 use Rattle.ss_top.specs.Stages.{DefinitionOrRefusal, Accepted}
 use Rattle.ss_top.specs.Opening.{opening, with_catalogue, with_view, opening_effects, done_at_once}
-use Rattle.run_lines.specs.Printing.{prints_synced}
+use Rattle.ss_print.specs.Printing.{prints_synced}
 use Rattle.ss_top.specs.Course.{Course, Finished, Did, is_done_status}
 use Rattle.ss_top.specs.Commands.{Show}
 use Rattle.ss_top.specs.Runs.{course_of}

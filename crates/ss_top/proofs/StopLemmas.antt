@@ -18,16 +18,16 @@ use Rattle.view_folder.specs.declared.comparison.Comparison.{Comparison}
 use Rattle.view_folder.specs.declared.comparison.Comparison.TheVariants as compared
 use Rattle.view_folder.specs.declared.held.TablesFault.{TablesFault}
 use Rattle.view_session.specs.Session.{opened}
-use Rattle.kept_sources.specs.Counted.{tree_after}
-use Rattle.kept_sources.proofs.AfterLemmas.{stored_by, stored_after}
-use Rattle.kept_sources.proofs.LoadedLemmas.{sound_loaded}
+use Rattle.source_law.specs.Counted.{tree_after}
+use Rattle.source_law.proofs.AfterLemmas.{stored_by, stored_after}
+use Rattle.source_law.proofs.LoadedLemmas.{sound_loaded}
 use Rattle.course.specs.declared.status.Verdict.{Verdict}
 use Rattle.course.specs.declared.status.Halt.{Halt}
 use Rattle.course.specs.declared.status.Halt.TheVariants as halt
 use Rattle.course.specs.Answering.{Reply, Continues, Finishes, Ending, ending, follow}
 use Rattle.course.proofs.AnsweringLemmas.{follow_append, goes_on}
 use Rattle.schema_model.proofs.ReadyLemmas.{same_some}
-use Rattle.run_lines.specs.Printing.{lines_text, applied_rows}
+use Rattle.ss_print.specs.Printing.{lines_text, applied_rows}
 use Rattle.view_apply.specs.Applying as applying
 use Rattle.view_apply.specs.Applying.{ApplyState, by_folder, just_read, synced_count}
 use Rattle.view_apply.proofs.CourseLemmas.{went_on, halts_so}

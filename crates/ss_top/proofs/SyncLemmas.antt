@@ -23,13 +23,13 @@ use Rattle.view_folder.specs.TableFiles.{table_text}
 use Rattle.view_folder.specs.Sync.{written, removed, opening_sync, label_synced, later_sync}
 use Rattle.view_folder.proofs.FolderLemmas.{none_named}
 use Rattle.view_session.specs.Session.{tables_of}
-use Rattle.kept_sources.specs.Counted.{tree_after}
-use Rattle.kept_sources.specs.Synced.{saving}
-use Rattle.kept_sources.proofs.AfterLemmas.{no_path}
-use Rattle.kept_sources.proofs.ChangeLemmas.{legal_there}
-use Rattle.kept_sources.proofs.FileLemmas.{label_of_file}
-use Rattle.kept_sources.proofs.NamedLemmas.{same_text}
-use Rattle.kept_sources.proofs.SavingLemmas.{not_slashed}
+use Rattle.source_law.specs.Counted.{tree_after}
+use Rattle.source_law.specs.Synced.{saving}
+use Rattle.source_law.proofs.AfterLemmas.{no_path}
+use Rattle.source_law.proofs.ChangeLemmas.{legal_there}
+use Rattle.source_law.proofs.FileLemmas.{label_of_file}
+use Rattle.source_law.proofs.NamedLemmas.{same_text}
+use Rattle.source_law.proofs.SavingLemmas.{not_slashed}
 use Rattle.ss_top.specs.Open.{OpenValue}
 use Rattle.ss_top.specs.Opening.{opening_effects}
 use Rattle.ss_top.specs.Answers.{view_effects, sync_effects}

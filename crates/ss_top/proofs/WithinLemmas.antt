@@ -18,7 +18,7 @@ use Rattle.csv_catalog.specs.Loaded.{database_folder}
 use Rattle.csv_catalog.specs.RecordText.{csv_text, relation_records}
 use Rattle.csv_catalog.specs.Saved.{relation_file, is_there, those_there, those_gone, folders_made, folders_removed, pair_saved, pairs_saved, saved}
 use Rattle.csv_catalog.specs.SavedTree.{place_of}
-use Rattle.kept_sources.specs.Synced.{Synced, unsaved, synced, saving}
+use Rattle.source_law.specs.Synced.{Synced, unsaved, synced, saving}
 use Rattle.view_def.specs.Query.{Query}
 use Rattle.flow_law.specs.declared.shape.Shape.{Shape}
 use Rattle.flow_law.specs.Tables.{TablesValue, table_of}
@@ -45,7 +45,7 @@ use Rattle.view_folder.specs.Held.{held}
 use Rattle.view_apply.specs.Applying as applying
 use Rattle.view_apply.specs.Applying.{ApplyState, by_folder, just_read, synced_count}
 use Rattle.view_apply.proofs.CourseLemmas.{went_on, halts_so}
-use Rattle.run_lines.specs.Printing.{prints_applied}
+use Rattle.ss_print.specs.Printing.{prints_applied}
 use Rattle.ss_top.specs.Open.{OpenValue, just_opened}
 use Rattle.ss_top.specs.Places.{Exempt, CsvFiles, RelationFile, DatabaseFolder, is_exempt, is_exempt_folder, sources_of}
 use Rattle.ss_top.specs.Stages.{DefinitionOrRefusal, Accepted, loaded_or_refused, refusal_of, files_of_view}

@@ -19,15 +19,15 @@ use Rattle.view_folder.specs.Files.{view_folder}
 use Rattle.view_folder.specs.Sync.{later_sync}
 use Rattle.outside.specs.Tree.{Tree}
 use Rattle.view_session.specs.Session.{SessionState, cleared, tables_of, lines_to, moved, begun, holding, closed, working, committed}
-use Rattle.kept_sources.specs.Counted.{tree_after, counted}
-use Rattle.kept_sources.specs.Synced.{Synced, synced, saving}
+use Rattle.source_law.specs.Counted.{tree_after, counted}
+use Rattle.source_law.specs.Synced.{Synced, synced, saving}
 use Rattle.course.specs.declared.status.Verdict.TheVariants as verdict
 use Rattle.course.specs.Answering.{Reply, Continues, Ending}
 use Rattle.ss_print.specs.Fields.{escape_fields, first_field, line_fields, refusal_fields, group_broken_fields, open_group_fields, in_group_fields, no_group_fields}
 use Rattle.ss_top.specs.Open.{OpenValue}
 use Rattle.ss_top.specs.declared.word.Word.{Word}
 use Rattle.ss_top.specs.declared.word.Word.TheVariants as word
-use Rattle.run_lines.specs.Printing.{refuses, prints_begun, prints_held, prints_aborted, prints_script, prints_synced}
+use Rattle.ss_print.specs.Printing.{refuses, prints_begun, prints_held, prints_aborted, prints_script, prints_synced}
 use Rattle.ss_top.specs.Stages.{refusal_of}
 
 -- what is said to a line: a refusal with its fields, a group that opens, a change that it holds, a group that is given up, the lines of a script, or the count of a sync

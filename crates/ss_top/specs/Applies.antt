@@ -14,7 +14,7 @@ use Rattle.change_script.specs.Applied.{applied}
 use Rattle.valuation_meaning.specs.Meaning.{shape_of}
 use Rattle.view_folder.specs.Held.{held}
 use Rattle.view_folder.specs.Sync.{HoldsNamed}
-use Rattle.run_lines.specs.Printing.{refuses, lines_text, applied_rows}
+use Rattle.ss_print.specs.Printing.{refuses, lines_text, applied_rows}
 use Rattle.view_apply.specs.Applying.{ApplyState, opening}
 use Rattle.view_apply.specs.Scripts.{script_said}
 use Rattle.ss_top.specs.Stages.{DefinitionOrRefusal, Accepted}

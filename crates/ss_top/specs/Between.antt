@@ -5,7 +5,7 @@ use Rattle.ss_text.specs.Texts.{Text, is_in}
 use Rattle.tab_lines.specs.Lines.{lines_of}
 use Rattle.outside.specs.Tree.{Tree, Place, folder_path, has_folder}
 use Rattle.effects.specs.Effects.{Effect, Write, Remove, MakeFolder, RemoveFolder, Print, World}
-use Rattle.kept_sources.specs.Counted.{tree_after}
+use Rattle.source_law.specs.Counted.{tree_after}
 use Rattle.course.specs.Answering.{Reply, Continues, Finishes}
 use Rattle.ss_top.specs.Open.{OpenValue}
 use Rattle.ss_top.specs.Commands.{Asked, Maintain}

@@ -5,7 +5,7 @@ use Rattle.view_def.specs.Print.{print}
 use Rattle.course.specs.declared.status.Verdict.{Verdict}
 use Rattle.course.specs.declared.status.Verdict.TheVariants as verdict
 use Rattle.course.specs.Answering.{Ending}
-use Rattle.run_lines.specs.Printing.{refuses}
+use Rattle.ss_print.specs.Printing.{refuses}
 use Rattle.ss_top.specs.Stages.{DefinitionOrRefusal}
 
 -- one effect, and the end

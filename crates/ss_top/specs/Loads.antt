@@ -5,7 +5,7 @@ use Rattle.tab_lines.specs.Spelling.{spell}
 use Rattle.effects.specs.Effects.{World}
 use Rattle.course.specs.Answering.{Ending}
 use Rattle.course.specs.declared.status.Verdict.TheVariants as verdict
-use Rattle.run_lines.specs.Printing.{says}
+use Rattle.ss_print.specs.Printing.{says}
 use Rattle.load_run.specs.Runs.{summary_of}
 use Rattle.load_run.specs.Summaries.{summary_row}
 

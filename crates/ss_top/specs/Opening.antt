@@ -12,7 +12,7 @@ use Rattle.course.specs.declared.status.Verdict.{Verdict}
 use Rattle.course.specs.declared.status.Verdict.TheVariants as verdict
 use Rattle.course.specs.Answering.{Reply, Continues, Finishes, Ending}
 use Rattle.ss_top.specs.Open.{OpenValue, just_opened}
-use Rattle.run_lines.specs.Printing.{refuses, prints_synced}
+use Rattle.ss_print.specs.Printing.{refuses, prints_synced}
 use Rattle.ss_top.specs.Stages.{DefinitionOrRefusal, ReadsAs, loaded_or_refused, refusal_of, files_of_view}
 
 -- the bytes of a definition, where it is there

@@ -9,7 +9,7 @@ use Rattle.schema_model.specs.declared.pair.Pair.{Pair}
 use Rattle.csv_catalog.specs.Loaded.{database_folder}
 use Rattle.csv_catalog.specs.SavedTree.{place_of}
 use Rattle.view_folder.specs.Files.{is_csv_name}
-use Rattle.kept_sources.specs.Synced.{Synced}
+use Rattle.source_law.specs.Synced.{Synced}
 
 -- what is exempt: the `.csv` files of a folder, the file of a relation, and the folder of a database
 pub data Exempt : Type 0 where

@@ -17,8 +17,8 @@ use Rattle.flow_law.specs.declared.shape.Shape.{Shape}
 use Rattle.change_script.specs.Applied.{applied}
 use Rattle.valuation_meaning.specs.Meaning.{shape_of}
 use Rattle.view_session.specs.Session.{tables_of}
-use Rattle.kept_sources.specs.Counted.{tree_after}
-use Rattle.kept_sources.specs.Synced.{Synced, unsaved, synced, SourcesHold}
+use Rattle.source_law.specs.Counted.{tree_after}
+use Rattle.source_law.specs.Synced.{Synced, unsaved, synced, SourcesHold}
 use Rattle.flow_law.specs.Lines.{after_lines, fit_lines}
 use Rattle.view_def.specs.Print.{print}
 use Rattle.course.specs.Answering.{Reply, Continues, Finishes, follow}
@@ -27,7 +27,7 @@ use Rattle.ss_top.specs.Open.{OpenValue, just_opened}
 use Rattle.ss_top.specs.Commands.{Asked, Maintain}
 use Rattle.ss_top.specs.Opening.{opening, opening_effects}
 use Rattle.ss_top.specs.Places.{Exempt, CsvFiles, OthersStay, sources_of}
-use Rattle.run_lines.specs.Printing.{same_line}
+use Rattle.ss_print.specs.Printing.{same_line}
 use Rattle.ss_top.specs.Answers.{Said, Scripts, answer, step, finish, writes_by, sync_writes, last_synced, end_synced}
 use Rattle.ss_top.specs.Course.{verdict_status}
 use Rattle.ss_top.specs.Stages.{DefinitionOrRefusal, Accepted, loaded_or_refused, refusal_of, files_of_view}

@@ -4,7 +4,7 @@ use Rattle.outside.specs.Tree.{Tree}
 use Rattle.course.specs.declared.status.Verdict.TheVariants as verdict
 use Rattle.course.specs.Answering.{ending}
 use Rattle.ss_top.specs.Commands.{Asked, Check, Show, Maintain, Verify, Apply, Load, Other}
-use Rattle.run_lines.specs.Printing.{prints_usage}
+use Rattle.ss_print.specs.Printing.{prints_usage}
 use Rattle.ss_top.specs.Stages.{DefinitionOrRefusal}
 use Rattle.ss_top.specs.Opening.{IsDefinition, definition_bytes, opening, done_at_once}
 use Rattle.ss_top.specs.Checking.{checked}

@@ -11,7 +11,7 @@ use Rattle.view_folder.specs.declared.comparison.Comparison.TheVariants as compa
 use Rattle.course.specs.declared.status.Verdict.TheVariants as verdict
 use Rattle.course.specs.Answering.{Ending}
 use Rattle.ss_top.specs.Checking.{ends}
-use Rattle.run_lines.specs.Printing.{refuses, prints_same, prints_difference}
+use Rattle.ss_print.specs.Printing.{refuses, prints_same, prints_difference}
 use Rattle.ss_top.specs.Stages.{DefinitionOrRefusal, loaded_or_refused, refusal_of, files_of_view}
 
 -- how a folder compares, and the end

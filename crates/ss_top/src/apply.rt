@@ -19,7 +19,7 @@ use crate::definition::{Understood, read_definition};
 use course::{Halt, Verdict, answer_lines};
 use effects::Stop;
 use outside::{Folders, Sink, Source};
-use run_lines::refuse;
+use ss_print::refuse;
 use ss_text::{Steps, Text};
 use std::alloc::Global;
 use std::sync::ledger::Ledger;

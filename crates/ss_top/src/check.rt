@@ -16,7 +16,7 @@ use crate::definition::{Understood, read_definition};
 use course::Verdict;
 use effects::{Stop, print};
 use outside::{Folders, Sink};
-use run_lines::refuse;
+use ss_print::refuse;
 use ss_text::Text;
 use std::alloc::Global;
 use view_def::view_text;

@@ -11,7 +11,7 @@ use course::Verdict;
 use effects::Stop;
 use load_run::{changes_of, seed_of, summary_row};
 use outside::{Folders, Sink};
-use run_lines::say;
+use ss_print::say;
 use ss_text::{Steps, Text};
 use std::alloc::Global;
 use std::sync::ledger::Ledger;

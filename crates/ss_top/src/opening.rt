@@ -16,7 +16,7 @@ use crate::view::OpenView;
 use course::Verdict;
 use effects::Stop;
 use outside::{Folders, Sink};
-use run_lines::refuse;
+use ss_print::refuse;
 use schema_model::Catalogue;
 use ss_print::{clash_fields, illegal_fields};
 use ss_text::{NoMemory, Row, Steps, Text};

@@ -15,7 +15,7 @@ use crate::meant::{Meant, meant_files};
 use course::Verdict;
 use effects::Stop;
 use outside::{Folders, Sink};
-use run_lines::{print_synced, refuse};
+use ss_print::{print_synced, refuse};
 use ss_text::Text;
 use std::alloc::Global;
 use view_folder::{File, folder_of_view, sync_files};

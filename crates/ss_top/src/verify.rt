@@ -18,7 +18,7 @@ use crate::meant::{Meant, meant_files};
 use course::Verdict;
 use effects::Stop;
 use outside::{Folders, Sink};
-use run_lines::{print_difference, print_same, refuse};
+use ss_print::{print_difference, print_same, refuse};
 use ss_text::Text;
 use std::alloc::Global;
 use view_folder::{Comparison, File, compare, folder_of_view};

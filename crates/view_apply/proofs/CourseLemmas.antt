@@ -22,7 +22,7 @@ use Rattle.change_script.specs.declared.reading.ScriptFault.{ScriptFault}
 use Rattle.change_script.specs.Reading.{script_line_of}
 use Rattle.change_script.specs.Applied.{applied, applied_behind, applied_line}
 use Rattle.view_apply.specs.Applying.{ApplyState, with_line, by_applying, by_reading, by_spelling, taken, reply, step, finish}
-use Rattle.run_lines.specs.Printing.{refuses}
+use Rattle.ss_print.specs.Printing.{refuses}
 use Rattle.view_apply.specs.Scripts.{said_by, said_as, both, script_said}
 
 -- from a state these lines of a script led to another

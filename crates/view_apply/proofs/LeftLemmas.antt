@@ -8,7 +8,7 @@ use Rattle.effects.proofs.EffectLemmas.{performed_append, told_tree}
 use Rattle.view_folder.specs.Files.{view_folder}
 use Rattle.view_folder.specs.Sync.{later_sync}
 use Rattle.view_folder.proofs.LaterLemmas.{later, later_synced, named_held}
-use Rattle.run_lines.specs.Printing.{prints_applied, lines_text, applied_rows}
+use Rattle.ss_print.specs.Printing.{prints_applied, lines_text, applied_rows}
 use Rattle.view_apply.specs.Applying.{ApplyState, synced_count, finish}
 use Rattle.view_apply.specs.Left.{IsLeft}
 

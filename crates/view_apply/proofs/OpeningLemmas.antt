@@ -17,7 +17,7 @@ use Rattle.flow_law.specs.Tables.{TablesValue}
 use Rattle.view_folder.specs.declared.held.TablesFault.{TablesFault}
 use Rattle.view_folder.specs.Files.{view_folder}
 use Rattle.view_folder.specs.Held.{held, is_refusal}
-use Rattle.run_lines.specs.Printing.{refuses}
+use Rattle.ss_print.specs.Printing.{refuses}
 use Rattle.view_apply.specs.Refused.{tables_fields}
 use Rattle.view_apply.specs.declared.opening.OpenedFolder.TheVariants.{Open, Refused}
 use Rattle.view_apply.specs.Applying.{ApplyState, just_read, by_folder, opening}

@@ -7,7 +7,7 @@ use Rattle.effects.specs.declared.stop.Stop.{Stop}
 use Rattle.effects.proofs.EffectLemmas.{partly_more}
 use Rattle.course.specs.declared.status.Verdict.TheVariants as verdict
 use Rattle.course.specs.Answering.{Answered}
-use Rattle.run_lines.specs.Printing.{refuses}
+use Rattle.ss_print.specs.Printing.{refuses}
 use Rattle.view_apply.specs.Applying.{ApplyState, taken, reply, step}
 
 module _ (s u : ApplyState) (line : List ℕ) where

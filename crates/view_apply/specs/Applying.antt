@@ -20,7 +20,7 @@ use Rattle.view_folder.specs.declared.held.TablesFault.{TablesFault}
 use Rattle.view_folder.specs.Files.{view_folder}
 use Rattle.view_folder.specs.Held.{held}
 use Rattle.view_folder.specs.Sync.{later_sync}
-use Rattle.run_lines.specs.Printing.{refuses, prints_applied}
+use Rattle.ss_print.specs.Printing.{refuses, prints_applied}
 use Rattle.view_apply.specs.Refused.{escape_fields, script_fields, apply_fields, tables_fields}
 
 -- the tables of a view folder: the view's database and form, the labels of the tables that the folder holds, the tables after the lines so far, the labels that these lines named, ascending, and how many lines there were

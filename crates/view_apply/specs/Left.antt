@@ -5,7 +5,7 @@ use Rattle.outside.specs.Tree.{Tree}
 use Rattle.effects.specs.Effects.{World}
 use Rattle.view_folder.specs.Files.{view_folder}
 use Rattle.view_folder.specs.Sync.{HoldsNamed}
-use Rattle.run_lines.specs.Printing.{lines_text, applied_rows}
+use Rattle.ss_print.specs.Printing.{lines_text, applied_rows}
 use Rattle.view_apply.specs.Applying.{ApplyState, synced_count}
 
 -- the files of the labels that were named are those of their tables, every other file is as it was, and the numbers were printed

@@ -18,7 +18,7 @@ use course::{LineHandler, Verdict};
 use effects::Stop;
 use flow_law::{Shape, TableLine, Tables};
 use outside::{Folders, Sink};
-use run_lines::{print_applied, refuse};
+use ss_print::{print_applied, refuse};
 use ss_text::{NoMemory, Row, Steps, Text};
 use std::alloc::Global;
 use std::marker::Model;

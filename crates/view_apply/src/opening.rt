@@ -12,7 +12,7 @@ use crate::refused::tables_fields;
 use effects::Stop;
 use flow_law::Shape;
 use outside::{Folders, Sink};
-use run_lines::refuse;
+use ss_print::refuse;
 use ss_text::Text;
 use std::alloc::Global;
 use view_folder::{TablesFault, read_tables};

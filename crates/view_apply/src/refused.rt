@@ -7,7 +7,7 @@ ghost use Rattle.view_apply.specs.Refused.{escape_fields, script_fields, first_f
 
 use change_script::{ApplyFault, ScriptFault};
 use flow_law::{IllegalLabel, TableLine};
-use run_lines::number_text;
+use ss_print::number_text;
 use ss_text::{NoMemory, Row, Text};
 use std::alloc::Global;
 use view_folder::TablesFault;

@@ -21,8 +21,8 @@ use Rattle.flow_law.specs.Stops.{IsStop}
 use Rattle.valuation_meaning.specs.Meaning.{facts, meaning, shape_of}
 use Rattle.valuation_meaning.specs.Refusal.{refusal}
 use Rattle.valuation_meaning.proofs.EvalLemmas.{bear}
-use Rattle.fact_limits.proofs.FactsFew.{facts_few}
-use Rattle.fact_limits.proofs.FactsForm.{have_form, read_back, are_wide}
+use Rattle.view_engine.proofs.FactsFew.{facts_few}
+use Rattle.view_engine.proofs.FactsForm.{have_form, read_back, are_wide}
 use Rattle.operator_law.specs.declared.delta.Signed.{Signed}
 use Rattle.operator_law.specs.Bags.{MovesBag}
 use Rattle.plan_law.specs.Net.{IsNet}

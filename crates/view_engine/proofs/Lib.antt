@@ -7,3 +7,7 @@ pub mod RowLimits
 mod SameRows
 mod Often
 mod Adding
+pub mod Products
+pub mod ElementsFew
+pub mod FactsFew
+pub mod FactsForm

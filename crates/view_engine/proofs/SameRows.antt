@@ -21,7 +21,7 @@ use Rattle.fact_tables.specs.Counted.{EachAsOften}
 use Rattle.valuation_meaning.specs.Meaning.{facts, shape_of}
 use Rattle.valuation_meaning.specs.Refusal.{refusal}
 use Rattle.valuation_meaning.proofs.EvalLemmas.{bear}
-use Rattle.fact_limits.proofs.FactsForm.{have_form, read_back}
+use Rattle.view_engine.proofs.FactsForm.{have_form, read_back}
 use Rattle.operator_law.specs.Bags.{MovesBag, SameBag}
 use Rattle.plan_law.specs.PlanMoves.{fact_rows}
 use Rattle.unfold_op.specs.OneTables.{OneTableValue}

@@ -5,7 +5,7 @@ ghost use Rattle.effects.specs.Blame.{Blames, SinkBlames};
 ghost use Rattle.schema_model.specs.Changes.{is_well_formed};
 ghost use Rattle.schema_model.specs.Refusals.{fault};
 ghost use Rattle.view_session.specs.Session.{working};
-ghost use Rattle.run_lines.specs.Printing.{refuses};
+ghost use Rattle.ss_print.specs.Printing.{refuses};
 ghost use Rattle.ss_print.specs.Fields.{in_group_fields, no_group_fields};
 ghost use Rattle.ss_top.specs.Stages.{refusal_of};
 ghost use Rattle.ss_top.specs.Steps.{IsHoldFieldsOf, IsStopFieldsOf};
@@ -18,7 +18,7 @@ use crate::view::OpenView;
 use crate::word::Word;
 use effects::Stop;
 use outside::{Folders, Sink};
-use run_lines::{print_aborted, print_begun, print_held, print_script, refuse};
+use ss_print::{print_aborted, print_begun, print_held, print_script, refuse};
 use schema_model::{Change, ChangeFault};
 use ss_print::{
     clash_fields, group_broken_fields, illegal_fields, in_group_fields, line_fields,

@@ -1,5 +1,5 @@
 use Rattle.std.proofs.Common.{◌≡◌, take, map}
-use Rattle.sheets.specs.Sheets.{with_last}
+use Rattle.fold_op.specs.Sheets.{with_last}
 use Rattle.fold_op.proofs.header.with_last.Given as goal
 
 abbrev pub invariant-loop-row : goal.invariant-loop-row

@@ -1,7 +1,7 @@
 use Rattle.std.proofs.Common.{◌≡◌, arith, refl, subst, ◌∙◌}
 use Rattle.ss_text.specs.Texts.{Row}
 use Rattle.operator_law.specs.Bags.{MovesBag}
-use Rattle.sheets.specs.Sheets.{sheet_after}
+use Rattle.fold_op.specs.Sheets.{sheet_after}
 use Rattle.fold_op.specs.Flat.{fold_value}
 use Rattle.schema_model.specs.States.{plain_relation}
 use Rattle.schema_delta.specs.Flat.{sheet_of}

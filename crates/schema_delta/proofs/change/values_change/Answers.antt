@@ -1,7 +1,7 @@
 use Rattle.std.proofs.Common.{◌≡◌, subst}
 use Rattle.ss_text.specs.Texts.{Row}
 use Rattle.operator_law.specs.Bags.{MovesBag}
-use Rattle.sheets.specs.Sheets.{sheet_after}
+use Rattle.fold_op.specs.Sheets.{sheet_after}
 use Rattle.fold_op.specs.Flat.{pick_value}
 use Rattle.unite_op.specs.NamedThings.{rows_behind, moves_behind}
 use Rattle.unite_op.proofs.UniteLemmas.{moves_rows_behind}

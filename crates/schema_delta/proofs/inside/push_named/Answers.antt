@@ -1,6 +1,6 @@
 use Rattle.std.proofs.Common.{◌++◌, ◌∷◌, [], ap, ◌∙◌, map}
 use Rattle.ss_text.specs.Texts.{Row}
-use Rattle.sheets.specs.Sheets.{SheetValue}
+use Rattle.fold_op.specs.Sheets.{SheetValue}
 use Rattle.fold_op.specs.Flat.{pick_value}
 use Rattle.unite_op.specs.NamedThings.{rows_behind}
 use Rattle.schema_delta.proofs.BehindLemmas.{behind_both}

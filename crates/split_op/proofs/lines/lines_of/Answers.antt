@@ -2,7 +2,7 @@ use Rattle.std.proofs.Common.{◌∙◌, ⊎_elim, ap, sym, subst, map}
 use Rattle.flow_law.specs.declared.refused.Stop.{Stop}
 use Rattle.fact_counts.specs.Stopped.{StopsFor}
 use Rattle.unfold_op.specs.FactMoves.{facts_in}
-use Rattle.split_law.specs.LabelLines.{first_conflict, first_illegal_column}
+use Rattle.split_op.specs.LabelLines.{first_conflict, first_illegal_column}
 use Rattle.split_op.specs.Groups.{group_label}
 use Rattle.split_op.proofs.Judging.{none_judged}
 use Rattle.split_op.proofs.lines.lines_of.Goals as goal

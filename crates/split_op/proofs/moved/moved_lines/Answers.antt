@@ -5,7 +5,7 @@ use Rattle.indexmap.specs.IndexMap.{get}
 use Rattle.unfold_op.specs.FactMoves.{facts_in}
 use Rattle.fact_counts.specs.Stopped.{StopsFor}
 use Rattle.operator_law.specs.Bags.{weigh}
-use Rattle.split_law.specs.LabelLines.{first_conflict, first_illegal_column, first_illegal_table}
+use Rattle.split_op.specs.LabelLines.{first_conflict, first_illegal_column, first_illegal_table}
 use Rattle.split_op.specs.declared.groups.Group.{Group}
 use Rattle.split_op.specs.Groups.{group_label}
 use Rattle.split_op.specs.Labels.{labels_moved}

@@ -2,7 +2,7 @@ use Rattle.std.proofs.Common.{◌≡◌, ◌∙◌, ◌<◌, ◌%◌, take, sym,
 use Rattle.std.specs.Int.{w64, to_be_bytes}
 use Rattle.std.specs.Prelude.{slice_get}
 use Rattle.std.proofs.lemmas.Bool.{ltb-true}
-use Rattle.text_fronts.specs.Front.{is_whole}
+use Rattle.ss_text.specs.Front.{is_whole}
 use Rattle.fact_tables.proofs.ShortLemmas.{second_behind}
 use Rattle.fact_tables.proofs.key.Key.short_second.Goals as goal
 

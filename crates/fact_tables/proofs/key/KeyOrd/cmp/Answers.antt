@@ -1,7 +1,7 @@
 use Rattle.std.proofs.Common.{◌≡◌, ◌<◌, ◌∙◌, length, sym, rules}
 use Rattle.std.specs.FinMap.{nat_cmp-IsAntisymmetric}
 use Rattle.ss_text.proofs.KeyLemmas.{text_order, equal_is}
-use Rattle.text_fronts.proofs.FrontLemmas.{rows_by_fronts}
+use Rattle.ss_text.proofs.FrontLemmas.{rows_by_fronts}
 use Rattle.fact_tables.specs.Next.{shortened}
 use Rattle.fact_tables.proofs.NextLemmas.{rows_by_next, rows_behind, behind_fronts, shortened_len, shortened_rest}
 use Rattle.fact_tables.proofs.key.KeyOrd.cmp.Goals as goal

@@ -1,5 +1,5 @@
 use Rattle.std.proofs.Common.{arith}
-use Rattle.text_fronts.proofs.FrontLemmas.{by_fronts}
+use Rattle.ss_text.proofs.FrontLemmas.{by_fronts}
 use Rattle.fact_tables.proofs.label.LabelOrd.cmp.Goals as goal
 
 pub returns-in_default : goal.returns-in_default

@@ -1,5 +1,5 @@
 use Rattle.schema_model.specs.Placed.{placed_rows}
-use Rattle.sheets.specs.Sheets.{SheetValue}
+use Rattle.fold_op.specs.Sheets.{SheetValue}
 use Rattle.fold_op.proofs.FoldLemmas.{fold_law}
 use Rattle.fold_op.proofs.fold.FoldOperator.prepare.Goals as goal
 

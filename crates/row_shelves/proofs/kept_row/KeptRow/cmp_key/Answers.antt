@@ -1,4 +1,4 @@
-use Rattle.text_fronts.proofs.FrontLemmas.{rows_by_fronts}
+use Rattle.ss_text.proofs.FrontLemmas.{rows_by_fronts}
 use Rattle.row_shelves.proofs.kept_row.KeptRow.cmp_key.Goals as goal
 
 pub returns-in_default : goal.returns-in_default

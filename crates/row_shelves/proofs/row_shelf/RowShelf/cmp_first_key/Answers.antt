@@ -1,4 +1,4 @@
-use Rattle.text_fronts.proofs.FrontLemmas.{rows_by_fronts}
+use Rattle.ss_text.proofs.FrontLemmas.{rows_by_fronts}
 use Rattle.row_shelves.specs.Shelves.{first_key}
 use Rattle.row_shelves.proofs.row_shelf.RowShelf.cmp_first_key.Goals as goal
 

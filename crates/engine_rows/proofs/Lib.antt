@@ -1,3 +1,0 @@
-mod OperatorPlaces
-mod UnitedNames
-mod PageLemmas

@@ -1,7 +1,0 @@
--- The next place is a live row's.
-use Rattle.std.proofs.Common.{◌≡◌, ℕ, Some, IsSome}
-use Rattle.row_links.specs.Live.{at_place}
-use Rattle.engine_rows.proofs.links.walk.Given as goal
-
-abbrev pub invariant-loop : goal.invariant-loop
-invariant-loop g l = (p : ℕ) → l.next ≡ Some p → IsSome (at_place p l.linked.live)

@@ -1,4 +1,0 @@
-use Rattle.engine_rows.proofs.links.walk_once.Given as goal
-
-abbrev pub ghosts-walk : goal.ghosts-walk
-ghosts-walk a = record { name = a.blank.name; parts = a.blank.parts }

@@ -1,4 +1,0 @@
-use Rattle.engine_rows.proofs.pages.born.Given as goal
-
-abbrev pub ghosts-born_moves : goal.ghosts-born_moves
-ghosts-born_moves a = record { name = a.blank.name; parts = a.blank.parts }

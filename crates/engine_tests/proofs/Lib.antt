@@ -1,0 +1,5 @@
+mod OperatorPlaces
+mod UnitedNames
+mod PageLemmas
+mod Moved
+mod FactTests

@@ -1,4 +1,0 @@
-pub mod Products
-pub mod ElementsFew
-pub mod FactsFew
-pub mod FactsForm

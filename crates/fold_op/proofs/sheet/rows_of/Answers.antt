@@ -1,0 +1,21 @@
+use Rattle.std.proofs.Common.{◌≡◌, map, sym, ◌∙◌, ap, ◌++◌, [], ◌∷◌, IsTrue, true}
+use Rattle.std.proofs.lemmas.List.{map_push}
+use Rattle.schema_model.specs.Placed.{placed_rows, is_place, first_place, after_place}
+use Rattle.schema_model.proofs.Walks.{walks_on, walk_shortens, goes_there, rows_from, IsThere}
+use Rattle.fold_op.proofs.sheet.rows_of.Goals as goal
+
+pub loop-next-smaller : goal.loop-next-smaller
+loop-next-smaller g c =
+    let ps = g.S.Sheet.placed c.args.sheet.now in
+    let there : is_place c.in-Some.place ps ≡ true = rw c.in-Some.is at c.loop-next.invariant.there in
+    rw (c.after-next.ensures, c.in-Some.is) (walk_shortens c.in-Some.place ps c.attributes-attributes.ensures.places there)
+
+pub loop-next-preserved : goal.loop-next-preserved
+loop-next-preserved g c =
+    let ps = g.S.Sheet.placed c.args.sheet.now in
+    let there : is_place c.in-Some.place ps ≡ true = rw c.in-Some.is at c.loop-next.invariant.there in
+    let walked = rw c.in-Some.is at c.loop-next.invariant.walked in
+    rw (c.after-next.ensures, c.in_ok-push.ensures.items, map_push) record {
+      walked = walks_on c.in-Some.place ps _ c.row.result.now c.attributes-attributes.ensures.places there c.row.ensures walked;
+      there = goes_there c.in-Some.place ps;
+    }

@@ -1,0 +1,27 @@
+//! Worked rows of the layers below the engine: the language, lines and scripts, changes that wait, the objects in memory,
+//! records as they are read and written, and catalogues that are loaded and saved.
+//!
+//! It has tests alone, so that none of these layers is proved again with them. What they want comes from outside, never from
+//! the program. A function that owns something large does its work over a borrow, and lets go once.
+#![tactic(auto)]
+
+#[cfg(test)]
+mod drafts;
+#[cfg(test)]
+mod names;
+#[cfg(test)]
+mod objects;
+#[cfg(test)]
+mod prints;
+#[cfg(test)]
+mod scripts;
+#[cfg(test)]
+mod sources;
+#[cfg(test)]
+mod tables;
+#[cfg(test)]
+mod tokens;
+#[cfg(test)]
+mod trees;
+#[cfg(test)]
+mod types;

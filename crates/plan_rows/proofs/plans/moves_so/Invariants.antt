@@ -1,4 +1,0 @@
-use Rattle.plan_rows.proofs.plans.moves_so.Given as goal
-
-abbrev pub ghosts-is_worked : goal.ghosts-is_worked
-ghosts-is_worked a = record { name = a.blank.name; parts = a.blank.parts }

@@ -1,4 +1,0 @@
-use Rattle.run_rows.proofs.place.run_over.Given as goal
-
-abbrev pub ghosts-run_counting : goal.ghosts-run_counting
-ghosts-run_counting g a = record { name = a.blank.name; parts = a.blank.parts }

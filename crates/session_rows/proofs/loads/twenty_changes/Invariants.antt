@@ -1,4 +1,0 @@
-use Rattle.session_rows.proofs.loads.twenty_changes.Given as goal
-
-abbrev pub ghosts-loaded : goal.ghosts-loaded
-ghosts-loaded g a = record { name = a.blank.name; parts = a.blank.parts }

@@ -1,4 +1,0 @@
-use Rattle.session_rows.proofs.meant.first_filled.Given as goal
-
-abbrev pub ghosts-first_over : goal.ghosts-first_over
-ghosts-first_over a = record { name = a.blank.name; parts = a.blank.parts }

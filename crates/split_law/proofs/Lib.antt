@@ -1,4 +1,0 @@
-pub mod LabelScript
-pub mod LabelConflict
-pub mod NamedTables
-pub mod LabelIllegal

@@ -1,6 +1,0 @@
-use Rattle.std.proofs.Common.{take}
-use Rattle.operator_law.specs.Bags.{MovesBag}
-use Rattle.table_rows.proofs.facts.move_all.Given as goal
-
-abbrev pub invariant-loop-m : goal.invariant-loop-m
-invariant-loop-m l = MovesBag l.initial.rows.items (take l.m-index l.moves) l.rows.items
