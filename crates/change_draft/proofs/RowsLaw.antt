@@ -32,6 +32,7 @@ use Rattle.change_draft.specs.Named.{NamedRow, named, named_eq}
 use Rattle.change_draft.specs.Counted.{AreCounted, inserts, deletes, brings, takes, is_of_rows}
 use Rattle.change_draft.specs.declared.counted.RowCounts.{RowCounts}
 use Rattle.change_draft.proofs.DraftLemmas.{all_more}
+use Rattle.schema_model.specs.Limits.{most_rows}
 
 abbrev pub AreOfRows : List Change → Type 0
 AreOfRows gs = AllByRecursion (λ g. IsTrue (is_of_rows g)) gs
@@ -308,11 +309,11 @@ last_behind None None None (Some r) = refl
 last_behind None None None None = refl
 
 module _ (c : CatalogueValue) (gs : List Change) (of_rows : AreOfRows gs) (db rel : Text) (row : Row) where
-  pub insert_judged : fault (after_all c gs) (Insert db rel row) ≡ option_or (row_fault c db rel row) (full 1000000 (row_count (after_all c gs)) Rows)
+  pub insert_judged : fault (after_all c gs) (Insert db rel row) ≡ option_or (row_fault c db rel row) (full most_rows (row_count (after_all c gs)) Rows)
   insert_judged =
       let k = after_all c gs in
-      last_behind (no_database k db) (no_relation k db rel) (arity_differs k db rel row) (full 1000000 (row_count k) Rows)
-      ∙ ap (λ o. option_or o (full 1000000 (row_count k) Rows)) (rows_alike k c db rel row (left_by_all c gs of_rows))
+      last_behind (no_database k db) (no_relation k db rel) (arity_differs k db rel row) (full most_rows (row_count k) Rows)
+      ∙ ap (λ o. option_or o (full most_rows (row_count k) Rows)) (rows_alike k c db rel row (left_by_all c gs of_rows))
 
   pub delete_judged : fault (after_all c gs) (Delete db rel row) ≡ option_or (row_fault c db rel row) (no_row (after_all c gs) db rel row)
   delete_judged =
@@ -321,11 +322,11 @@ module _ (c : CatalogueValue) (gs : List Change) (of_rows : AreOfRows gs) (db re
       ∙ ap (λ o. option_or o (no_row k db rel row)) (rows_alike k c db rel row (left_by_all c gs of_rows))
 
   module _ (fits : row_fault c db rel row ≡ None) where
-    pub insert_full : nat_le 1000000 (row_count (after_all c gs)) ≡ true → Some (Limit Rows) ≡ fault (after_all c gs) (Insert db rel row)
-    insert_full most = sym (insert_judged ∙ ap (λ o. option_or o (full 1000000 (row_count (after_all c gs)) Rows)) fits ∙ ap (λ b. where_true b (Limit Rows)) most)
+    pub insert_full : nat_le most_rows (row_count (after_all c gs)) ≡ true → Some (Limit Rows) ≡ fault (after_all c gs) (Insert db rel row)
+    insert_full most = sym (insert_judged ∙ ap (λ o. option_or o (full most_rows (row_count (after_all c gs)) Rows)) fits ∙ ap (λ b. where_true b (Limit Rows)) most)
 
-    pub insert_free : nat_le 1000000 (row_count (after_all c gs)) ≡ false → None ≡ fault (after_all c gs) (Insert db rel row)
-    insert_free most = sym (insert_judged ∙ ap (λ o. option_or o (full 1000000 (row_count (after_all c gs)) Rows)) fits ∙ ap (λ b. where_true b (Limit Rows)) most)
+    pub insert_free : nat_le most_rows (row_count (after_all c gs)) ≡ false → None ≡ fault (after_all c gs) (Insert db rel row)
+    insert_free most = sym (insert_judged ∙ ap (λ o. option_or o (full most_rows (row_count (after_all c gs)) Rows)) fits ∙ ap (λ b. where_true b (Limit Rows)) most)
 
     pub delete_missing : not (list_any (row_eq row) (rows_of (after_all c gs) db rel)) ≡ true → Some NoRow ≡ fault (after_all c gs) (Delete db rel row)
     delete_missing missing = sym (delete_judged ∙ ap (λ o. option_or o (no_row (after_all c gs) db rel row)) fits ∙ ap (λ b. where_true b NoRow) missing)
@@ -334,7 +335,7 @@ module _ (c : CatalogueValue) (gs : List Change) (of_rows : AreOfRows gs) (db re
     delete_free missing = sym (delete_judged ∙ ap (λ o. option_or o (no_row (after_all c gs) db rel row)) fits ∙ ap (λ b. where_true b NoRow) missing)
 
   pub insert_refused : (e : Refusal) → row_fault c db rel row ≡ Some e → Some e ≡ fault (after_all c gs) (Insert db rel row)
-  insert_refused e refused = sym (insert_judged ∙ ap (λ o. option_or o (full 1000000 (row_count (after_all c gs)) Rows)) refused)
+  insert_refused e refused = sym (insert_judged ∙ ap (λ o. option_or o (full most_rows (row_count (after_all c gs)) Rows)) refused)
 
   pub delete_refused : (e : Refusal) → row_fault c db rel row ≡ Some e → Some e ≡ fault (after_all c gs) (Delete db rel row)
   delete_refused e refused = sym (delete_judged ∙ ap (λ o. option_or o (no_row (after_all c gs) db rel row)) refused)
@@ -365,10 +366,10 @@ none_told : (n : ℕ) → nat_le n 0 ≡ not (nat_lt 0 n)
 none_told zero = refl
 none_told (suc n) = untold (suc n) 0 (omega arith) ∙ sym (ap not ((Decides-ltb 0 (suc n)).1 (omega arith)))
 
-filled : (gone come before now out into : ℕ) → now + out ≡ before + into → before ≤ 1000000 → come ≡ into → gone ≡ out → gone + (1000000 - before) ≤ come → 1000000 ≤ now
+filled : (gone come before now out into : ℕ) → now + out ≡ before + into → before ≤ most_rows → come ≡ into → gone ≡ out → gone + (most_rows - before) ≤ come → most_rows ≤ now
 filled gone come before now out into all most c g h = omega (arith, all, most, c, g, h)
 
-fills : (gone come before now out into : ℕ) → now + out ≡ before + into → before ≤ 1000000 → come ≡ into → gone ≡ out → 1000000 ≤ now → gone + (1000000 - before) ≤ come
+fills : (gone come before now out into : ℕ) → now + out ≡ before + into → before ≤ most_rows → come ≡ into → gone ≡ out → most_rows ≤ now → gone + (most_rows - before) ≤ come
 fills gone come before now out into all most c g h = omega (arith, all, most, c, g, h)
 
 lost : (here came went now out into : ℕ) → now + out ≡ here + into → came ≡ into → went ≡ out → here + came ≤ went → now ≤ 0
@@ -378,13 +379,13 @@ loses : (here came went now out into : ℕ) → now + out ≡ here + into → ca
 loses here came went now out into all c g h = omega (arith, all, c, g, h)
 
 -- there is no room for a row where the changes fill what there was
-pub full_behind : (t : RowCounts) (c : CatalogueValue) (gs : List Change) → IsSound c → AreCounted t gs → group_fault c gs ≡ None → nat_le (t.gone + (1000000 - row_count c)) t.come ≡ nat_le 1000000 (row_count (after_all c gs))
+pub full_behind : (t : RowCounts) (c : CatalogueValue) (gs : List Change) → IsSound c → AreCounted t gs → group_fault c gs ≡ None → nat_le (t.gone + (most_rows - row_count c)) t.come ≡ nat_le most_rows (row_count (after_all c gs))
 full_behind t c gs sound all_counted none =
     let all = count_after_all c gs sound all_counted.of_rows none in
-    let most : row_count c ≤ 1000000 = sound.rows in
+    let most : row_count c ≤ most_rows = sound.rows in
     let come = all_counted.come in
     let gone = all_counted.gone in
-    told_alike (t.gone + (1000000 - row_count c)) t.come 1000000 (row_count (after_all c gs)) (filled t.gone t.come (row_count c) (row_count (after_all c gs)) (count_by deletes gs) (count_by inserts gs) all most come gone)
+    told_alike (t.gone + (most_rows - row_count c)) t.come most_rows (row_count (after_all c gs)) (filled t.gone t.come (row_count c) (row_count (after_all c gs)) (count_by deletes gs) (count_by inserts gs) all most come gone)
     (fills t.gone t.come (row_count c) (row_count (after_all c gs)) (count_by deletes gs) (count_by inserts gs) all most come gone)
 
 -- a row is missing where the changes take as many as there were and as they bring

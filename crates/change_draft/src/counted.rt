@@ -13,12 +13,10 @@ ghost use Rattle.change_draft.specs.Counted.{is_of_rows, AreCounted};
 use crate::named::Named;
 use counts::count_of;
 use indexmap::IndexMap;
-use schema_model::{Catalogue, Change, Refusal, Relation, Which};
+use schema_model::{Catalogue, Change, MOST_ROWS, Refusal, Relation, Which};
 use ss_text::{NoMemory, Row, Text};
 use std::alloc::Global;
 use std::hash::Hash;
-
-const MOST_ROWS: usize = 1_000_000;
 
 /// How often changes of rows bring and take each row that they name, and how many they bring and take in all.
 pub(crate) struct RowCounts {

@@ -17,6 +17,7 @@ use Rattle.csv_catalog.specs.declared.judge.FileFault.TheVariants.{Repeated}
 use Rattle.csv_catalog.specs.FileFaults.{repeated_after, first_repeated, rows_fault, header_fault, file_fault, header_of, rows_of}
 use Rattle.csv_catalog.specs.RecordText.{has_field}
 use Rattle.csv_catalog.proofs.ListLemmas.{next_left}
+use Rattle.schema_model.specs.Limits.{most_rows}
 
 -- the next text, seen before or not
 pub repeated_here : (names : Row) (i : ℕ) (t : Text) → i < length names → t ≡ get_or names i t → is_in t (take i names) ≡ true → repeated_after (take i names) (drop i names) ≡ first_repeated names → first_repeated names ≡ Some t
@@ -61,12 +62,12 @@ sound_header header some e = elim (cases_Bool (nat_lt 4000 (length header))) [
     below : (n : ℕ) → nat_lt 4000 n ≡ false → n ≤ 4000
     below n h = grind (arith, nat_tests)
 
-pub rows_fit : (want nth count : ℕ) (rows : List Row) → count ≤ 1000000 → rows_fault want nth count rows ≡ None → AllByRecursion (λ (row : Row). length row ≡ want) rows × (count + length rows ≤ 1000000)
+pub rows_fit : (want nth count : ℕ) (rows : List Row) → count ≤ most_rows → rows_fault want nth count rows ≡ None → AllByRecursion (λ (row : Row). length row ≡ want) rows × (count + length rows ≤ most_rows)
 unfolding rows_fault
 rows_fit want nth count [] few e = (tt, omega arith)
 rows_fit want nth count (row ∷ rows) few e = elim (cases_Bool (length row == want)) [
   | inr other ↦ cc (rw other at e)
-  | inl fits ↦ elim (cases_Bool (nat_le 1000000 count)) [
+  | inl fits ↦ elim (cases_Bool (nat_le most_rows count)) [
     | inl full ↦ cc (rw (fits, full) at e)
     | inr room ↦
         let rest = rows_fit want (nth + 1) (count + 1) rows (more count room) (rw (fits, room) at e) in
@@ -74,15 +75,15 @@ rows_fit want nth count (row ∷ rows) few e = elim (cases_Bool (length row == w
   ]
 ]
   where
-    more : (n : ℕ) → nat_le 1000000 n ≡ false → n + 1 ≤ 1000000
+    more : (n : ℕ) → nat_le most_rows n ≡ false → n + 1 ≤ most_rows
     more n h = grind (arith, nat_tests)
 
-    moved : (n m : ℕ) → n + 1 + m ≤ 1000000 → n + suc m ≤ 1000000
+    moved : (n m : ℕ) → n + 1 + m ≤ most_rows → n + suc m ≤ most_rows
     moved n m h = omega arith
 
 -- a file without a fault is a sound relation
-pub sound_relation : (label : Text) (count : ℕ) (records : List Row) → list_all has_field records ≡ true → count ≤ 1000000 → file_fault count records ≡ None
-    → IsRelation (relation_value label (header_of records) (rows_of records)) × (count + length (rows_of records) ≤ 1000000)
+pub sound_relation : (label : Text) (count : ℕ) (records : List Row) → list_all has_field records ≡ true → count ≤ most_rows → file_fault count records ≡ None
+    → IsRelation (relation_value label (header_of records) (rows_of records)) × (count + length (rows_of records) ≤ most_rows)
 unfolding file_fault
 sound_relation label count [] some few e = cc e
 sound_relation label count ([] ∷ rows) some few e = cc some

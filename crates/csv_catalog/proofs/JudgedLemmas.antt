@@ -12,6 +12,7 @@ use Rattle.csv_catalog.specs.FileFaults.{header_fault, row_fault, rows_fault, fi
 use Rattle.csv_catalog.specs.Judged.{fault_so_far, next_fault}
 use Rattle.csv_catalog.proofs.ReaderLemmas.{given_front}
 use Rattle.csv_catalog.proofs.FaultLemmas.{rows_fit}
+use Rattle.schema_model.specs.Limits.{most_rows}
 
 moved : (n m : ℕ) → n + 1 + m ≡ n + suc m
 moved n m = omega arith
@@ -31,7 +32,7 @@ or_tests false false x y z = refl
 -- a row, and those after it
 row_first : (want nth count : ℕ) (row : Row) (rows : List Row) → rows_fault want nth count (row ∷ rows) ≡ option_or (row_fault want nth count row) (rows_fault want (nth + 1) (count + 1) rows)
 unfolding rows_fault
-row_first want nth count row rows = or_tests (not (length row == want)) (nat_le 1000000 count) _ _ _
+row_first want nth count row rows = or_tests (not (length row == want)) (nat_le most_rows count) _ _ _
 
 -- what is wrong behind rows without a fault
 rows_behind : (want nth count : ℕ) (rows more : List Row) → rows_fault want nth count rows ≡ None → rows_fault want nth count (rows ++ more) ≡ rows_fault want (nth + length rows) (count + length rows) more
@@ -67,12 +68,12 @@ judged_sound count (header ∷ rows) row none e =
     ∙ ap (λ o. option_or o (rows_fault (length header) (2 + length rows + 1) (count + length rows + 1) [])) e
 
 -- they are no more than may be
-pub few_so_far : (count : ℕ) (rows : List Row) → count ≤ 1000000 → fault_so_far count rows ≡ None → count + length rows ≤ 1000001
+pub few_so_far : (count : ℕ) (rows : List Row) → count ≤ most_rows → fault_so_far count rows ≡ None → count + length rows ≤ 1000001
 unfolding file_fault
 few_so_far count [] few e = omega arith
 few_so_far count (header ∷ rows) few e = one_more (length rows) (rows_fit (length header) 2 count rows few (both_none (header_fault header) (rows_fault (length header) 2 count rows) e).1).1
   where
-    one_more : (n : ℕ) → count + n ≤ 1000000 → count + suc n ≤ 1000001
+    one_more : (n : ℕ) → count + n ≤ most_rows → count + suc n ≤ 1000001
     one_more n h = omega arith
 
 pub fault_of_all : (count : ℕ) (rows : List Row) → 0 < length rows → fault_so_far count rows ≡ None → file_fault count rows ≡ None

@@ -18,6 +18,7 @@ use Rattle.csv_catalog.specs.declared.fault.LoadFault.TheVariants.{Limit}
 use Rattle.csv_catalog.specs.Loaded.{loaded, catalogue_in, databases_in, database_in, database_fault, databases_fault}
 use Rattle.csv_catalog.proofs.ListLemmas.{all_pass}
 use Rattle.csv_catalog.proofs.PutLemmas.{names_front}
+use Rattle.schema_model.specs.Limits.{most_rows}
 
 pub names_legal : (names : List Text) → IsStrictlySortedBy text_cmp names → AreNames (filter is_table_label names)
 names_legal names h = record { ascend = IsStrictlySortedBy-filter text_cmp is_table_label names h; legal = all_pass is_table_label names }
@@ -31,7 +32,7 @@ pub record IsLoading (t : Tree) (left : List Text) (c : CatalogueValue) : Type 0
 pub record MayGrow (left : List Text) (c : CatalogueValue) : Type 0 where
   pub names : AreNames (database_names c ++ left)
   pub few : length c + length left ≤ 200
-  pub rows : row_count c ≤ 1000000
+  pub rows : row_count c ≤ most_rows
 
 module _ (t : Tree) where
   few_databases : (names : List Text) → names ≡ databases_in t → length names ≤ 200 → nat_lt 200 (length (databases_in t)) ≡ false
@@ -77,7 +78,7 @@ module _ (db : Text) (left : List Text) (c : CatalogueValue) where
       below : (n m : ℕ) → n + suc m ≤ 200 → n < 200
       below n m h = omega arith
 
-  pub grows_more : (new : CatalogueValue) → MayGrow (db ∷ left) c → database_names new ≡ database_names c ++ db ∷ [] → row_count new ≤ 1000000 → MayGrow left new
+  pub grows_more : (new : CatalogueValue) → MayGrow (db ∷ left) c → database_names new ≡ database_names c ++ db ∷ [] → row_count new ≤ most_rows → MayGrow left new
   grows_more new h named few = record {
     names = rw (named, append_assoc (database_names c) (db ∷ []) left) h.names;
     few = moved (length c) (length new) (length left) longer h.few;

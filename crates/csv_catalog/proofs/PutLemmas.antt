@@ -16,6 +16,7 @@ use Rattle.schema_model.specs.Sound.{AreNames, IsRelation}
 use Rattle.schema_model.proofs.Kept.{row_counted, relation_counted}
 use Rattle.csv_catalog.specs.Put.{with_rows, with_relations, CanTakeRows, CanTakeRelations, CanTakeDatabase}
 use Rattle.csv_catalog.specs.Reading.{names_of, rows_counted}
+use Rattle.schema_model.specs.Limits.{most_rows}
 
 -- a catalogue that is settled over some list is so over its own
 pub settled_as : (c : CatalogueState) (d : CatalogueValue) → c ≡ settled d → c ≡ settled c.databases
@@ -93,16 +94,16 @@ module _ (c : CatalogueValue) (db rel : ℕ) (row : Row) (rows : List Row) where
         room = rw (row_counted c db rel row h.there h.relation_there) (moved (row_count c) (length rows) h.room);
       }
     where
-      moved : (n m : ℕ) → n + suc m ≤ 1000000 → n + 1 + m ≤ 1000000
+      moved : (n m : ℕ) → n + suc m ≤ most_rows → n + 1 + m ≤ most_rows
       moved n m h = omega arith
 
 pub no_rows : (c : CatalogueValue) (db rel : ℕ) (rows : List Row) → rows ≡ [] → at_place db (with_relation_at rel (with_rows rows)) c ≡ c
 no_rows c db rel rows e = rw e (at_none db (with_relation_at rel (with_rows [])) (λ d. ap (database_value d.name) (at_none rel (with_rows []) (λ r. ap (relation_value r.name r.attributes) (append-nil r.rows)) d.relations)) c)
 
-pub has_room : (c : CatalogueValue) (db rel : ℕ) (row : Row) (rows : List Row) → CanTakeRows c db rel (row ∷ rows) → row_count c < 1000000
+pub has_room : (c : CatalogueValue) (db rel : ℕ) (row : Row) (rows : List Row) → CanTakeRows c db rel (row ∷ rows) → row_count c < most_rows
 has_room c db rel row rows h = below (row_count c) (length rows) h.room
   where
-    below : (n m : ℕ) → n + suc m ≤ 1000000 → n < 1000000
+    below : (n m : ℕ) → n + suc m ≤ most_rows → n < most_rows
     below n m h = omega arith
 
 -- a relation without rows, and then its rows
@@ -133,7 +134,7 @@ module _ (c : CatalogueValue) (db : ℕ) (r : RelationValue) where
       more : (n : ℕ) → n < suc n
       more n = omega arith
 
-      counted : (n m k : ℕ) → k ≡ m + 0 → n + k ≤ 1000000 → n + m ≤ 1000000
+      counted : (n m k : ℕ) → k ≡ m + 0 → n + k ≤ most_rows → n + m ≤ most_rows
       counted n m k e h = omega arith
 
 pub relation_fits : (n : ℕ) → n + 1 ≤ 4000 → n < 4000
@@ -176,7 +177,7 @@ module _ (c : CatalogueValue) (db : ℕ) (r : RelationValue) (rs : List Relation
       fewer : (n m : ℕ) → n + suc m ≤ 4000 → n + 1 ≤ 4000
       fewer n m h = omega arith
 
-      less : (n a b k l : ℕ) → k ≡ a + b → l ≡ a + 0 → n + k ≤ 1000000 → n + l ≤ 1000000
+      less : (n a b k l : ℕ) → k ≡ a + b → l ≡ a + 0 → n + k ≤ most_rows → n + l ≤ most_rows
       less n a b k l e f h = omega arith
 
   pub takes_others : CanTakeRelations c db (r ∷ rs) → CanTakeRelations (at_place db (with_relation r) c) db rs
@@ -192,7 +193,7 @@ module _ (c : CatalogueValue) (db : ℕ) (r : RelationValue) (rs : List Relation
       fewer : (n m : ℕ) → n + suc m ≤ 4000 → suc n + m ≤ 4000
       fewer n m h = omega arith
 
-      less : (n a b k l : ℕ) → k ≡ a + b → l ≡ n + a → n + k ≤ 1000000 → l + b ≤ 1000000
+      less : (n a b k l : ℕ) → k ≡ a + b → l ≡ n + a → n + k ≤ most_rows → l + b ≤ most_rows
       less n a b k l e f h = omega arith
 
       here_more : (a b k : ℕ) (n : ℕ) → k ≡ a + b → k + n ≡ a + n + b
@@ -230,5 +231,5 @@ module _ (c : CatalogueValue) (name : Text) (rs : List RelationValue) where
       no_more : (n : ℕ) → n ≤ 4000 → 0 + n ≤ 4000
       no_more n h = omega arith
 
-      same : (n m : ℕ) → n + m ≤ 1000000 → n + 0 + m ≤ 1000000
+      same : (n m : ℕ) → n + m ≤ most_rows → n + 0 + m ≤ most_rows
       same n m h = omega arith

@@ -7,6 +7,7 @@ use Rattle.csv_catalog.specs.declared.fault.LoadFault.TheVariants as load
 use Rattle.csv_catalog.specs.declared.judge.FileFault.{FileFault}
 use Rattle.csv_catalog.specs.declared.judge.FileFault.TheVariants.{NoRecord, TooWide, Repeated, OtherLength, TooMany}
 use Rattle.schema_model.specs.declared.Which.TheVariants as which
+use Rattle.schema_model.specs.Limits.{most_rows}
 
 -- the first of these texts that is among those seen or stands earlier
 unfoldable pub repeated_after : Row → Row → Option Text
@@ -19,14 +20,14 @@ first_repeated names = repeated_after [] names
 
 -- a row that has another length than the header, or is one row too many; nth is the number of its record, and count that of the rows before it
 abbrev pub row_fault : ℕ → ℕ → ℕ → Row → Option FileFault
-row_fault want nth count row = if not (length row == want) then Some (OtherLength nth want (length row)) else if nat_le 1000000 count then Some TooMany else None
+row_fault want nth count row = if not (length row == want) then Some (OtherLength nth want (length row)) else if nat_le most_rows count then Some TooMany else None
 
 -- the first row that has another length than the header, or is one row too many; nth is the number of its record, and count that of the rows of all relations before it
 unfoldable pub rows_fault : ℕ → ℕ → ℕ → List Row → Option FileFault
 rows_fault want nth count [] = None
 rows_fault want nth count (row ∷ rows) =
     if not (length row == want) then Some (OtherLength nth want (length row))
-    else if nat_le 1000000 count then Some TooMany
+    else if nat_le most_rows count then Some TooMany
     else rows_fault want (nth + 1) (count + 1) rows
 
 -- too many attributes, or one that is named twice

@@ -5,6 +5,7 @@ use Rattle.ss_text.specs.Texts.{Text, Row}
 use Rattle.schema_model.specs.Catalogue.{RelationValue, DatabaseValue, CatalogueValue, database_names, relation_names, row_count, database_at, relation_at}
 use Rattle.schema_model.specs.Sound.{AreNames}
 use Rattle.csv_catalog.specs.Reading.{names_of, rows_counted}
+use Rattle.schema_model.specs.Limits.{most_rows}
 
 -- a relation with these rows too, and a database with these relations too, after all others
 abbrev pub with_rows : List Row → RelationValue → RelationValue
@@ -18,14 +19,14 @@ pub record CanTakeRows (c : CatalogueValue) (db rel : ℕ) (rows : List Row) : T
   pub there : db < length c
   pub relation_there : rel < length (database_at db c).relations
   pub fits : AllByRecursion (λ (row : Row). length row ≡ length (relation_at rel (database_at db c)).attributes) rows
-  pub room : row_count c + length rows ≤ 1000000
+  pub room : row_count c + length rows ≤ most_rows
 
 -- a database of the catalogue can take these relations
 pub record CanTakeRelations (c : CatalogueValue) (db : ℕ) (rs : List RelationValue) : Type 0 where
   pub there : db < length c
   pub names : AreNames (relation_names (database_at db c) ++ names_of rs)
   pub few : length (database_at db c).relations + length rs ≤ 4000
-  pub room : row_count c + rows_counted rs ≤ 1000000
+  pub room : row_count c + rows_counted rs ≤ most_rows
 
 -- the catalogue can take a database with these relations
 pub record CanTakeDatabase (c : CatalogueValue) (name : Text) (rs : List RelationValue) : Type 0 where
@@ -33,4 +34,4 @@ pub record CanTakeDatabase (c : CatalogueValue) (name : Text) (rs : List Relatio
   pub place : length c < 200
   pub names : AreNames (names_of rs)
   pub few : length rs ≤ 4000
-  pub room : row_count c + rows_counted rs ≤ 1000000
+  pub room : row_count c + rows_counted rs ≤ most_rows

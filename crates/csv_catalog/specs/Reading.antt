@@ -8,6 +8,7 @@ use Rattle.schema_model.specs.Catalogue.{RelationValue}
 use Rattle.schema_model.specs.Sound.{AreNames}
 use Rattle.ss_text.specs.Ascending.{with_element}
 use Rattle.csv_catalog.specs.Loaded.{label_of, by_name}
+use Rattle.schema_model.specs.Limits.{most_rows}
 
 -- what holds of its folders and files, where it tells them
 abbrev pub WhereTold : StoreState → (Tree → Type 0) → Type 0
@@ -33,7 +34,7 @@ all_placed (r ∷ rs) kept = all_placed rs (with_element by_name r kept)
 -- a relation that may be kept, where so many rows were counted before
 pub record MayBeKept (r : RelationValue) (count : ℕ) : Type 0 where
   pub legal : is_table_label r.name ≡ true
-  pub room : count + length r.rows ≤ 1000000
+  pub room : count + length r.rows ≤ most_rows
 
 -- a relation's file, and the relation's name
 pub record IsLabelled (file label : Text) : Type 0 where

@@ -5,17 +5,16 @@ ghost use Rattle.schema_model.specs.Catalogue.{database_value};
 ghost use Rattle.csv_catalog.specs.Loaded.{database_folder, database_fault, database_in, is_refusal};
 ghost use Rattle.outside.specs.Reading.{OnlyRead};
 ghost use Rattle.csv_catalog.specs.Reading.{WhereTold, AreKept};
+ghost use Rattle.schema_model.specs.Limits.{most_rows};
 
 use crate::LoadFault;
 use crate::files::read_relations;
 use crate::listing::relation_files;
 use crate::relation::ReadRelation;
 use outside::{Folders, StoreFault};
-use schema_model::Which;
+use schema_model::{MOST_RELATIONS, Which};
 use ss_text::{NoMemory, Text};
 use std::alloc::Global;
-
-const MOST_RELATIONS: usize = 4_000;
 
 // Reads the relations of a database, where so many rows were counted before.
 #[tactic(auto, using(crate::proofs::DatabaseLemmas::database_wide, crate::proofs::DatabaseLemmas::database_rest, crate::proofs::DatabaseLemmas::database_told))]
@@ -25,11 +24,11 @@ pub(crate) fn read_database<F: Folders>(
     db: &Text,
     count: usize,
 ) -> Result<Vec<ReadRelation>, LoadFault>
-    requires few { count ≤ 1000000 }
+    requires few { count ≤ most_rows }
     ensures sound { OnOk result (WhereTold (F.state store.old) (λ t. database_fault t db.now count ≡ None)) }
     ensures told { IfOk result (λ relations. WhereTold (F.state store.old) (λ t. database_value db.now relations.items ≡ database_in t db.now)) }
     ensures refused { IfErr result (λ e. is_refusal e ≡ true → WhereTold (F.state store.old) (λ t. database_fault t db.now count ≡ Some e)) }
-    ensures kept { IfOk result (λ relations. AreKept count relations.items 1000000) }
+    ensures kept { IfOk result (λ relations. AreKept count relations.items most_rows) }
     ensures length { IfOk result (λ relations. length relations.items ≤ 4000) }
     ensures read_fault { IsErrOf result LoadFault.ReadFault → Rose ((F.state store.old).read_faults) ((F.state store.new).read_faults) }
     ensures store { OnlyRead (F.state store.old) (F.state store.new) }

@@ -5,6 +5,7 @@ ghost use Rattle.outside.specs.Counts.{Rose};
 ghost use Rattle.csv_catalog.specs.Loaded.{files_read, files_fault, relation_of, is_refusal};
 ghost use Rattle.outside.specs.Reading.{OnlyRead};
 ghost use Rattle.csv_catalog.specs.Reading.{WhereTold, MayBeKept};
+ghost use Rattle.schema_model.specs.Limits.{most_rows};
 
 use crate::LoadFault;
 use crate::found::{Found, found_file};
@@ -26,7 +27,7 @@ pub(crate) fn read_relation<F: Folders>(
     file: RelationFile,
     count: usize,
 ) -> Result<Option<ReadRelation>, LoadFault>
-    requires few { count ≤ 1000000 }
+    requires few { count ≤ most_rows }
     ensures sound { OnOk result (WhereTold (F.state store.old) (λ t. files_fault db.now count (files_read t folder.now (file ∷ [])) ≡ None)) }
     ensures told { IfOk result (λ read. WhereTold (F.state store.old) (λ t. map relation_of (files_read t folder.now (file ∷ [])) ≡ option_to_list read)) }
     ensures refused { IfErr result (λ e. is_refusal e ≡ true → WhereTold (F.state store.old) (λ t. files_fault db.now count (files_read t folder.now (file ∷ [])) ≡ Some e)) }

@@ -6,6 +6,7 @@ ghost use Rattle.outside.specs.Counts.{Rose};
 ghost use Rattle.csv_catalog.specs.Loaded.{files_read, files_fault, relation_of, is_refusal};
 ghost use Rattle.outside.specs.Reading.{OnlyRead};
 ghost use Rattle.csv_catalog.specs.Reading.{WhereTold, AreKept, all_placed, names_of, rows_counted};
+ghost use Rattle.schema_model.specs.Limits.{most_rows};
 
 use crate::LoadFault;
 use crate::file::read_relation;
@@ -26,11 +27,11 @@ pub(crate) fn read_relations<F: Folders>(
     files: Vec<RelationFile>,
     count: usize,
 ) -> Result<Vec<ReadRelation>, LoadFault>
-    requires few { count ≤ 1000000 }
+    requires few { count ≤ most_rows }
     ensures sound { OnOk result (WhereTold (F.state store.old) (λ t. files_fault db.now count (files_read t folder.now files.items) ≡ None)) }
     ensures told { IfOk result (λ kept. WhereTold (F.state store.old) (λ t. kept.items ≡ all_placed (map relation_of (files_read t folder.now files.items)) [])) }
     ensures refused { IfErr result (λ e. is_refusal e ≡ true → WhereTold (F.state store.old) (λ t. files_fault db.now count (files_read t folder.now files.items) ≡ Some e)) }
-    ensures kept { IfOk result (λ kept. AreKept count kept.items 1000000) }
+    ensures kept { IfOk result (λ kept. AreKept count kept.items most_rows) }
     ensures length { IfOk result (λ kept. length kept.items ≤ length files.items) }
     ensures read_fault { IsErrOf result LoadFault.ReadFault → Rose ((F.state store.old).read_faults) ((F.state store.new).read_faults) }
     ensures store { OnlyRead (F.state store.old) (F.state store.new) }
@@ -57,14 +58,14 @@ fn read_one_more<F: Folders>(
     kept: &mut Vec<ReadRelation>,
     counted: usize,
 ) -> Result<usize, LoadFault>
-    requires few { counted ≤ 1000000 }
+    requires few { counted ≤ most_rows }
     requires ascending { IsStrictlySortedBy text_cmp (names_of kept.old.items) }
     ensures sound { OnOk result (WhereTold (F.state store.old) (λ t. files_fault db.now counted (files_read t folder.now (file ∷ [])) ≡ None)) }
     ensures told { OnOk result (WhereTold (F.state store.old) (λ t. kept.new.items ≡ all_placed (map relation_of (files_read t folder.now (file ∷ []))) kept.old.items)) }
     ensures rows { IfOk result (λ n. WhereTold (F.state store.old) (λ t. n ≡ counted + rows_counted (map relation_of (files_read t folder.now (file ∷ []))))) }
     ensures refused { IfErr result (λ e. is_refusal e ≡ true → WhereTold (F.state store.old) (λ t. files_fault db.now counted (files_read t folder.now (file ∷ [])) ≡ Some e)) }
     ensures kept { IfOk result (λ n. (before : ℕ) → AreKept before kept.old.items counted → AreKept before kept.new.items n) }
-    ensures few { IfOk result (λ n. n ≤ 1000000) }
+    ensures few { IfOk result (λ n. n ≤ most_rows) }
     ensures length { OnOk result (length kept.new.items ≤ length kept.old.items + 1) }
     ensures read_fault { IsErrOf result LoadFault.ReadFault → Rose ((F.state store.old).read_faults) ((F.state store.new).read_faults) }
     ensures store { OnlyRead (F.state store.old) (F.state store.new) }

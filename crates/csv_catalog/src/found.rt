@@ -6,6 +6,7 @@ ghost use Rattle.outside.specs.Tree.{file_at};
 ghost use Rattle.csv_catalog.specs.Found.{IsFound};
 ghost use Rattle.csv_catalog.specs.Loaded.{is_refusal};
 ghost use Rattle.csv_catalog.specs.Reading.{WhereTold};
+ghost use Rattle.schema_model.specs.Limits.{most_rows};
 
 use crate::LoadFault;
 use crate::front::front_fault;
@@ -34,7 +35,7 @@ pub(crate) fn found_file<F: Folders>(
     file: &Text,
     count: usize,
 ) -> Result<Found, LoadFault>
-    requires few { count ≤ 1000000 }
+    requires few { count ≤ most_rows }
     ensures found { IfOk result (λ found. WhereTold (F.state store.old) (λ t. IsFound count (file_at t folder.now file.now) found)) }
     ensures no_refusal { IfErr result (λ e. is_refusal e ≡ false) }
     ensures read_fault { IsErrOf result LoadFault.ReadFault → Rose ((F.state store.old).read_faults) ((F.state store.new).read_faults) }
@@ -54,7 +55,7 @@ pub(crate) fn found_file<F: Folders>(
 
 // What the first bytes of a file show: all of it where they are too few, or its first fault.
 fn shown(alloc: Global, front: Text, count: usize) -> Result<Option<Found>, NoMemory>
-    requires few { count ≤ 1000000 }
+    requires few { count ≤ most_rows }
     ensures { IfOk result (λ found. IfSome found (λ found. (held : Option (List ℕ)) → Some front ≡ option_map (take 67108864) held → IsFound count held found)) }
 {
     if front.as_slice().len() < FRONT {

@@ -2,6 +2,7 @@
 ghost use Rattle.std.specs.Prelude.{◌≡◌, ◌≤◌, ◌++◌, ℕ, List, Some, IfOk, IfSome, length};
 ghost use Rattle.csv_catalog.specs.Records.{records_of};
 ghost use Rattle.csv_catalog.specs.FileFaults.{file_fault};
+ghost use Rattle.schema_model.specs.Limits.{most_rows};
 
 use crate::judge::{FileFault, next_fault};
 use crate::read::{next_record, reader_of};
@@ -16,7 +17,7 @@ pub(crate) fn front_fault(
     front: Text,
     count: usize,
 ) -> Result<Option<FileFault>, NoMemory>
-    requires few { count ≤ 1000000 }
+    requires few { count ≤ most_rows }
     requires long { 3 ≤ length front }
     ensures { IfOk result (λ fault. IfSome fault (λ f. (rest : List ℕ) → file_fault count (records_of (front ++ rest)) ≡ Some f)) }
 {

@@ -3,18 +3,15 @@ ghost use Rattle.std.specs.Prelude.{◌≡◌, ◌≤◌, ◌+◌, ℕ, None, If
 ghost use Rattle.csv_catalog.specs.Records.{records_of};
 ghost use Rattle.csv_catalog.specs.FileFaults.{header_fault, first_repeated, row_fault, told_fault};
 ghost use Rattle.csv_catalog.specs.Judged.{AreJudged, fault_so_far, next_fault};
+ghost use Rattle.schema_model.specs.Limits.{most_rows};
 
 use crate::LoadFault;
 use crate::read::{next_record, reader_of};
 use csv::ByteRecord;
-use schema_model::Which;
+use schema_model::{MOST_ATTRIBUTES, MOST_ROWS, Which};
 use ss_text::{NoMemory, Row, Text};
 use std::alloc::Global;
 use std::collections::HashSet;
-
-const MOST_ROWS: usize = 1_000_000;
-
-const MOST_ATTRIBUTES: usize = 4_000;
 
 // What is wrong in a file. Records are counted from 1.
 #[derive(Debug, Drop)]
@@ -35,7 +32,7 @@ pub(crate) enum Judged {
 
 // Reads the records of a file as far as they have no fault, where so many rows were counted before.
 pub(crate) fn judged_records(alloc: Global, bytes: &[u8], count: usize) -> Result<Judged, NoMemory>
-    requires { count ≤ 1000000 }
+    requires { count ≤ most_rows }
     ensures { IfOk result (λ judged. AreJudged count (records_of bytes.now) judged) }
 {
     let mut reader = reader_of(alloc, bytes);
@@ -82,7 +79,7 @@ pub(crate) fn next_fault(
 
 // The fault of a row behind so many rows of its file: it has another length than the header, or is one too many.
 fn row_fault(want: usize, count: usize, before: usize, row: &Row) -> Option<FileFault>
-    requires { count + before ≤ 1000000 }
+    requires { count + before ≤ most_rows }
     ensures { result ≡ row_fault want (2 + before) (count + before) row.now }
 {
     let got = row.cells().len();

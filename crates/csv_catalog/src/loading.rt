@@ -8,16 +8,15 @@ ghost use Rattle.schema_model.specs.States.{settled};
 ghost use Rattle.csv_catalog.specs.Loaded.{loaded, databases_in, database_in, database_fault, is_refusal};
 ghost use Rattle.outside.specs.Reading.{OnlyRead};
 ghost use Rattle.csv_catalog.specs.Reading.{WhereTold};
+ghost use Rattle.schema_model.specs.Limits.{most_rows};
 
 use crate::LoadFault;
 use crate::database::read_database;
 use crate::put::put_database;
 use outside::{Folders, StoreFault};
-use schema_model::{Catalogue, Which};
+use schema_model::{Catalogue, MOST_DATABASES, Which};
 use ss_text::{Text, table_label_legal};
 use std::alloc::Global;
-
-const MOST_DATABASES: usize = 200;
 
 /// Reads the catalogue of the folder `sources`: its databases are the folders in it whose names are legal table
 /// labels, and their relations the files whose names are a legal table label and then `.csv`. Other names are
@@ -84,12 +83,12 @@ fn load_database<F: Folders>(
 ) -> Result<(), LoadFault>
     requires names { AreNames (database_names catalogue.old.databases ++ db ∷ []) }
     requires place { length catalogue.old.databases < 200 }
-    requires few { row_count catalogue.old.databases ≤ 1000000 }
+    requires few { row_count catalogue.old.databases ≤ most_rows }
     ensures sound { OnOk result (WhereTold (F.state store.old) (λ t. database_fault t db (row_count catalogue.old.databases) ≡ None)) }
     ensures told { OnOk result (WhereTold (F.state store.old) (λ t. catalogue.new.databases ≡ catalogue.old.databases ++ database_in t db ∷ [])) }
     ensures refused { IfErr result (λ e. is_refusal e ≡ true → WhereTold (F.state store.old) (λ t. database_fault t db (row_count catalogue.old.databases) ≡ Some e)) }
     ensures names { OnOk result (database_names catalogue.new.databases ≡ database_names catalogue.old.databases ++ db ∷ []) }
-    ensures few { OnOk result (row_count catalogue.new.databases ≤ 1000000) }
+    ensures few { OnOk result (row_count catalogue.new.databases ≤ most_rows) }
     ensures settled { OnOk result (catalogue.new ≡ settled catalogue.new.databases) }
     ensures read_fault { IsErrOf result LoadFault.ReadFault → Rose ((F.state store.old).read_faults) ((F.state store.new).read_faults) }
     ensures store { OnlyRead (F.state store.old) (F.state store.new) }

@@ -5,6 +5,7 @@ ghost use Rattle.csv_catalog.specs.FileFaults.{file_fault, header_of, rows_of};
 ghost use Rattle.csv_catalog.specs.RecordText.{has_field};
 ghost use Rattle.schema_model.specs.Catalogue.{relation_value};
 ghost use Rattle.schema_model.specs.Sound.{IsRelation};
+ghost use Rattle.schema_model.specs.Limits.{most_rows};
 
 use ss_text::{Row, Text};
 use std::marker::Model;
@@ -35,10 +36,10 @@ impl ReadRelation {
     pub(crate) fn of(label: Text, mut records: Vec<Row>, count: usize) -> ReadRelation
         requires some { 0 < length records.items }
         requires fields { list_all has_field records.items ≡ true }
-        requires few { count ≤ 1000000 }
+        requires few { count ≤ most_rows }
         requires sound { file_fault count records.items ≡ None }
         ensures relation { result ≡ relation_value label (header_of records.items) (rows_of records.items) }
-        ensures room { count + length result.rows ≤ 1000000 }
+        ensures room { count + length result.rows ≤ most_rows }
     {
         let attributes = records.remove(0);
         ReadRelation {

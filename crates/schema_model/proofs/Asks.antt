@@ -12,6 +12,7 @@ use Rattle.schema_model.specs.declared.change.Change.TheVariants.{Insert, Delete
 use Rattle.schema_model.specs.declared.refusal.Refusal.{Refusal}
 use Rattle.schema_model.specs.declared.refusal.Which.{Which}
 use Rattle.schema_model.specs.declared.refusal.Which.TheVariants.{Databases, Relations, Attributes, Rows}
+use Rattle.schema_model.specs.Limits.{most_rows}
 
 -- of a list of refusals none stands
 first_none : (o : Option Refusal) (os : List (Option Refusal)) → first_of (o ∷ os) ≡ None → (o ≡ None) × (first_of os ≡ None)
@@ -93,16 +94,16 @@ relation_free c db to d there h =
     sym (ap (option_and_then (relation_in to)) there) ∙ is_absent (relation_of c db to) (passed (is_some (relation_of c db to)) _ h)
 
 module _ (c : CatalogueValue) (db rel : Text) where
-  pub insert_has : (row : Row) → fault c (Insert db rel row) ≡ None → record { at : Standing c db rel; fits : length row ≡ length at.r.attributes; room : row_count c < 1000000 }
+  pub insert_has : (row : Row) → fault c (Insert db rel row) ≡ None → record { at : Standing c db rel; fits : length row ≡ length at.r.attributes; room : row_count c < most_rows }
   insert_has row h =
-      let one = both_stand c db rel (arity_differs c db rel row ∷ full 1000000 (row_count c) Rows ∷ []) h in
-      let two = first_none (arity_differs c db rel row) (full 1000000 (row_count c) Rows ∷ []) one.1 in
-      let three = first_none (full 1000000 (row_count c) Rows) [] two.1 in
+      let one = both_stand c db rel (arity_differs c db rel row ∷ full most_rows (row_count c) Rows ∷ []) h in
+      let two = first_none (arity_differs c db rel row) (full most_rows (row_count c) Rows ∷ []) one.1 in
+      let three = first_none (full most_rows (row_count c) Rows) [] two.1 in
       let same = unnot (length row == length (attributes_of c db rel)) (passed (not (length row == length (attributes_of c db rel))) _ two.0) in
       record {
         at = one.0;
         fits = (Decides-eqb (length row) (length (attributes_of c db rel))).0 same ∙ ap length one.0.attributes;
-        room = room_for_one 1000000 (row_count c) Rows three.0;
+        room = room_for_one most_rows (row_count c) Rows three.0;
       }
 
   pub delete_has : (row : Row) → fault c (Delete db rel row) ≡ None → record { at : Standing c db rel; row_there : list_any (row_eq row) at.r.rows ≡ true }

@@ -19,6 +19,7 @@ use Rattle.schema_model.proofs.ChangeLemmas.{row_less, one_row_less}
 use Rattle.schema_model.proofs.RelationsKept.{attribute_added, attribute_dropped, attribute_renamed, none_repeated}
 use Rattle.schema_model.proofs.NamedLists.{AreNamed, changed, come, gone, held, still_none}
 use Rattle.schema_model.proofs.Asks.{Standing, insert_has, delete_has, add_has, drop_has, rename_has, create_has, drop_relation_has, rename_relation_has, create_database_has, drop_database_has, rename_database_has}
+use Rattle.schema_model.specs.Limits.{most_rows}
 
 named_databases : (c : CatalogueValue) → IsSound c → AreNamed database_name IsDatabase c
 named_databases c h = record { names = h.names; each = h.databases }
@@ -31,14 +32,14 @@ the_database c db d h there = held (λ (x : DatabaseValue). text_eq db x.name) I
 
 -- one database changed
 database_changed : (c : CatalogueValue) (db : Text) (d : DatabaseValue) (f : DatabaseValue → DatabaseValue) → ((x : DatabaseValue) → database_name (f x) ≡ database_name x)
-    → IsSound c → database_of c db ≡ Some d → IsDatabase (f d) → rows_in (f d) + row_count c ≤ rows_in d + 1000000 → IsSound (at_database db f c)
+    → IsSound c → database_of c db ≡ Some d → IsDatabase (f d) → rows_in (f d) + row_count c ≤ rows_in d + most_rows → IsSound (at_database db f c)
 database_changed c db d f keeps h there sound rows =
     let now = changed database_name IsDatabase rows_in db f c d keeps (named_databases c h) there sound in
     record { names = now.named.names; few = rw now.count h.few; databases = now.named.each; rows = omega (arith, now.sum, rows) }
 
 -- one relation changed
 relation_changed : (c : CatalogueValue) (db rel : Text) (at : Standing c db rel) (f : RelationValue → RelationValue) → ((x : RelationValue) → relation_name (f x) ≡ relation_name x)
-    → IsSound c → (IsRelation at.r → IsRelation (f at.r)) → length (f at.r).rows + row_count c ≤ length at.r.rows + 1000000 → IsSound (at_relation db rel f c)
+    → IsSound c → (IsRelation at.r → IsRelation (f at.r)) → length (f at.r).rows + row_count c ≤ length at.r.rows + most_rows → IsSound (at_relation db rel f c)
 relation_changed c db rel at f keeps h sound rows =
     let d_sound = the_database c db at.d h at.database in
     let r_sound : IsRelation at.r = held (λ (x : RelationValue). text_eq rel x.name) IsRelation at.d.relations at.r d_sound.relations at.relation in

@@ -10,3 +10,4 @@ pub mod Edits
 pub mod Groups
 pub mod Reading
 pub mod Pairs
+pub mod Limits

@@ -9,6 +9,7 @@ ghost use Rattle.schema_model.specs.States.{plain_databases};
 ghost use Rattle.schema_model.specs.Edits.{FitsWaiting};
 ghost use Rattle.schema_model.specs.Groups.{is_of_row, all_named, all_waits, waits_at, row_edited, all_left, rows_edited, IsRowEdit, MakesRow, AreRowEdits, all_edited, AreWaiting, AreReady};
 ghost use Rattle.schema_model.specs.declared.change.Change.TheVariants as change_is;
+ghost use Rattle.schema_model.specs.Limits.{most_rows};
 
 use crate::edit::{DatabaseEdit, RelationEdit, RowEdit};
 use crate::ready::place_of;
@@ -193,7 +194,7 @@ pub(crate) fn make_rows(databases: &mut Vec<Database>, rows: usize, edits: Vec<R
 }
 
 fn rows_edited(edit: &RelationEdit, rows: usize) -> usize
-    requires { rows ≤ 1000000 }
+    requires { rows ≤ most_rows }
     ensures { result ≡ rows_edited edit.now rows }
 {
     match edit {

@@ -5,16 +5,9 @@ ghost use Rattle.schema_model.specs.Catalogue.{relation_of};
 ghost use Rattle.schema_model.specs.States.{plain_relation};
 ghost use Rattle.schema_model.specs.Refusals.{fault, row_fault, first_of, first_repeated, no_database, no_relation};
 
+use crate::limits::{MOST_ATTRIBUTES, MOST_DATABASES, MOST_RELATIONS, MOST_ROWS};
 use crate::{Catalogue, Change, Refusal, Relation, Which};
 use ss_text::{Row, Text, table_label_legal};
-
-const MOST_ROWS: usize = 1_000_000;
-
-const MOST_DATABASES: usize = 200;
-
-const MOST_RELATIONS: usize = 4_000;
-
-const MOST_ATTRIBUTES: usize = 4_000;
 
 impl Catalogue {
     /// The first refusal of a change, or none where it can be made.

@@ -28,6 +28,7 @@ use Rattle.view_folder.proofs.FormLemmas.{none_mapped}
 use Rattle.source_law.proofs.NamedLemmas.{ascending_by_name, length_ascending, sum_ascending, all_ascending}
 use Rattle.source_law.proofs.TreeLemmas.{folders_ascend}
 use Rattle.source_law.proofs.FileLemmas.{read_at, read_all, file_legal, files_legal, database_differ, found_relation, found_database}
+use Rattle.schema_model.specs.Limits.{most_rows}
 
 -- what is loaded
 refused_not : (r : Option LoadFault) (x c : CatalogueValue) → unless_refused r x ≡ Ok c → (r ≡ None) × (x ≡ c)
@@ -78,23 +79,23 @@ relation_loaded t c db rel h whole legal_db legal =
 
 -- it is sound: the relations of files without a fault
 
-plus_none : (n : ℕ) → n ≤ 1000000 → n + 0 ≤ 1000000
+plus_none : (n : ℕ) → n ≤ most_rows → n + 0 ≤ most_rows
 plus_none n h = omega arith
 
-grouped : (a b c d : ℕ) → d ≡ b + c → a + b + c ≤ 1000000 → a + d ≤ 1000000
+grouped : (a b c d : ℕ) → d ≡ b + c → a + b + c ≤ most_rows → a + d ≤ most_rows
 grouped a b c d e h = omega (arith, e, h)
 
 module _ (t : Tree) (db folder : Text) where
-  files_sound : (count : ℕ) (files : List Text) → count ≤ 1000000 → files_fault db count (files_read t folder files) ≡ None
-      → AllByRecursion IsRelation (read_all t folder files) × (count + sum_by (λ (r : RelationValue). length r.rows) (read_all t folder files) ≤ 1000000)
+  files_sound : (count : ℕ) (files : List Text) → count ≤ most_rows → files_fault db count (files_read t folder files) ≡ None
+      → AllByRecursion IsRelation (read_all t folder files) × (count + sum_by (λ (r : RelationValue). length r.rows) (read_all t folder files) ≤ most_rows)
   unfolding files_fault
   files_sound count [] few none = (tt, plus_none count few)
   files_sound count (f ∷ fs) few none = by_file (file_at t folder f) none (λ n le e. files_sound n fs le e)
     where
       by_file : (o : Option (List ℕ)) → files_fault db count (cons_option (option_map (λ (bytes : List ℕ). (f, records_of bytes)) o) (files_read t folder fs)) ≡ None
-          → ((n : ℕ) → n ≤ 1000000 → files_fault db n (files_read t folder fs) ≡ None → AllByRecursion IsRelation (read_all t folder fs) × (n + sum_by (λ (r : RelationValue). length r.rows) (read_all t folder fs) ≤ 1000000))
+          → ((n : ℕ) → n ≤ most_rows → files_fault db n (files_read t folder fs) ≡ None → AllByRecursion IsRelation (read_all t folder fs) × (n + sum_by (λ (r : RelationValue). length r.rows) (read_all t folder fs) ≤ most_rows))
           → AllByRecursion IsRelation (map relation_of_file (cons_option (option_map (λ (bytes : List ℕ). (f, records_of bytes)) o) (files_read t folder fs)))
-          × (count + sum_by (λ (r : RelationValue). length r.rows) (map relation_of_file (cons_option (option_map (λ (bytes : List ℕ). (f, records_of bytes)) o) (files_read t folder fs))) ≤ 1000000)
+          × (count + sum_by (λ (r : RelationValue). length r.rows) (map relation_of_file (cons_option (option_map (λ (bytes : List ℕ). (f, records_of bytes)) o) (files_read t folder fs))) ≤ most_rows)
       by_file None e rest = rest count few e
       by_file (Some bytes) e rest =
           let parts = both_none (option_map (told_fault db f) (file_fault count (records_of bytes))) (files_fault db (count + length (rows_of (records_of bytes))) (files_read t folder fs)) e in
@@ -136,7 +137,7 @@ at_most : (a b c : ℕ) → a ≤ b → b ≤ c → a ≤ c
 at_most a b c h k = omega (arith, h, k)
 
 module _ (t : Tree) where
-  database_sound : (db : Text) (count : ℕ) → count ≤ 1000000 → database_fault t db count ≡ None → IsDatabase (database_in t db) × (count + rows_in (database_in t db) ≤ 1000000)
+  database_sound : (db : Text) (count : ℕ) → count ≤ most_rows → database_fault t db count ≡ None → IsDatabase (database_in t db) × (count + rows_in (database_in t db) ≤ most_rows)
   database_sound db count few none =
       let folder = database_folder db in
       let parts = no_fault (nat_lt 4000 (length (files_in t db))) (load.Limit Relations) (files_fault db count (database_files t db)) none in
@@ -156,7 +157,7 @@ module _ (t : Tree) where
         omega (arith, rows, sound.1),
       )
 
-  databases_sound : (count : ℕ) (dbs : List Text) → count ≤ 1000000 → databases_fault t count dbs ≡ None → AllByRecursion IsDatabase (map (database_in t) dbs) × (count + row_count (map (database_in t) dbs) ≤ 1000000)
+  databases_sound : (count : ℕ) (dbs : List Text) → count ≤ most_rows → databases_fault t count dbs ≡ None → AllByRecursion IsDatabase (map (database_in t) dbs) × (count + row_count (map (database_in t) dbs) ≤ most_rows)
   unfolding databases_fault
   databases_sound count [] few none = (tt, plus_none count few)
   databases_sound count (db ∷ dbs) few none =

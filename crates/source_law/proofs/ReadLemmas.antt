@@ -26,6 +26,7 @@ use Rattle.source_law.proofs.NamedLemmas.{differs_back, in_kept, named, same_nam
 use Rattle.source_law.proofs.TreeLemmas.{folders_ascend}
 use Rattle.source_law.proofs.FileLemmas.{read_at, read_all, database_differ, found_relation, found_database}
 use Rattle.source_law.proofs.LoadedLemmas.{names_of}
+use Rattle.schema_model.specs.Limits.{most_rows}
 
 -- the records of a sound relation have no fault
 parts_none : {A : Type 0} (a b : Option A) → a ≡ None → b ≡ None → option_or a b ≡ None
@@ -48,37 +49,37 @@ none_repeated seen (t ∷ ts) d = rw (apart_from seen t ts d) (none_repeated (se
 header_sound : (header : Row) → IsHeader header → header_fault header ≡ None
 header_sound header h = rw (le-ltb 4000 (length header) h.few, none_repeated [] header h.distinct) refl
 
-rows_sound : (want nth count : ℕ) (rows : List Row) → AllByRecursion (λ (row : Row). length row ≡ want) rows → count + length rows ≤ 1000000 → rows_fault want nth count rows ≡ None
+rows_sound : (want nth count : ℕ) (rows : List Row) → AllByRecursion (λ (row : Row). length row ≡ want) rows → count + length rows ≤ most_rows → rows_fault want nth count rows ≡ None
 unfolding rows_fault
 rows_sound want nth count [] fit few = refl
 rows_sound want nth count (row ∷ rows) fit few = rw ((Decides-eqb (length row) want).1 fit.0, room count (length rows) few) (rows_sound want (nth + 1) (count + 1) rows fit.1 (moved count (length rows) few))
   where
-    room : (n m : ℕ) → n + suc m ≤ 1000000 → nat_le 1000000 n ≡ false
+    room : (n m : ℕ) → n + suc m ≤ most_rows → nat_le most_rows n ≡ false
     room n m h = grind (arith, nat_tests)
 
-    moved : (n m : ℕ) → n + suc m ≤ 1000000 → n + 1 + m ≤ 1000000
+    moved : (n m : ℕ) → n + suc m ≤ most_rows → n + 1 + m ≤ most_rows
     moved n m h = omega (arith, h)
 
-file_sound : (label : Text) (count : ℕ) (records : List Row) → IsRelation (relation_value label (header_of records) (rows_of records)) → count + length (rows_of records) ≤ 1000000 → file_fault count records ≡ None
+file_sound : (label : Text) (count : ℕ) (records : List Row) → IsRelation (relation_value label (header_of records) (rows_of records)) → count + length (rows_of records) ≤ most_rows → file_fault count records ≡ None
 unfolding file_fault
 file_sound label count [] h few = absurd (omega (arith, h.header.some))
 file_sound label count (header ∷ rows) h few = parts_none (header_fault header) (rows_fault (length header) 2 count rows) (header_sound header h.header) (rows_sound (length header) 2 count rows h.fits few)
 
-first_part : (a b c d : ℕ) → d ≡ b + c → a + d ≤ 1000000 → a + b ≤ 1000000
+first_part : (a b c d : ℕ) → d ≡ b + c → a + d ≤ most_rows → a + b ≤ most_rows
 first_part a b c d e h = omega (arith, e, h)
 
-then_part : (a b c d : ℕ) → d ≡ b + c → a + d ≤ 1000000 → a + b + c ≤ 1000000
+then_part : (a b c d : ℕ) → d ≡ b + c → a + d ≤ most_rows → a + b + c ≤ most_rows
 then_part a b c d e h = omega (arith, e, h)
 
 module _ (t : Tree) (db folder : Text) where
-  files_fine : (count : ℕ) (files : List Text) → AllByRecursion IsRelation (read_all t folder files) → count + sum_by (λ (r : RelationValue). length r.rows) (read_all t folder files) ≤ 1000000 → files_fault db count (files_read t folder files) ≡ None
+  files_fine : (count : ℕ) (files : List Text) → AllByRecursion IsRelation (read_all t folder files) → count + sum_by (λ (r : RelationValue). length r.rows) (read_all t folder files) ≤ most_rows → files_fault db count (files_read t folder files) ≡ None
   unfolding files_fault
   files_fine count [] sound few = refl
   files_fine count (f ∷ fs) sound few = by_file (file_at t folder f) sound few (λ n s le. files_fine n fs s le)
     where
       by_file : (o : Option (List ℕ)) → AllByRecursion IsRelation (map relation_of_file (cons_option (option_map (λ (bytes : List ℕ). (f, records_of bytes)) o) (files_read t folder fs)))
-          → count + sum_by (λ (r : RelationValue). length r.rows) (map relation_of_file (cons_option (option_map (λ (bytes : List ℕ). (f, records_of bytes)) o) (files_read t folder fs))) ≤ 1000000
-          → ((n : ℕ) → AllByRecursion IsRelation (read_all t folder fs) → n + sum_by (λ (r : RelationValue). length r.rows) (read_all t folder fs) ≤ 1000000 → files_fault db n (files_read t folder fs) ≡ None)
+          → count + sum_by (λ (r : RelationValue). length r.rows) (map relation_of_file (cons_option (option_map (λ (bytes : List ℕ). (f, records_of bytes)) o) (files_read t folder fs))) ≤ most_rows
+          → ((n : ℕ) → AllByRecursion IsRelation (read_all t folder fs) → n + sum_by (λ (r : RelationValue). length r.rows) (read_all t folder fs) ≤ most_rows → files_fault db n (files_read t folder fs) ≡ None)
           → files_fault db count (cons_option (option_map (λ (bytes : List ℕ). (f, records_of bytes)) o) (files_read t folder fs)) ≡ None
       by_file None sound few rest = rest count sound few
       by_file (Some bytes) sound few rest =
@@ -129,17 +130,17 @@ kept_in p xs x h = (and_parts (p x) (is_in x xs) (sym (in_kept p x xs) ∙ h)).1
 files_count : (t : Tree) (db : Text) → length (database_files t db) ≡ length (files_in t db)
 files_count t db = read_count t (database_folder db) (files_in t db) (λ f i. sym (there t (database_folder db) f) ∙ kept_in is_relation_file (files_of t (database_folder db)) f i)
 
-database_fine : (t : Tree) (db : Text) (count : ℕ) → IsDatabase (database_in t db) → count + rows_in (database_in t db) ≤ 1000000 → database_fault t db count ≡ None
+database_fine : (t : Tree) (db : Text) (count : ℕ) → IsDatabase (database_in t db) → count + rows_in (database_in t db) ≤ most_rows → database_fault t db count ≡ None
 database_fine t db count sound few =
     let all = map relation_of_file (database_files t db) in
     let apart = database_differ t db in
     let many : length (ascending by_name all) ≡ length (database_files t db) = length_ascending relation_name all apart ∙ length-map (database_files t db) relation_of_file in
     let rows : rows_in (database_in t db) ≡ sum_by (λ (r : RelationValue). length r.rows) all = sum_ascending relation_name (λ (r : RelationValue). length r.rows) all apart in
     let narrow : length (files_in t db) ≤ 4000 = omega (arith, sound.few, many, files_count t db) in
-    rw (le-ltb 4000 (length (files_in t db)) narrow) (files_fine t db (database_folder db) count (files_in t db) (all_back relation_name IsRelation all apart sound.relations) (subst (λ (n : ℕ). count + n ≤ 1000000) rows few))
+    rw (le-ltb 4000 (length (files_in t db)) narrow) (files_fine t db (database_folder db) count (files_in t db) (all_back relation_name IsRelation all apart sound.relations) (subst (λ (n : ℕ). count + n ≤ most_rows) rows few))
 
 module _ (t : Tree) where
-  databases_fine : (count : ℕ) (dbs : List Text) → AllByRecursion IsDatabase (map (database_in t) dbs) → count + row_count (map (database_in t) dbs) ≤ 1000000 → databases_fault t count dbs ≡ None
+  databases_fine : (count : ℕ) (dbs : List Text) → AllByRecursion IsDatabase (map (database_in t) dbs) → count + row_count (map (database_in t) dbs) ≤ most_rows → databases_fault t count dbs ≡ None
   unfolding databases_fault
   databases_fine count [] sound few = refl
   databases_fine count (db ∷ dbs) sound few =

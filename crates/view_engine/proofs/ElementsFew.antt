@@ -14,6 +14,7 @@ use Rattle.view_def.specs.declared.typed.Range.TheVariants as range
 use Rattle.view_def.specs.Profile.{ranges_over_rows}
 use Rattle.valuation_meaning.specs.Elements.{Valuation, A_text, A_row, place_text, database_at, relation_at, cell_under, cell_at, elements, ◌>>=◌}
 use Rattle.view_engine.proofs.Products.{bound}
+use Rattle.schema_model.specs.Limits.{most_rows}
 
 -- what is found among things of which each is P, and its part of their sum
 found_here : {A : Type 0} (P : A → Type 0) (f : A → ℕ) (b : Bool) (y x : A) (o : Option A) (n : ℕ) → P y → (o ≡ Some x → P x × (f x ≤ n)) → cond b (Some y) o ≡ Some x → P x × (f x ≤ f y + n)
@@ -51,7 +52,7 @@ both_there (Some x) g y e = (x, refl, e)
 
 module _ (c : CatalogueValue) (sound : IsSound c) (v : Valuation) where
   abbrev IsOne : RelationValue → Type 0
-  IsOne r = IsRelation r × (length r.rows ≤ 1000000)
+  IsOne r = IsRelation r × (length r.rows ≤ most_rows)
 
   one_database : (p : Place) (d : DatabaseValue) → database_at c v p ≡ Some d → IsDatabase d × (rows_in d ≤ row_count c)
   one_database p d there =
@@ -66,7 +67,7 @@ module _ (c : CatalogueValue) (sound : IsSound c) (v : Valuation) where
       let of_rel = found IsRelation (λ (r : RelationValue). length r.rows) (λ (r : RelationValue). text_eq rel.0 r.name) d.0.relations r of_db.0.relations rel.2 in
       (of_rel.0, omega (arith, of_db.1, of_rel.1, sound.rows))
 
-  pub elements_few : (d : Range) → length (elements c v d) ≤ bound 1000000 4000 (ranges_over_rows d)
+  pub elements_few : (d : Range) → length (elements c v d) ≤ bound most_rows 4000 (ranges_over_rows d)
   elements_few range.Databases = omega (arith, length-map c (λ (d : DatabaseValue). A_text d.name), sound.few)
   elements_few (range.Relations p) =
       given_few (database_at c v p) (λ (d : DatabaseValue). map (λ (r : RelationValue). A_text r.name) d.relations) 4000 (λ d there.
@@ -75,10 +76,10 @@ module _ (c : CatalogueValue) (sound : IsSound c) (v : Valuation) where
       given_few (relation_at c v p q) (λ (r : RelationValue). map A_text r.attributes) 4000 (λ r there.
       omega (arith, length-map r.attributes A_text, (one_relation p q r there).0.header.few))
   elements_few (range.Tuples p q) =
-      given_few (relation_at c v p q) (λ (r : RelationValue). map (A_row r) (range_with_len 0 (length r.rows))) 1000000 (λ r there.
+      given_few (relation_at c v p q) (λ (r : RelationValue). map (A_row r) (range_with_len 0 (length r.rows))) most_rows (λ r there.
       omega (arith, length-map (range_with_len 0 (length r.rows)) (A_row r), length-range_with_len 0 (length r.rows), (one_relation p q r there).1))
   elements_few (range.Values p q a) =
-      given_few (relation_at c v p q) (λ (r : RelationValue). place_text v a >>= λ (name : Text). map A_text (filter_map (cell_under r.attributes name) r.rows)) 1000000 (λ r there.
-      given_few (place_text v a) (λ (name : Text). map A_text (filter_map (cell_under r.attributes name) r.rows)) 1000000 (λ name at.
+      given_few (relation_at c v p q) (λ (r : RelationValue). place_text v a >>= λ (name : Text). map A_text (filter_map (cell_under r.attributes name) r.rows)) most_rows (λ r there.
+      given_few (place_text v a) (λ (name : Text). map A_text (filter_map (cell_under r.attributes name) r.rows)) most_rows (λ name at.
       omega (arith, length-map (filter_map (cell_under r.attributes name) r.rows) A_text, filtered (cell_under r.attributes name) r.rows, (one_relation p q r there).1)))
   elements_few (range.Alias k a) = omega (arith, length-map (option_to_list (cell_at v k a)) A_text, option_few (cell_at v k a))
