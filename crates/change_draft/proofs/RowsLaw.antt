@@ -425,17 +425,6 @@ still_counted t u gs came went come gone all = record {
 }
 
 -- no count is more than there are changes
-pub few_came : (t : RowCounts) (gs : List Change) (n : NamedRow) → AreCounted t gs → counted named_eq t.came n ≤ length gs
-few_came t gs n all = subst (λ k. k ≤ length gs) (sym (all.came n)) (count_by-le-length (brings n) gs)
-
-pub few_went : (t : RowCounts) (gs : List Change) (n : NamedRow) → AreCounted t gs → counted named_eq t.went n ≤ length gs
-few_went t gs n all = subst (λ k. k ≤ length gs) (sym (all.went n)) (count_by-le-length (takes n) gs)
-
-pub few_come : (t : RowCounts) (gs : List Change) → AreCounted t gs → t.come ≤ length gs
-few_come t gs all = subst (λ k. k ≤ length gs) (sym all.come) (count_by-le-length inserts gs)
-
-pub few_gone : (t : RowCounts) (gs : List Change) → AreCounted t gs → t.gone ≤ length gs
-few_gone t gs all = subst (λ k. k ≤ length gs) (sym all.gone) (count_by-le-length deletes gs)
 
 pub of_others : (g : Change) → ((db rel : Text) (row : Row) → g ≡ Insert db rel row → ⊥) → ((db rel : Text) (row : Row) → g ≡ Delete db rel row → ⊥) → is_of_rows g ≡ false
 of_others (Insert db rel row) no_insert no_delete = absurd (no_insert db rel row refl)

@@ -429,8 +429,3 @@ fewer line reader new_reader rest later reads within = elim reads.answers.1 [
     some_length : (xs : List ℕ) → (xs ≡ [] → ⊥) → 0 < length xs
     some_length [] h = absurd (h refl)
     some_length (x ∷ xs) h = omega arith
-
-pub gave_out_blames : (i j k : ℕ) (old now : World) (e : ReadStop) → Steady old now → i ≤ j → j ≤ k → (IsErrOf {T = Next} (Err e) read.ReadFault → Rose j k) → BlamesRun {A = Verdict} i k old now (Err (halt_of e))
-gave_out_blames i j k old now read.ReadFault s a b f = record { steady = s; input = omega arith; because = let x : Rose j k = f refl in omega arith }
-gave_out_blames i j k old now read.TooLong s a b f = record { steady = s; input = omega arith; because = tt }
-gave_out_blames i j k old now read.NoMemory s a b f = record { steady = s; input = omega arith; because = tt }

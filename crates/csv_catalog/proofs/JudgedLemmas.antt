@@ -79,7 +79,3 @@ few_so_far count (header ∷ rows) few e = one_more (length rows) (rows_fit (len
 pub fault_of_all : (count : ℕ) (rows : List Row) → 0 < length rows → fault_so_far count rows ≡ None → file_fault count rows ≡ None
 fault_of_all count [] some e = absurd (omega arith)
 fault_of_all count (header ∷ rows) some e = e
-
-pub fault_of_none : (count : ℕ) (rows : List Row) → rows ≡ [] → file_fault count rows ≡ Some NoRecord
-unfolding file_fault
-fault_of_none count rows e = ap (file_fault count) e

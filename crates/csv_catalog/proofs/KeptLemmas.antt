@@ -99,6 +99,3 @@ kept_none counted = record { names = record { ascend = tt; legal = refl }; rows 
   where
     same : (n : ℕ) → n + 0 ≤ n
     same n = omega arith
-
-pub kept_few : (before : ℕ) (rs : List RelationValue) (counted most : ℕ) → counted ≤ most → AreKept before rs counted → AreKept before rs most
-kept_few before rs counted most few h = record { names = h.names; rows = omega arith }

@@ -62,12 +62,6 @@ module _ (t : Tree) where
   unfolding loaded
   too_many names are many = rw (← are, lt-ltb 200 (length names) many) refl
 
-pub grows_first : (names : List Text) → AreNames names → length names ≤ 200 → MayGrow names []
-grows_first names h few = record { names = h; few = none (length names) few; rows = omega arith }
-  where
-    none : (n : ℕ) → n ≤ 200 → 0 + n ≤ 200
-    none n h = omega arith
-
 module _ (db : Text) (left : List Text) (c : CatalogueValue) where
   pub grows_names : MayGrow (db ∷ left) c → AreNames (database_names c ++ db ∷ [])
   grows_names h = names_front (database_names c) left db h.names

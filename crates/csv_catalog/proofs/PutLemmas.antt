@@ -100,12 +100,6 @@ module _ (c : CatalogueValue) (db rel : ℕ) (row : Row) (rows : List Row) where
 pub no_rows : (c : CatalogueValue) (db rel : ℕ) (rows : List Row) → rows ≡ [] → at_place db (with_relation_at rel (with_rows rows)) c ≡ c
 no_rows c db rel rows e = rw e (at_none db (with_relation_at rel (with_rows [])) (λ d. ap (database_value d.name) (at_none rel (with_rows []) (λ r. ap (relation_value r.name r.attributes) (append-nil r.rows)) d.relations)) c)
 
-pub has_room : (c : CatalogueValue) (db rel : ℕ) (row : Row) (rows : List Row) → CanTakeRows c db rel (row ∷ rows) → row_count c < most_rows
-has_room c db rel row rows h = below (row_count c) (length rows) h.room
-  where
-    below : (n m : ℕ) → n + suc m ≤ most_rows → n < most_rows
-    below n m h = omega arith
-
 -- a relation without rows, and then its rows
 module _ (c : CatalogueValue) (db : ℕ) (r : RelationValue) where
   abbrev Empty : CatalogueValue
@@ -136,9 +130,6 @@ module _ (c : CatalogueValue) (db : ℕ) (r : RelationValue) where
 
       counted : (n m k : ℕ) → k ≡ m + 0 → n + k ≤ most_rows → n + m ≤ most_rows
       counted n m k e h = omega arith
-
-pub relation_fits : (n : ℕ) → n + 1 ≤ 4000 → n < 4000
-relation_fits n h = omega arith
 
 -- the names before the rest are in order
 above_front : (n : Text) (xs ys : List Text) → AllByRecursion (λ m. text_cmp n m ≡ Less) (xs ++ ys) → AllByRecursion (λ m. text_cmp n m ≡ Less) xs

@@ -104,9 +104,6 @@ doing_stops all es rest old now new d h = rw d.are (partly_later d.did (es ++ re
 pub doing_one_stops : (all : List Effect) (e : Effect) (rest : List Effect) (old now new : Contents) → Doing all (e ∷ rest) old now → Partly (e ∷ []) now new → Partly all old new
 doing_one_stops all e rest old now new d h = doing_stops all (e ∷ []) rest old now new d h
 
-pub doing_idle : (all rest : List Effect) (old now : Contents) → Doing all rest old now → Partly all old now
-doing_idle all rest old now d = rw d.are (partly_later d.did rest old now now d.done (nothing_yet rest now now refl))
-
 pub doing_end : (all : List Effect) (old now : Contents) → Doing all [] old now → now ≡ performed all old
 doing_end all old now d = d.done ∙ ap (λ es. performed es old) (sym (d.are ∙ append-nil d.did))
 
@@ -154,23 +151,5 @@ with_more a b None = refl
 with_more a b (Some held) = ap Some (append_assoc held a b)
 
 -- two prints are one print of both
-pub prints_join : (a b : List ℕ) (es : List Effect) (c : Contents) → performed (Print a ∷ Print b ∷ es) c ≡ performed (Print (a ++ b) ∷ es) c
-prints_join a b es c = ap (λ (h : Option (List ℕ)). performed es (record { stored = c.stored; held = h })) (with_more a b c.held)
-
-printed_part : (a b : List ℕ) (n : ℕ) (es : List Effect) (old new : Contents) → (n ≤ length a) ⊎ (length a ≤ n) → new ≡ record { stored = old.stored; held = with_bytes (take n (a ++ b)) old.held } → Partly (Print a ∷ Print b ∷ es) old new
-unfolding Partly
-printed_part a b n es old new (inl le) is = inr (inl (n, is ∙ ap (λ (t : List ℕ). record { stored = old.stored; held = with_bytes t old.held }) (take-append-le n a b le)))
-printed_part a b n es old new (inr le) is =
-    let m : ℕ = n - length a in
-    let e : n ≡ length a + m = omega arith in
-    let t : take n (a ++ b) ≡ a ++ take m b = ap (λ (k : ℕ). take k (a ++ b)) e ∙ take-append-add a b m in
-    inr (inr (inr (inl (m, is ∙ ap (λ (h : Option (List ℕ)). record { stored = old.stored; held = h }) (ap (λ (x : List ℕ). with_bytes x old.held) t ∙ sym (with_more a (take m b) old.held))))))
-
-le_or_ge : (n m : ℕ) → (n ≤ m) ⊎ (m ≤ n)
-le_or_ge n m = elim (leb_tells n m) [ inl p ↦ inl (omega (arith, p.1)) | inr p ↦ inr (omega (arith, p.1)) ]
 
 -- and what is a part of the one is a part of the two
-pub prints_partly : (a b : List ℕ) (es : List Effect) (old new : Contents) → Partly (Print (a ++ b) ∷ es) old new → Partly (Print a ∷ Print b ∷ es) old new
-unfolding Partly
-prints_partly a b es old new h =
-    elim h [ inl same ↦ inl same | inr rest ↦ elim rest [ inl off ↦ printed_part a b off.0 es old new (le_or_ge off.0 (length a)) off.1 | inr later ↦ inr (inr (inr (inr (subst (λ (held : Option (List ℕ)). Partly es (record { stored = old.stored; held = held }) new) (sym (with_more a b old.held)) later)))) ] ]

@@ -62,25 +62,4 @@ behind n l ts (Some spot) e =
     let value : get_or (l ∷ ts) (n + 1 + 1) [] ≡ get_or (drop n ts) 1 [] = ap (λ i. get_or (l ∷ ts) i []) last ∙ sym (get_or-drop n ts 1 []) in
     rw (column, value) (two (drop n ts) left)
 
-pub row_read_back : (shape : Shape) (row : Row) → length row ≡ fact_width shape → fact_row (fact_in shape row) ≡ row
-row_read_back shape [] e = absurd (no_width shape.spot e)
-  where
-    no_width : (spot : Option ℕ) → 0 ≡ row_width (length shape.constants) spot → ⊥
-    no_width None h = omega (arith, h)
-    no_width (Some k) h = omega (arith, h)
-row_read_back shape (l ∷ ts) e =
-    let n = length shape.constants in
-    let front : take (n + 1 - 1) ts ≡ take n ts = ap (λ i. take i ts) (omega arith) in
-    ap (λ (rest : Row). l ∷ rest) (rw (front, behind n l ts shape.spot e) (take-append-drop n ts))
-
 -- the fact in a row of this width has the view's form
-pub fact_in_fits : (shape : Shape) (row : Row) → length row ≡ fact_width shape → IsFactOf shape (fact_in shape row)
-fact_in_fits shape row e = record { key = key shape.spot row e; cell = cell shape.spot }
-  where
-    key : (spot : Option ℕ) (ts : Row) → length ts ≡ row_width (length shape.constants) spot → length (take (length shape.constants + 1 - 1) (drop 1 ts)) ≡ length shape.constants
-    key None ts h = length-take-le _ _ (omega (arith, h, length-drop 1 ts)) ∙ omega arith
-    key (Some k) ts h = length-take-le _ _ (omega (arith, h, length-drop 1 ts)) ∙ omega arith
-
-    cell : (spot : Option ℕ) → is_some (cell_behind (length shape.constants + 1) row spot) ≡ is_some spot
-    cell None = refl
-    cell (Some k) = refl

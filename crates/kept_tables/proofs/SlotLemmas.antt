@@ -195,13 +195,6 @@ slot_inserted ss i label h gap = record {
   empty = all_inserted IsSlot ss i (new_slot label) (λ e. refl) h.empty;
 }
 
-pub place_inserted : (ss : List Slot) (i : ℕ) (label : Text) → i ≤ length ss → IsPlaceOf slot_label label (insert ss i (new_slot label)) i
-place_inserted ss zero label le = record { within = omega arith; has_key = λ d. refl }
-place_inserted [] (suc i) label le = absurd (omega arith)
-place_inserted (s ∷ ss) (suc i) label le =
-    let later = place_inserted ss i label (omega arith) in
-    record { within = omega (arith, later.within); has_key = later.has_key }
-
 pub no_slots : AreSlots []
 unfolding IsStrictlySortedBy
 no_slots = record { labels = tt; empty = tt }

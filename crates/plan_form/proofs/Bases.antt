@@ -56,8 +56,3 @@ headers_turn q ds i d all h h' lt is e above =
     ∙ headers_more q h i d (drop (suc i) ds) all (ap (λ l. h ++ headers_from q i l) (sym (later ds i d lt is)) ∙ e)
 
 -- behind the last declaration nothing is left
-pub bases_end : (q : Query) (ds : List Range) (i : ℕ) (so_far all : List BaseValue) (h : List Term) → length ds ≤ i → so_far ++ bases_from q h i (drop i ds) ≡ all → so_far ≡ all
-bases_end q ds i so_far all h le e = sym (append-nil so_far) ∙ ap (λ l. so_far ++ bases_from q h i l) (sym (drop_all i ds le)) ∙ e
-
-pub headers_end : (q : Query) (ds : List Range) (i : ℕ) (all h : List Term) → length ds ≤ i → h ++ headers_from q i (drop i ds) ≡ all → h ≡ all
-headers_end q ds i all h le e = sym (append-nil h) ∙ ap (λ l. h ++ headers_from q i l) (sym (drop_all i ds le)) ∙ e

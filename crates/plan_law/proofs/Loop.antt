@@ -17,9 +17,6 @@ use Rattle.operator_law.specs.declared.delta.Signed.{Signed}
 abbrev pub WalksSoFar : List Joint → List Sides → List Signed → List (List Signed) → ℕ → List Signed → List SideMoves → Type 0
 WalksSoFar js ks first nss i ms done = (rest : List SideMoves) (out : List Signed) → Walks (drop i js) (drop i ks) ms (drop i nss) rest out → Walks js ks first nss (done ++ rest) out
 
-pub walk_start : (js : List Joint) (ks : List Sides) (ms : List Signed) (nss : List (List Signed)) → WalksSoFar js ks ms nss 0 ms []
-walk_start js ks ms nss rest out h = h
-
 -- one more stage
 pub walk_more : (js : List Joint) (ks : List Sides) (first : List Signed) (nss : List (List Signed)) (i : ℕ) (ms next : List Signed) (done : List SideMoves) (j : Joint) (k : Sides)
     → WalksSoFar js ks first nss i ms done → i < length js → i < length ks → i < length nss → SameNet (joint_moves (get_or js i j) (get_or ks i k) ms (get_or nss i [])) next
@@ -30,8 +27,6 @@ walk_more js ks first nss i ms next done j k so_far a b c net rest out h =
     rw (append_assoc done (p ∷ []) rest) (so_far (p ∷ rest) out w)
 
 -- after the last stage
-pub walk_end : (js : List Joint) (ks : List Sides) (first : List Signed) (nss : List (List Signed)) (ms : List Signed) (done : List SideMoves) (i : ℕ) → drop i js ≡ [] → WalksSoFar js ks first nss i ms done → Walks js ks first nss done ms
-walk_end js ks first nss ms done i none so_far = subst (λ ps. Walks js ks first nss ps ms) (append-nil done) (so_far [] ms (rw none refl))
 
 -- a row under terms is read at the first place of a term
 pub read_at : (q : Query) (h : List Term) (row : Row) → length row ≡ length h → (t : Term) → read q (zip h row) t ≡ option_and_then (source_text row []) (source_of h [] (resolved q.decls t))

@@ -98,15 +98,6 @@ comes_in ms r = list_any (λ (m : Signed). m.up && row_eq r m.row) ms
 abbrev pub OneWay : List Signed → Type 0
 OneWay ms = (m n : Signed) → Has ms m → Has ms n → m.row ≡ n.row → m.up ≡ n.up
 
-any_from : {X : Type 0} (p : X → Bool) (xs : List X) (x : X) → Has xs x → p x ≡ true → list_any p xs ≡ true
-any_from p [] x m e = absurd m
-any_from p (y ∷ xs) x (inl same) e = rw (ap p same ∙ e) refl
-any_from p (y ∷ xs) x (inr m) e = or_right (p y) (list_any p xs) (any_from p xs x m e)
-  where
-    or_right : (a b : Bool) → b ≡ true → (a || b) ≡ true
-    or_right true b e = refl
-    or_right false b e = e
-
 none_any : {X : Type 0} (p : X → Bool) (xs : List X) → ((x : X) → Has xs x → p x ≡ false) → list_any p xs ≡ false
 none_any p [] h = refl
 none_any p (x ∷ xs) h = rw (h x (inl refl)) (none_any p xs (λ y m. h y (inr m)))
@@ -114,21 +105,3 @@ none_any p (x ∷ xs) h = rw (h x (inl refl)) (none_any p xs (λ y m. h y (inr m
 all_of : {X : Type 0} (P : X → Type 0) (xs : List X) → ((x : X) → Has xs x → P x) → AllByRecursion P xs
 all_of P [] h = tt
 all_of P (x ∷ xs) h = (h x (inl refl), all_of P xs (λ y m. h y (inr m)))
-
-pub net_tells : (ms : List Signed) → OneWay ms → IsNet ms
-net_tells ms net = record { comes = comes_in ms; tells = all_of (λ (m : Signed). comes_in ms m.row ≡ m.up) ms (λ m at. one m at m.up refl) }
-  where
-    both : (a b : Bool) → a ≡ true → b ≡ true → (a && b) ≡ true
-    both a b e f = rw (e, f) refl
-
-    goes : (m n : Signed) → Has ms m → Has ms n → m.up ≡ false → (b : Bool) → row_eq m.row n.row ≡ b → (n.up && b) ≡ false
-    goes m n am an e true same = let up : m.up ≡ n.up = net m n am an ((row_eq-Decides m.row n.row).0 same) in rw (sym up ∙ e) refl
-    goes m n am an e false same = and_none n.up
-      where
-        and_none : (a : Bool) → (a && false) ≡ false
-        and_none true = refl
-        and_none false = refl
-
-    one : (m : Signed) → Has ms m → (b : Bool) → m.up ≡ b → comes_in ms m.row ≡ m.up
-    one m at true e = any_from (λ (n : Signed). n.up && row_eq m.row n.row) ms m at (both m.up (row_eq m.row m.row) e ((row_eq-Decides m.row m.row).1 refl)) ∙ sym e
-    one m at false e = none_any (λ (n : Signed). n.up && row_eq m.row n.row) ms (λ n an. goes m n at an e (row_eq m.row n.row) refl) ∙ sym e

@@ -18,10 +18,6 @@ use Rattle.plan_law.proofs.Held.{IsColumn, Fits}
 use Rattle.plan_law.proofs.Known.{text_declared, tuple_declared, before_place}
 
 -- one element among others
-has_contains : {X : Type 0} (xs : List X) (x : X) → Has xs x → Contains xs x
-has_contains [] x m = absurd m
-has_contains (y ∷ xs) x (inl e) = (0, omega arith, e)
-has_contains (y ∷ xs) x (inr m) = let r = has_contains xs x m in (suc r.0, omega (arith, r.1), r.2)
 
 contains_flat : {X Y : Type 0} (f : X → List Y) (xs : List X) (x : X) (y : Y) → Has xs x → Contains (f x) y → Contains (flat_map f xs) y
 contains_flat f [] x y m c = absurd m

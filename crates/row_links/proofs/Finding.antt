@@ -100,9 +100,6 @@ pub key_in_range : (keys : List (Vec ℕ Global)) (lists : List (List ℕ)) (i :
 key_in_range keys lists i e lt = omega (arith, length-key_lists keys, ap length e)
 
 -- with fewer chains than keys there is no row
-pub no_chain : (keys : List (List ℕ)) (c : Chains) (live : Placed) (key : ℕ) → ((length c.keyed.items ≡ length keys) ⊎ ((length c.keyed.items < length keys) × (live ≡ []))) → key < length keys → length c.keyed.items ≤ key → live ≡ []
-no_chain keys c live key (inl e) lt le = absurd (omega arith)
-no_chain keys c live key (inr n) lt le = n.1
 
 -- the walk behind a row of a chain
 pub found_beside : (rows : Slab Row) (chain : Chain) (f : Row → ℕ) (test : Row → Bool) (live : Placed) (place : ℕ) (row : Row) (from result : Option ℕ) → at_place place live ≡ Some row → IsOnce (places live) → AreStored rows live → slab_len rows ≡ length live → IsChained chain (marked f live) → from ≡ after_at chain.links.items place → ((r : Row) → test r ≡ true → f r ≡ f row) → ((mark : ℕ) (b : Option ℕ) (fs : Placed) → IsPath chain.links.items mark b (places fs) None → from ≡ first_or (places fs) None → AreStored rows fs → length fs ≤ slab_len rows → result ≡ first_place (filter (λ e. test e.1) fs)) → result ≡ first_place (filter (λ e. test e.1) (following place live))

@@ -51,16 +51,3 @@ pub one_added : (old new : LinkedRows) → AddsFirst old new → length old.wait
 one_added old new added = let e : length old.waiting ≡ suc (length added.others) = ap length added.waited in let f : length new.waiting ≡ length added.others = ap (λ (v : LinkedRows). length v.waiting) added.added in omega arith
 
 -- the rows that are live and those that wait are the same ones, in the same order
-pub rows_move_on : (old new : LinkedRows) → AddsFirst old new → rows_alone new.live ++ new.waiting ≡ rows_alone old.live ++ old.waiting
-rows_move_on old new added =
-    let live : new.live ≡ old.live ++ (added.place, added.row) ∷ [] = ap (λ (v : LinkedRows). v.live) added.added in
-    let waiting : new.waiting ≡ added.others = ap (λ (v : LinkedRows). v.waiting) added.added in
-    ap (λ (ws : List Row). rows_alone new.live ++ ws) waiting
-    ∙ ap (λ (es : Placed). rows_alone es ++ added.others) live
-    ∙ ap (λ (rs : List Row). rs ++ added.others) (alone_more old.live added.place added.row)
-    ∙ append_assoc (rows_alone old.live) (added.row ∷ []) added.others
-    ∙ ap (λ (ws : List Row). rows_alone old.live ++ ws) (sym added.waited)
-  where
-    alone_more : (es : Placed) (p : ℕ) (row : Row) → rows_alone (es ++ (p, row) ∷ []) ≡ rows_alone es ++ row ∷ []
-    alone_more [] p row = refl
-    alone_more (e ∷ es) p row = ap (λ (rs : List Row). e.1 ∷ rs) (alone_more es p row)

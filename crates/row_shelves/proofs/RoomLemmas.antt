@@ -13,15 +13,6 @@ pub somes : {Z : Type 0} (ss : List (Vec Stock Z)) → AllByRecursion IsShelf ss
 somes ss h = all_weaker IsShelf (λ s. 0 < length (on_shelf s)) (λ s is. is.some) ss h
 
 -- around the one that is set
-pub all_set_before : {X : Type 0} (P : X → Type 0) (xs : List X) (i : ℕ) (new : X) → AllByRecursion P xs → AllByRecursion P (take i (set xs i new))
-all_set_before P xs zero new h = tt
-all_set_before P [] (suc i) new h = tt
-all_set_before P (x ∷ xs) (suc i) new h = (h.0, all_set_before P xs i new h.1)
-
-pub at_set : {X : Type 0} (P : X → Type 0) (xs : List X) (i : ℕ) (new d : X) → i < length xs → P new → P (get_or (set xs i new) i d)
-at_set P [] i new d lt p = absurd (omega arith)
-at_set P (x ∷ xs) zero new d lt p = p
-at_set P (x ∷ xs) (suc i) new d lt p = at_set P xs i new d (omega arith) p
 
 -- one that is set and one behind it, between those before and those behind
 pub all_cut : {X : Type 0} (P : X → Type 0) (xs : List X) (i : ℕ) (front back : X) → i < length xs → AllByRecursion P (take i xs) → AllByRecursion P (drop (suc i) xs) → P front → P back

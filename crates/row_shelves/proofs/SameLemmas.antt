@@ -61,25 +61,12 @@ on_shelf_all rows P [] i d lt h = absurd (omega arith)
 on_shelf_all rows P (s ∷ ss) zero d lt h = left_of P (rows s) (joined rows ss) h
 on_shelf_all rows P (s ∷ ss) (suc i) d lt h = on_shelf_all rows P ss i d (omega arith) (right_of P (rows s) (joined rows ss) h)
 
-pub row_has : {X Y : Type 0} (f : X → Y) (P : Y → Type 0) (xs : List X) (j : ℕ) (d : X) → j < length (map f xs) → AllByRecursion P (map f xs) → P (f (get_or xs j d))
-row_has f P [] j d lt h = absurd (omega arith)
-row_has f P (x ∷ xs) zero d lt h = h.0
-row_has f P (x ∷ xs) (suc j) d lt h = row_has f P xs j d (omega arith) h.1
-
 -- the last shelf with one row more, and a shelf more
 pub last_pushed : {S A : Type 0} (rows : S → List A) (ss : List S) (i : ℕ) (d new : S) (x : A) → i + 1 ≡ length ss → rows new ≡ rows (get_or ss i d) ++ x ∷ [] → joined rows (set ss i new) ≡ joined rows ss ++ x ∷ []
 last_pushed rows [] i d new x e same = absurd (omega (arith, e))
 last_pushed rows (s ∷ []) zero d new x e same = append-nil (rows new) ∙ same ∙ ap (λ xs. xs ++ x ∷ []) (sym (append-nil (rows s)))
 last_pushed rows (s ∷ t ∷ ss) zero d new x e same = absurd (omega (arith, e))
 last_pushed rows (s ∷ ss) (suc i) d new x e same = ap (λ xs. rows s ++ xs) (last_pushed rows ss i d new x (omega (arith, e)) same) ∙ sym (append_assoc (rows s) (joined rows ss) (x ∷ []))
-
-pub shelf_pushed : {S A : Type 0} (rows : S → List A) (ss : List S) (new : S) (x : A) → rows new ≡ x ∷ [] → joined rows (ss ++ new ∷ []) ≡ joined rows ss ++ x ∷ []
-shelf_pushed rows [] new x e = append-nil (rows new) ∙ e
-shelf_pushed rows (s ∷ ss) new x e = ap (λ xs. rows s ++ xs) (shelf_pushed rows ss new x e) ∙ sym (append_assoc (rows s) (joined rows ss) (x ∷ []))
-
-pub on_err : {X Y : Type 0} (r : Result X Y) {P : Type 0} → P → OnErr r P
-on_err (Ok x) p = tt
-on_err (Err y) p = p
 
 -- whether a key is found
 pub found_is : (ss : List (Vec Stock Global)) (key : Row) (r : Result Spot Spot) → IfOk r (λ s. IsPlaceOf stock_key key (all_rows ss) (place_of ss s)) → IfErr r (λ s. IsPlaceFor row_cmp stock_key key (all_rows ss) (place_of ss s)) → is_ok r ≡ has_key key (all_rows ss)

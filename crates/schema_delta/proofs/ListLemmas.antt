@@ -115,6 +115,3 @@ module _ {X : Type 0} (name : X → Text) (V : X → List Row) where
       ] refl h
 
 -- the rows of moves of one sign
-pub rows_signed : (up : Bool) (xs : List Row) → map (λ (m : Signed). m.row) (all_signed up xs) ≡ xs
-rows_signed up [] = refl
-rows_signed up (x ∷ xs) = rw (rows_signed up xs) refl

@@ -260,6 +260,3 @@ module _ (c : CatalogueValue) (all : List Change) (s : FlatSpec) (i : ℕ) (ms :
 
   pub walked : length all ≤ i → MovesBetween c (after_all c all) s ms
   walked done = subst (λ (k : CatalogueValue). MovesBetween c k s ms) (all_made c all walk.now i walk.left done) walk.moved
-
-pub walk_starts : (c : CatalogueValue) (all : List Change) (s : FlatSpec) → IsLeft c all c 0 → IsSound c → list_all is_of_rows all ≡ true → RowsWalk c all s 0 []
-walk_starts c all s left sound of_rows = record { now = c; moved = stays (flat c s) (flat c s) refl; left = left; of_rows = of_rows; sound = sound; same = λ db rel. refl }

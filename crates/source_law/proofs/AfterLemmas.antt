@@ -57,10 +57,6 @@ stored_after (e ∷ es) c s h =
     ∙ ap (λ (u : Tree). Some (record { tree = tree_after es u; writes = risen b.now.writes (counted es u) })) b.tree
     ∙ ap (λ (w : ℕ). Some (record { tree = tree_after es (tree_by e s.tree); writes = w })) (twice_risen s.writes b.now.writes (count_of e s.tree) (counted es (tree_by e s.tree)) b.writes)
 
-pub tree_append : (es fs : List Effect) (t : Tree) → tree_after (es ++ fs) t ≡ tree_after fs (tree_after es t)
-tree_append [] fs t = refl
-tree_append (e ∷ es) fs t = tree_append es fs (tree_by e t)
-
 -- effects that print nothing
 abbrev pub Silent : Effect → Type 0
 Silent (Print bytes) = ⊥

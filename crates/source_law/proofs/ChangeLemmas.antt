@@ -140,10 +140,6 @@ one_changed c db rel f p keeps h =
 found_as : (c : CatalogueValue) (db k : Text) (d e : DatabaseValue) → text_eq db k ≡ true → database_of c db ≡ Some d → database_of c k ≡ Some e → e ≡ d
 found_as c db k d e same there found = same_some e d (sym found ∙ ap (database_of c) (sym (same_text db k same)) ∙ there)
 
-swap_test : (rel k : Text) (b : Bool) → text_eq rel k ≡ b → text_eq k rel ≡ b
-swap_test rel k true e = ap (λ (x : Text). text_eq x rel) (sym (same_text rel k e)) ∙ equal_itself text_order rel
-swap_test rel k false e = differs_back rel k e
-
 module _ (c : CatalogueValue) (p : Pair) where
   abbrev Stays : CatalogueValue → Type 0
   Stays new = relation_of new p.db p.rel ≡ relation_of c p.db p.rel

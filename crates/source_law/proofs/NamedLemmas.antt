@@ -203,20 +203,6 @@ module _ {A : Type 0} (key : A → Text) where
       ] refl h
 
 -- texts that ascend, with the same among them
-pub same_texts : (xs ys : List Text) → IsStrictlySortedBy text_cmp xs → IsStrictlySortedBy text_cmp ys → ((k : Text) → is_in k xs ≡ is_in k ys) → xs ≡ ys
-same_texts xs ys s t h = same_named (λ x. x) xs ys (subst (IsStrictlySortedBy text_cmp) (sym (mapped xs)) s) (subst (IsStrictlySortedBy text_cmp) (sym (mapped ys)) t) (λ k. found k xs ∙ ap (λ b. cond b (Some k) None) (h k) ∙ sym (found k ys))
-  where
-    mapped : (zs : List Text) → map (λ x. x) zs ≡ zs
-    mapped [] = refl
-    mapped (z ∷ zs) = ap (λ us. z ∷ us) (mapped zs)
-
-    found : (k : Text) (zs : List Text) → find (λ x. text_eq k x) zs ≡ cond (is_in k zs) (Some k) None
-    found k [] = refl
-    found k (z ∷ zs) =
-        elim (text_eq k z) as (λ b. text_eq k z ≡ b → cond b (Some z) (find (λ x. text_eq k x) zs) ≡ cond (b || is_in k zs) (Some k) None) [
-          | true ↦ λ e. ap Some (sym (same_text k z e))
-          | false ↦ λ _. found k zs
-        ] refl
 
 -- names that are legal one by one
 pub each_legal : {A : Type 0} (key : A → Text) (xs : List A) → list_all is_table_label (map key xs) ≡ true → AllByRecursion (λ x. is_table_label (key x) ≡ true) xs

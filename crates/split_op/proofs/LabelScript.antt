@@ -36,9 +36,6 @@ found_made f (l ∷ ls) q = by_test (text_eq q l) refl (found_made f ls q)
     by_test true e rest = rw e (ap (λ (k : Text). Some (f k)) (sym (equal_is text_order q l e)))
     by_test false e rest = rw e rest
 
-all_labels : Shape → List Fact → List Text
-all_labels shape fs = option_to_list shape.label ++ map (λ (f : Fact). f.label) fs
-
 pub table_is : (shape : Shape) (fs : List Fact) (label : Text) → table_of (tables shape fs) label ≡ table_for shape fs label
 unfolding tables
 table_is shape fs label =

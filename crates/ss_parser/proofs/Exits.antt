@@ -20,8 +20,3 @@ then_goes view p f old mid new a h (Err TooDeep) k = inr (a, mid, h, k)
 then_goes view p f old mid new a h (Err NoMemory) k = tt
 
 -- the same up to the end
-pub then_goes_all : {X A B : Type 0} (view : X → B) (p : Phrase Piece A) (f : A → Phrase Piece B) (old mid new : List Piece) (a : A) → p.reads old a mid → (r : Result X ParseStop) → ParsesAll view (f a) mid new r → ParsesAll view (p >>= f) old new r
-then_goes_all view p f old mid new a h (Ok x) k = (a, mid, h, k)
-then_goes_all view p f old mid new a h (Err Unexpected) k = inr (a, mid, h, k)
-then_goes_all view p f old mid new a h (Err TooDeep) k = inr (a, mid, h, k)
-then_goes_all view p f old mid new a h (Err NoMemory) k = tt

@@ -23,11 +23,6 @@ use Rattle.ss_top.specs.declared.status.Status.TheVariants as status
 use Rattle.ss_top.specs.Course.{Course, unread, verdict_status, status_of, Did, Cause, RanBy, RanSome, NoFault, Finished, is_fault_status}
 
 -- a command without an input that ended, and one that stopped
-pub ended_ran : (e : Ending) (bytes : List ℕ) (rest : Option (List ℕ)) (old new : World) (v : Verdict) → Ended e old new (Ok v) → RanBy (unread e) bytes rest old new (Ok v)
-ended_ran e bytes rest old new v h = h
-
-pub stopped_ran : (e : Ending) (bytes : List ℕ) (rest : Option (List ℕ)) (old new : World) (s : Stop) → Ended e old new (Err s) → RanBy (unread e) bytes rest old new (Err (halt.Stopped s))
-stopped_ran e bytes rest old new s h = h
 
 pub ran_some : (e : Ending) (old new : World) (v : Verdict) → Ended e old new (Ok v) → RanSome (unread e) old new (Ok v)
 ran_some e old new v h = record { lines = []; ran = h }

@@ -22,22 +22,6 @@ pub record Going (start now : LinesState) (rest later : Option (List ℕ)) : Typ
   pub end : start.ended ≡ false → now.ended ≡ true → (bytes : List ℕ) → later ≡ Some bytes → bytes ≡ []
   pub same : (bytes more : List ℕ) → rest ≡ Some bytes → later ≡ Some more → ahead start bytes ≡ ahead now more
 
-before_none : (rest : Option (List ℕ)) → rest ≡ before [] rest
-before_none None = refl
-before_none (Some bytes) = refl
-
-pub going_none : (s : LinesState) (rest : Option (List ℕ)) → Going s s rest rest
-going_none s rest = record {
-  part = [];
-  moved = before_none rest;
-  counted = omega arith;
-  left = sym (append-nil s.left);
-  soon = inl refl;
-  ended = λ h. h;
-  end = λ going ended bytes is. absurd (cc);
-  same = λ bytes more is later. ap (ahead s) (same_Some bytes more (sym is ∙ later));
-}
-
 before_both : (a b : List ℕ) (o : Option (List ℕ)) → before a (before b o) ≡ before (a ++ b) o
 before_both a b None = refl
 before_both a b (Some rest) = ap Some (sym (append_assoc a b rest))
@@ -78,17 +62,6 @@ going_more start now new rest mid later g ready p = record {
   same = λ bytes more is is_later.
       let is_mid : mid ≡ Some (p.piece ++ more) = p.moved ∙ ap (before p.piece) is_later in
       g.same bytes (p.piece ++ more) is is_mid ∙ piece_ahead now new p.piece more (needs now ready).no_end p.left (λ ended. p.end ended (p.piece ++ more) is_mid);
-}
-
-pub going_reads : (r : Result Next ReadStop) (start now new : LinesState) (rest later : Option (List ℕ)) → Going start now rest later → Answers r now.left new → new.taken ≡ now.taken → new.ended ≡ now.ended → Reads r start new rest later
-going_reads r start now new rest later g h count ended = record {
-  part = g.part;
-  moved = g.moved;
-  counted = count ∙ g.counted;
-  soon = g.soon;
-  ended = λ h. ended ∙ g.ended h;
-  end = λ going h. g.end going (sym ended ∙ h);
-  answers = subst (λ (l : List ℕ). Answers r l new) g.left h;
 }
 
 line_ahead : (line : List ℕ) (now new : LinesState) (more : List ℕ) → new.ended ≡ now.ended → now.left ≡ line ++ 10 ∷ new.left → ahead now more ≡ line ++ 10 ∷ ahead new more

@@ -128,7 +128,3 @@ pub among_all : {X : Type 0} (P : X → Type 0) (xs ys : List X) (y : X) → ys 
 among_all P xs ys y same all among = subst P (sym among.1.1) (subst (All P) (sym same) all among.0 y among.1.0)
 
 -- the declaration at a place, as the code reads it
-pub declared_there : (ds : List Range) (k : ℕ) (x : Range) → k < length ds → x ≡ get_or ds k x → (d : Range) → Some d ≡ slice_get ds k → x ≡ d
-declared_there ds k x lt is d here =
-    let both : Some d ≡ Some x = here ∙ slice_get_read ds (length ds) k x refl lt is in
-    cc

@@ -72,10 +72,6 @@ module _ (ds : List RawDecl) where
 abbrev pub terms_in_members : List RawCond → List RawTerm
 terms_in_members cs = terms_in_each (raws (map raw_of cs))
 
-terms_in_members_is : (cs : List RawCond) → terms_in_members cs ≡ flat_map (λ c. terms_in (raw_of c)) cs
-terms_in_members_is [] = refl
-terms_in_members_is (c ∷ cs) = ap (λ (ts : List RawTerm). terms_in (raw_of c) ++ ts) (terms_in_members_is cs)
-
 terms_in_members-append : (cs es : List RawCond) → terms_in_members (cs ++ es) ≡ terms_in_members cs ++ terms_in_members es
 terms_in_members-append [] es = refl
 terms_in_members-append (c ∷ cs) es =
