@@ -105,8 +105,8 @@ fn header_fault(alloc: Global, header: &Row) -> Result<Option<FileFault>, NoMemo
     }
 }
 
-// The name at the first place whose name stands earlier too.
-fn first_repeated(alloc: Global, names: &[Text]) -> Result<Option<Text>, NoMemory>
+/// The name at the first place whose name stands earlier too.
+pub fn first_repeated(alloc: Global, names: &[Text]) -> Result<Option<Text>, NoMemory>
     ensures { IfOk result (λ name. name ≡ first_repeated names.now) }
 {
     let mut seen = HashSet::new(alloc);

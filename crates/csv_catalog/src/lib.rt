@@ -23,6 +23,7 @@ mod save;
 mod write;
 
 pub use fault::LoadFault;
+pub use judge::first_repeated;
 pub use loading::load;
 pub use read::records;
 pub use records_text::RecordsText;

@@ -20,3 +20,4 @@ mod side;
 pub use join::Join;
 pub use kept::JoinReady;
 pub use key_places::KeyPlaces;
+pub use side::rows_of_moves;

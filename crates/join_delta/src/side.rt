@@ -59,8 +59,8 @@ fn copy_if(m: &Signed, up: bool, rows: &mut Vec<Row>) -> Result<(), NoMemory>
     Ok(())
 }
 
-// Copies the rows that come, or those that go.
-fn copies(alloc: Global, moves: &[Signed], up: bool) -> Result<Vec<Row>, NoMemory>
+/// The rows that come, or those that go, copied in their order.
+pub fn rows_of_moves(alloc: Global, moves: &[Signed], up: bool) -> Result<Vec<Row>, NoMemory>
     ensures { IfOk result (λ rows. rows.items ≡ cond up (ups_of moves.now) (downs_of moves.now)) }
 {
     let mut rows = Vec::new(alloc);
@@ -82,8 +82,8 @@ pub(crate) fn ready_side(
     ensures live { kept.new.live ≡ kept.old.live }
     ensures keys { kept.new.keys ≡ kept.old.keys }
 {
-    let downs = copies(alloc, moves, false)?;
-    let ups = copies(alloc, moves, true)?;
+    let downs = rows_of_moves(alloc, moves, false)?;
+    let ups = rows_of_moves(alloc, moves, true)?;
     let count = ups.len();
     kept.reserve(alloc, ups)?;
     Ok((count, downs))

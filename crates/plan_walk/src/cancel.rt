@@ -6,7 +6,6 @@ ghost use Rattle.operator_law.specs.Bags.{weigh, is};
 ghost use Rattle.join_delta.specs.Walks.{rows_of};
 ghost use Rattle.plan_walk.specs.Cancelled.{Apart};
 
-use crate::moved_rows::found_rows;
 use row_links::Linked;
 use ss_text::{NoMemory, Row};
 use std::alloc::Global;
@@ -21,6 +20,15 @@ fn keep(others: &mut Linked, row: Row, kept: &mut Vec<Row>) -> Result<(), NoMemo
     }
     kept.push(row)?;
     Ok(())
+}
+
+// These rows, each to be found by its cells.
+fn found_rows(alloc: Global, rows: Vec<Row>) -> Result<Linked, NoMemory>
+    ensures { IfOk result (λ found. rows_of found.live ≡ rows.items) }
+{
+    let mut rows = rows;
+    let found = Linked::of_rows(alloc, &mut rows)?;
+    Ok(found)
 }
 
 /// Rows without others: each as often as it is there more often than among the others.

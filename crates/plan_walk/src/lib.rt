@@ -8,7 +8,6 @@
 
 mod cancel;
 mod fills;
-mod moved_rows;
 mod nets;
 mod walks;
 

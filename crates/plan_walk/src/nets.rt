@@ -8,7 +8,7 @@ ghost use Rattle.operator_law.specs.declared.delta.Signed.{Signed as SignedValue
 ghost use Rattle.plan_law.specs.Net.{SameNet, IsNet};
 
 use crate::cancel::without;
-use crate::moved_rows::copies;
+use join_delta::rows_of_moves;
 use operator_law::{Delta, Signed};
 use ss_text::{NoMemory, Row};
 use std::alloc::Global;
@@ -29,8 +29,8 @@ fn all_go(moves: &[Signed]) -> bool
 fn ups_left(alloc: Global, moves: &[Signed]) -> Result<Vec<Row>, NoMemory>
     ensures { IfOk result (λ rows. (r : RowValue) → weigh (is r) rows.items ≡ weigh (is r) (ups_of moves.now) - weigh (is r) (downs_of moves.now)) }
 {
-    let ups = copies(alloc, moves, true)?;
-    let downs = copies(alloc, moves, false)?;
+    let ups = rows_of_moves(alloc, moves, true)?;
+    let downs = rows_of_moves(alloc, moves, false)?;
     let left = without(alloc, ups, downs)?;
     Ok(left)
 }
@@ -39,8 +39,8 @@ fn ups_left(alloc: Global, moves: &[Signed]) -> Result<Vec<Row>, NoMemory>
 fn downs_left(alloc: Global, moves: &[Signed]) -> Result<Vec<Row>, NoMemory>
     ensures { IfOk result (λ rows. (r : RowValue) → weigh (is r) rows.items ≡ weigh (is r) (downs_of moves.now) - weigh (is r) (ups_of moves.now)) }
 {
-    let downs = copies(alloc, moves, false)?;
-    let ups = copies(alloc, moves, true)?;
+    let downs = rows_of_moves(alloc, moves, false)?;
+    let ups = rows_of_moves(alloc, moves, true)?;
     let left = without(alloc, downs, ups)?;
     Ok(left)
 }

@@ -11,10 +11,10 @@ ghost use Rattle.view_folder.specs.Held.{KeysFit, is_refusal};
 ghost use Rattle.view_folder.specs.Records.{records_fault, rows_fault, lengths_fault, view_fault, ragged, table_in, table_under, are_of_view, ascends, is_header, are_columns, constant_part, dynamic_part, dynamic_count, before_spot, behind_spot, key_and_cells};
 
 use crate::TablesFault;
+use csv_catalog::first_repeated;
 use flow_law::{Shape, Table};
 use ss_text::{NoMemory, Row, Text, column_label_legal};
 use std::alloc::Global;
-use std::collections::HashSet;
 
 // The table of these records, which a file of this name holds.
 pub(crate) fn table_of(
@@ -101,19 +101,6 @@ fn table_of_view(
         Some(table) => Ok(table),
         None => Err(TablesFault::NotThisView { file }),
     }
-}
-
-// The name at the first place whose name stands earlier too.
-fn first_repeated(alloc: Global, names: &[Text]) -> Result<Option<Text>, NoMemory>
-    ensures { IfOk result (λ name. name ≡ first_repeated names.now) }
-{
-    let mut seen = HashSet::new(alloc);
-    for name in names {
-        if !seen.insert(name)? {
-            return Ok(Some(name.copy()?));
-        }
-    }
-    Ok(None)
 }
 
 // The number of the first record behind a header that has another number of fields than it, and how many.

@@ -1,6 +1,0 @@
-use Rattle.std.proofs.Common.{◌≡◌, cond, take}
-use Rattle.join_delta.specs.Ready.{ups_of, downs_of}
-use Rattle.plan_walk.proofs.moved_rows.copies.Given as goal
-
-abbrev pub invariant-loop-m : goal.invariant-loop-m
-invariant-loop-m l = l.rows.items ≡ cond l.up (ups_of (take l.m-index l.moves)) (downs_of (take l.m-index l.moves))
