@@ -1,7 +1,7 @@
-//! The output of one place, applied in another.
+//! The output of one place, applied in another: a law without code.
 //!
 //! Its contract: what is printed where a view is kept up to date takes the view's folder in another place, which held
-//! the same files at first, to the present files. It has no code.
+//! the same files at first, to the present files. It knows nothing of how a run comes to its output.
 #![tactic(auto)]
 
 ghost use Rattle.pipe_law.specs.Law.{TablesReadBack, PipedViewsFollow};

@@ -1,4 +1,4 @@
-//! The folders of the sources while changes are made and saved.
+//! The folders of the sources while changes are made and saved: a law without code.
 //!
 //! Its contract: where each accepted change names what it changes, and the sources save what was named, their folders
 //! hold the changed catalogue, and what is loaded of them is that catalogue. It knows nothing of lines or of views'

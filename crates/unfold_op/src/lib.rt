@@ -1,7 +1,7 @@
 //! From facts that come and go to the lines by which their table changes.
 //!
 //! Its contract: `Distinct` and `Unfold` obey the law of operators for every change of the facts of one table. `Distinct`
-//! never refuses; `Unfold` refuses exactly what the definitions refuse. Neither knows any other table.
+//! never refuses; `Unfold` refuses exactly what the definitions refuse. It knows nothing of any other table.
 #![tactic(auto)]
 
 mod delta;
