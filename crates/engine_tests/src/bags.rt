@@ -1,8 +1,9 @@
 //! Rows through a bag, by hand.
 ghost use Rattle.std.specs.Prelude.{◌≡◌, ◌∷◌, [], IfOk};
-ghost use Rattle.operator_law.specs.RowCounts.{KeepsRows};
+ghost use Rattle.other_operators.specs.RowCounts.{KeepsRows};
 
-use operator_law::{Bag, Delta, Kept};
+use operator_law::{Delta, Kept};
+use other_operators::Bag;
 use ss_text::{NoMemory, Row, Text};
 use std::alloc::Global;
 use std::test::Fail;

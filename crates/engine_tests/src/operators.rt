@@ -2,7 +2,8 @@
 ghost use Rattle.std.specs.Prelude.{◌≡◌, ◌<◌, IfOk, All, length};
 
 use flow_law::Stop;
-use operator_law::{Delta, Operator, Project, Select, Side, Signed, Then};
+use operator_law::{Delta, Operator, Signed};
+use other_operators::{Project, Select, Side, Then};
 use ss_text::{NoMemory, Row, Steps, Text};
 use std::alloc::Global;
 use std::marker::Brand;

@@ -1,5 +1,3 @@
 pub mod Weights
 pub mod Counts
 pub mod SignedRows
-pub mod BagCounts
-pub mod BagWaits

@@ -1,4 +1,2 @@
-pub mod BagFields
 pub mod Bags
-pub mod RowCounts
 pub mod Rows

@@ -2,7 +2,8 @@
 ghost use Rattle.std.specs.Prelude.{◌≡◌, ◌∷◌, ◌<◌, [], IfOk, All, length, map};
 
 use flow_law::Stop;
-use operator_law::{Delta, Operator, Select, Signed};
+use operator_law::{Delta, Operator, Signed};
+use other_operators::Select;
 use ss_text::{NoMemory, Row, Steps, Text};
 use std::alloc::Global;
 use std::marker::Brand;

@@ -1,0 +1,2 @@
+mod BagCounts
+mod BagWaits

@@ -1,0 +1,2 @@
+pub mod BagFields
+pub mod RowCounts
