@@ -10,3 +10,4 @@ pub mod IndexLemmas
 pub mod SoughtLemmas
 pub mod MadeLemmas
 pub mod FoundLemmas
+pub mod OrderLemmas

@@ -16,3 +16,4 @@ pub mod Found
 pub mod Columns
 pub mod Lookups
 pub mod Sources
+pub mod Orders
