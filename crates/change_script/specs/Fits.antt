@@ -1,10 +1,15 @@
--- Tables that fit the form of a view's tables.
-use Rattle.std.specs.Prelude.{◌≡◌, true, length, is_some}
-use Rattle.std.specs.List.{AllByRecursion}
+-- Forms of tables, and the tables that fit one.
+use Rattle.std.specs.Prelude.{◌≡◌, ◌≤◌, true, length, is_some, unwrap_or, bytes_eq}
+use Rattle.std.specs.List.{AllByRecursion, IsDistinct}
 use Rattle.ss_text.specs.Texts.{Text, Row}
 use Rattle.ss_text.specs.Label.{is_table_label, is_column_label}
 use Rattle.flow_law.specs.declared.shape.Shape.{Shape}
 use Rattle.flow_law.specs.Tables.{TableValue, TablesValue}
+
+-- constant columns that all differ, of which no more stand before the variable column than there are
+pub record IsForm (shape : Shape) : Type 0 where
+  pub distinct : IsDistinct bytes_eq shape.constants
+  pub spot : unwrap_or shape.spot (length shape.constants) ≤ length shape.constants
 
 -- a legal label and legal columns, which stand only where there is a variable column, and a text for each constant column in each key
 pub record TableFits (shape : Shape) (label : Text) (t : TableValue) : Type 0 where

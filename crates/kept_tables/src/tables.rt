@@ -113,8 +113,8 @@ impl KeptTables {
         self.slots[place].table()
     }
 
-    // Gives the memory for the lines that wait back.
-    fn drop_waiting(&mut self)
+    /// Gives the memory for the lines that wait back, so that none do.
+    pub fn drop_waiting(&mut self)
         ensures { self.new ≡ kept_tables self.old.tables None }
     {
         if self.waiting.is_some() {

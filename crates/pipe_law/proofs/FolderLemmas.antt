@@ -19,9 +19,9 @@ use Rattle.csv_catalog.proofs.RoundTrip.{reads_back}
 use Rattle.flow_law.specs.declared.shape.Shape.{Shape}
 use Rattle.flow_law.specs.InOrder.{IsTable, AreTables}
 use Rattle.flow_law.specs.Tables.{TableValue, TablesValue, labels_of, table_of}
-use Rattle.change_script.specs.Fits.{TableFits, TablesFit}
+use Rattle.change_script.specs.Fits.{IsForm, TableFits, TablesFit}
 use Rattle.view_folder.specs.Files.{file_name}
-use Rattle.view_folder.specs.Forms.{IsForm, HasForm}
+use Rattle.view_folder.specs.Forms.{HasForm}
 use Rattle.view_folder.specs.Held.{files_fault, held, unless_refused, with_file}
 use Rattle.view_folder.specs.Records.{records_fault, table_in}
 use Rattle.view_folder.specs.Sync.{Holds}

@@ -23,7 +23,7 @@ use Rattle.flow_law.proofs.ScriptLaw.{lines_passed}
 use Rattle.change_script.specs.Applied.{applied}
 use Rattle.valuation_meaning.specs.Meaning.{shape_of, meaning}
 use Rattle.view_folder.specs.Files.{bytes_in, file_name, view_folder}
-use Rattle.view_folder.specs.Forms.{IsForm}
+use Rattle.change_script.specs.Fits.{IsForm}
 use Rattle.view_folder.specs.Held.{held}
 use Rattle.view_folder.specs.Sync.{Holds, HoldsNamed}
 use Rattle.view_folder.specs.TableFiles.{table_files, table_text}

@@ -14,10 +14,9 @@ use Rattle.flow_law.specs.declared.shape.Shape.{Shape}
 use Rattle.flow_law.specs.InOrder.{AreTables}
 use Rattle.flow_law.specs.Tables.{TableValue, TablesValue}
 use Rattle.change_script.specs.Applied.{applied}
-use Rattle.change_script.specs.Fits.{TablesFit}
+use Rattle.change_script.specs.Fits.{IsForm, TablesFit}
 use Rattle.valuation_meaning.specs.Meaning.{shape_of, meaning}
 use Rattle.view_folder.specs.Files.{view_folder}
-use Rattle.view_folder.specs.Forms.{IsForm}
 use Rattle.view_folder.specs.Held.{held}
 use Rattle.view_folder.specs.Sync.{Holds}
 use Rattle.view_folder.specs.TableFiles.{table_records, table_files}

@@ -19,7 +19,8 @@ use Rattle.view_folder.specs.declared.held.TablesFault.{TablesFault}
 use Rattle.view_folder.specs.declared.held.TablesFault.TheVariants.{NameTwice, Ragged, NotThisView}
 use Rattle.view_folder.specs.TableFiles.{spliced, table_records}
 use Rattle.view_folder.specs.Records.{ascends, ragged, dynamic_part, constant_part, are_columns, is_header, are_of_view, key_and_cells, table_in, records_fault}
-use Rattle.view_folder.specs.Forms.{IsForm, HasForm}
+use Rattle.change_script.specs.Fits.{IsForm}
+use Rattle.view_folder.specs.Forms.{HasForm}
 use Rattle.view_folder.proofs.RecordLemmas.{strict_ascends, none_ragged, dynamic_length}
 use Rattle.view_folder.proofs.PartLemmas.{NoneWithout, no_cells, whole, spliced_length, cells_back, key_back, parts_back, header_long}
 

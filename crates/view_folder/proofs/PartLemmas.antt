@@ -8,7 +8,7 @@ use Rattle.ss_text.specs.Texts.{Text, Row}
 use Rattle.flow_law.specs.declared.shape.Shape.{Shape}
 use Rattle.view_folder.specs.TableFiles.{spliced}
 use Rattle.view_folder.specs.Records.{before_spot, behind_spot, dynamic_count, dynamic_part, constant_part}
-use Rattle.view_folder.specs.Forms.{IsForm}
+use Rattle.change_script.specs.Fits.{IsForm}
 
 module _ (shape : Shape) (form : IsForm shape) where
   abbrev n : ℕ

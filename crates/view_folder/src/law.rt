@@ -3,7 +3,8 @@ ghost use Rattle.std.specs.Prelude.{◌≡◌, None, List};
 ghost use Rattle.ss_text.specs.Texts.{Text, Row};
 ghost use Rattle.flow_law.specs.declared.shape.Shape.{Shape};
 ghost use Rattle.flow_law.specs.Tables.{TableValue};
-ghost use Rattle.view_folder.specs.Forms.{IsForm, HasForm};
+ghost use Rattle.change_script.specs.Fits.{IsForm};
+ghost use Rattle.view_folder.specs.Forms.{HasForm};
 ghost use Rattle.view_folder.specs.Records.{records_fault, table_in};
 ghost use Rattle.view_folder.specs.TableFiles.{table_records};
 
