@@ -10,4 +10,5 @@ mod spelling;
 mod window;
 
 pub use lines::{Lines, Next, ReadStop};
+pub use parts::split_once;
 pub use spelling::{LineFault, read_line, write_line};

@@ -1,0 +1,8 @@
+pub mod Appends
+pub mod GroupLemmas
+pub mod Images
+pub mod Moments
+pub mod OpeningLemmas
+pub mod Outcomes
+pub mod Readings
+pub mod Spellings

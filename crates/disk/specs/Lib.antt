@@ -1,0 +1,4 @@
+pub mod Disk
+pub mod MemDiskLaws
+pub mod MemDisks
+pub mod Moments
