@@ -13,7 +13,6 @@ pub mod DatabaseLemmas
 pub mod PutLemmas
 pub mod LoadLemmas
 pub mod JudgedLemmas
-pub mod SavedLemmas
 pub mod SavedTreeLemmas
 pub mod FrontLemmas
 pub mod FoundLemmas

@@ -1,9 +1,11 @@
 -- What a run does to the outside, as a list, and what is there after it, whole or broken off.
-use Rattle.std.specs.Prelude.{◌≡◌, ℕ, List, [], ◌∷◌, ◌++◌, take, ◌⊎◌, Option, None, Some, option_map, is_some, Result, Ok, Err, if◌then◌else◌}
-use Rattle.outside.specs.Counts.{risen}
+use Rattle.std.specs.Prelude.{◌≡◌, ℕ, List, [], ◌∷◌, ◌++◌, map, take, ◌⊎◌, Option, None, Some, option_map, Result, Ok, Err}
 use Rattle.outside.specs.Streams.{with_bytes}
 use Rattle.outside.specs.States.{StoreState, SinkState}
-use Rattle.outside.specs.Tree.{Tree, folder_path, file_at, has_folder, has_empty_folder, with_file, without_file, with_folder, without_folder, BrokeOff, FolderBrokeOff}
+use Rattle.outside.specs.Tree.{Tree, folder_path, BrokeOff, FolderBrokeOff}
+pub use Rattle.outside.specs.Stored.{Stored, stored_of, writing, removing, making_folder, removing_folder}
+use Rattle.outside.specs.declared.edit.Edit.{Edit}
+use Rattle.outside.specs.declared.edit.Edit.TheVariants as edit
 use Rattle.effects.specs.declared.stop.Stop.{Stop}
 
 -- one thing that a run does
@@ -14,10 +16,15 @@ pub data Effect : Type 0 where
   RemoveFolder : (folder : List ℕ) → Effect
   Print : (bytes : List ℕ) → Effect
 
--- the tree, and how many files and folders were written, made or removed
-pub record Stored : Type 0 where
-  pub tree : Tree
-  pub writes : ℕ
+-- the effect of one edit of files and folders, and those of a list
+abbrev pub effect_of : Edit → Effect
+effect_of (edit.MakeFolder folder) = MakeFolder folder
+effect_of (edit.Write folder file bytes) = Write folder file bytes
+effect_of (edit.Remove folder file) = Remove folder file
+effect_of (edit.RemoveFolder folder) = RemoveFolder folder
+
+abbrev pub effects_of : List Edit → List Effect
+effects_of edits = map effect_of edits
 
 -- what the outside holds, where it tells it
 pub record Contents : Type 0 where
@@ -32,24 +39,8 @@ pub record World : Type 0 where
 abbrev pub world_of : StoreState → SinkState → World
 world_of store output = record { store = store; output = output }
 
-abbrev pub stored_of : Option Tree → ℕ → Option Stored
-stored_of None n = None
-stored_of (Some t) n = Some (record { tree = t; writes = n })
-
 unfoldable pub contents : World → Contents
 contents w = record { stored = stored_of w.store.tree w.store.writes; held = w.output.held }
-
-abbrev pub writing : List ℕ → List ℕ → List ℕ → Stored → Stored
-writing folder file bytes s = record { tree = with_file folder file bytes s.tree; writes = risen s.writes 1 }
-
-abbrev pub removing : List ℕ → List ℕ → Stored → Stored
-removing folder file s = record { tree = without_file folder file s.tree; writes = if is_some (file_at s.tree folder file) then risen s.writes 1 else s.writes }
-
-abbrev pub making_folder : List ℕ → Stored → Stored
-making_folder folder s = record { tree = with_folder folder s.tree; writes = if has_folder s.tree folder then s.writes else risen s.writes 1 }
-
-abbrev pub removing_folder : List ℕ → Stored → Stored
-removing_folder folder s = record { tree = without_folder folder s.tree; writes = if has_empty_folder s.tree folder then risen s.writes 1 else s.writes }
 
 -- after one effect
 abbrev pub after : Effect → Contents → Contents

@@ -3,12 +3,12 @@ ghost use Rattle.std.specs.Prelude.{◌≡◌, ◌≢◌, [], ◌∷◌, Some, I
 ghost use Rattle.outside.specs.Counts.{risen};
 ghost use Rattle.outside.specs.Reading.{OnlyRead};
 ghost use Rattle.outside.specs.Tree.{Tree, file_at, files_of, has_folder, has_empty_folder};
-ghost use Rattle.effects.specs.Effects.{Write, Remove, MakeFolder, RemoveFolder, Print, Does, world_of};
+ghost use Rattle.effects.specs.Effects.{Write, Remove, MakeFolder, RemoveFolder, Print, Does, effects_of, world_of};
 ghost use Rattle.effects.specs.Blame.{StoreBlames, SinkBlames};
-ghost use Rattle.effects.specs.Performing.{Performs};
+ghost use Rattle.effects.specs.Performing.{Performs, StopsWhole};
 
 use crate::Stop;
-use outside::{Folders, Sink, StoreFault};
+use outside::{Edit, Folders, Sink, StoreFault};
 use ss_text::Text;
 use std::alloc::Global;
 
@@ -94,6 +94,19 @@ pub fn remove_folder<F: Folders>(alloc: Global, store: &mut F, folder: &Text) ->
 {
     match store.remove_folder(alloc, folder) {
         Ok(gone) => Ok(gone),
+        Err(StoreFault::Failed) => Err(Stop::WriteFault),
+        Err(StoreFault::NoMemory) => Err(Stop::NoMemory),
+    }
+}
+
+/// Makes all of these edits, in order, or none of them. Where a write failed, all may be made.
+#[tactic(auto, using(crate::proofs::EditLemmas::all_made, crate::proofs::EditLemmas::none_made, crate::proofs::EditLemmas::some_made, crate::proofs::EditLemmas::stops_whole))]
+pub fn replace<F: Folders>(alloc: Global, store: &mut F, edits: &[Edit]) -> Result<(), Stop>
+    ensures performs { Performs (effects_of edits.now) (F.state store.old) (F.state store.new) result }
+    ensures whole { StopsWhole (effects_of edits.now) (F.state store.old) (F.state store.new) result }
+{
+    match store.replace(alloc, edits) {
+        Ok(()) => Ok(()),
         Err(StoreFault::Failed) => Err(Stop::WriteFault),
         Err(StoreFault::NoMemory) => Err(Stop::NoMemory),
     }

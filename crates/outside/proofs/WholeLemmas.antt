@@ -14,7 +14,7 @@ use Rattle.ss_text.specs.Texts.{text_cmp}
 use Rattle.outside.specs.Tree.{Tree, Place, place_cmp, names_in, files_of, subfolders_of, has_folder, has_empty_folder, fronts, folder_path, with_folders, files_map, with_file, without_file, with_folder, without_folder, FolderMayBreakOff}
 use Rattle.outside.specs.Whole.{IsWhole, is_whole, told}
 use Rattle.outside.specs.WholeLaw.{is_eq_true, place_exact, told_is}
-use Rattle.outside.specs.MemTree.{SureFoldersState}
+use Rattle.outside.specs.Stored.{Stored}
 use Rattle.outside.proofs.PlaceLemmas.{place_total}
 use Rattle.outside.proofs.TreeLemmas.{get_made, kept_made}
 
@@ -126,8 +126,8 @@ pub whole_none : (folders : map.FinMap text_cmp (Unit {0})) (es : List (Place ×
 whole_none folders es none = subst (λ (x : List (Place × List ℕ)). IsWhole (record { folders = folders; files = files_map x })) (sym none) (record { folder_of = λ p there. absurd (cc (map.get-from_entries place_total [] p)) })
 
 -- a store whose tree is whole tells it
-pub told_seen : (v s : SureFoldersState) → v ≡ s → IsWhole v.tree → told s.tree ≡ Some s.tree
-told_seen v s e h = subst (λ (x : SureFoldersState). told x.tree ≡ Some x.tree) e (told_whole v.tree h)
+pub told_seen : (v s : Stored) → v ≡ s → IsWhole v.tree → told s.tree ≡ Some s.tree
+told_seen v s e h = subst (λ (x : Stored). told x.tree ≡ Some x.tree) e (told_whole v.tree h)
 
 pub same_parts : (t u : Tree) → t.folders ≡ u.folders → t.files ≡ u.files → t ≡ u
 same_parts t u p q =
@@ -140,13 +140,13 @@ whole_parts folder file bytes t u p q h =
 
 -- a change that leaves a tree whole, to a store's tree
 module _ (f : Tree → Tree) (keeps : (t : Tree) → IsWhole t → IsWhole (f t)) where
-  pub told_changed : (v s : SureFoldersState) (u : Tree) → v ≡ s → IsWhole v.tree → u ≡ f v.tree → told u ≡ option_map f (told s.tree)
+  pub told_changed : (v s : Stored) (u : Tree) → v ≡ s → IsWhole v.tree → u ≡ f v.tree → told u ≡ option_map f (told s.tree)
   told_changed v s u e h is =
-      ap told is ∙ (told_whole (f v.tree) (keeps v.tree h) ∙ (ap (option_map f) (sym (told_whole v.tree h)) ∙ ap (λ (x : SureFoldersState). option_map f (told x.tree)) e))
+      ap told is ∙ (told_whole (f v.tree) (keeps v.tree h) ∙ (ap (option_map f) (sym (told_whole v.tree h)) ∙ ap (λ (x : Stored). option_map f (told x.tree)) e))
 
   pub whole_changed : (t u : Tree) → IsWhole t → u ≡ f t → IsWhole u
   whole_changed t u h is = subst IsWhole (sym is) (keeps t h)
 
 -- what is read of a store's tree is read of what it tells
-pub read_told : {A : Type 0} (f : Tree → A) (x : A) (v s : SureFoldersState) → v ≡ s → x ≡ f v.tree → (t : Tree) → told s.tree ≡ Some t → x ≡ f t
-read_told f x v s e is t h = is ∙ ap f (ap (λ (y : SureFoldersState). y.tree) e ∙ told_is s.tree t h)
+pub read_told : {A : Type 0} (f : Tree → A) (x : A) (v s : Stored) → v ≡ s → x ≡ f v.tree → (t : Tree) → told s.tree ≡ Some t → x ≡ f t
+read_told f x v s e is t h = is ∙ ap f (ap (λ (y : Stored). y.tree) e ∙ told_is s.tree t h)

@@ -4,8 +4,13 @@ use Rattle.outside.specs.Counts.{Rose}
 use Rattle.outside.specs.Calls.{faults_of, next_fails, CountedUnlessNoMemory}
 use Rattle.outside.specs.MemTree.{MemFoldersState}
 use Rattle.outside.specs.Whole.{told}
+use Rattle.outside.specs.States.{StoreState}
 use Rattle.outside.specs.declared.fault.StoreFault.{StoreFault}
 use Rattle.outside.specs.declared.fault.StoreFault.TheVariants as fault
+
+-- what is known of folders in memory
+abbrev pub store_state : MemFoldersState → StoreState
+store_state s = record { tree = told s.tree; writes = s.writes; read_faults = faults_of s.reads; write_faults = faults_of s.changes }
 
 -- it fails as the numbers of the reading calls tell, is counted among these, and changes nothing
 pub record NumberedRead {A : Type 0} (result : Result A StoreFault) (old new : MemFoldersState) : Type 0 where

@@ -6,8 +6,9 @@ ghost use Rattle.outside.specs.States.{StoreState};
 ghost use Rattle.ss_text.specs.Texts.{text_cmp};
 ghost use Rattle.outside.specs.Tree.{Tree, file_at, files_of, subfolders_of, folder_path, with_file, without_file, has_folder, has_empty_folder, with_folder, without_folder, MayBreakOff, FolderMayBreakOff};
 ghost use Rattle.outside.specs.Whole.{IsWhole};
+ghost use Rattle.outside.specs.Edits.{AllMade, NoneOrAllMade};
 
-use crate::StoreFault;
+use crate::{Edit, StoreFault};
 use ss_text::Text;
 use std::alloc::Global;
 
@@ -119,6 +120,17 @@ pub trait Folders {
         ensures failed { IsErrOf result StoreFault.Failed → Rose ((state self.old).write_faults) ((state self.new).write_faults) }
         ensures steady { (state self.old).write_faults ≤ (state self.new).write_faults }
         ensures uncounted { OnErr result ((state self.new).writes ≡ (state self.old).writes) }
+        ensures no_memory { IsErrOf result StoreFault.NoMemory → (state self.new).tree ≡ (state self.old).tree }
+        ensures no_fault { IsErrOf result StoreFault.NoMemory → (state self.new).write_faults ≡ (state self.old).write_faults }
+        ensures read_faults { (state self.new).read_faults ≡ (state self.old).read_faults };
+
+    /// Makes all of these edits, in order, or none of them. Where it fails, it may still have made all.
+    fn replace(&mut self, alloc: Global, edits: &[Edit]) -> Result<(), StoreFault>
+        ensures ok { OnOk result (AllMade edits.now (state self.old) (state self.new)) }
+        ensures whole { IsErrOf result StoreFault.Failed → NoneOrAllMade edits.now (state self.old) (state self.new) }
+        ensures failed { IsErrOf result StoreFault.Failed → Rose ((state self.old).write_faults) ((state self.new).write_faults) }
+        ensures steady { (state self.old).write_faults ≤ (state self.new).write_faults }
+        ensures uncounted { IsErrOf result StoreFault.NoMemory → (state self.new).writes ≡ (state self.old).writes }
         ensures no_memory { IsErrOf result StoreFault.NoMemory → (state self.new).tree ≡ (state self.old).tree }
         ensures no_fault { IsErrOf result StoreFault.NoMemory → (state self.new).write_faults ≡ (state self.old).write_faults }
         ensures read_faults { (state self.new).read_faults ≡ (state self.old).read_faults };

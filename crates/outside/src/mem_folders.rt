@@ -8,9 +8,11 @@ ghost use Rattle.outside.specs.Calls.{faults_of, next_fails};
 ghost use Rattle.outside.specs.MemCalls.{NumberedRead, NumberedChange};
 ghost use Rattle.outside.specs.Tree.{Tree, file_at, files_of, subfolders_of, folder_path, with_file, without_file, has_folder, has_empty_folder, with_folder, without_folder, MayBreakOff, FolderMayBreakOff};
 ghost use Rattle.outside.specs.Whole.{told};
+ghost use Rattle.outside.specs.Edits.{AllMade, NoneOrAllMade};
+ghost use Rattle.outside.specs.MemCalls.{store_state};
 
 use crate::numbering::Numbering;
-use crate::{Folders, StoreFault, SureFolders};
+use crate::{Edit, Folders, StoreFault, SureFolders};
 use ss_text::{NoMemory, Text};
 use std::alloc::Global;
 use std::marker::Model;
@@ -74,7 +76,7 @@ impl Folders for MemFolders {
 
     ghost whole = { λ s t h. told_is_whole s.tree t h };
 
-    ghost state = { λ s. record { tree = told s.tree; writes = s.writes; read_faults = faults_of s.reads; write_faults = faults_of s.changes } };
+    ghost state = { store_state };
 
     fn subfolders(&mut self, alloc: Global, folder: &Text) -> Result<Vec<Text>, StoreFault>
         ensures told { IfOk result (λ names. (t : Tree) → told self.old.tree ≡ Some t → names.items ≡ subfolders_of t folder.now) }
@@ -230,5 +232,23 @@ impl Folders for MemFolders {
         let was = self.store.remove_folder(alloc, folder)?;
         self.changes.count();
         Ok(was)
+    }
+
+    fn replace(&mut self, alloc: Global, edits: &[Edit]) -> Result<(), StoreFault>
+        ensures ok { OnOk result (AllMade edits.now (store_state self.old) (store_state self.new)) }
+        ensures whole { IsErrOf result StoreFault.Failed → NoneOrAllMade edits.now (store_state self.old) (store_state self.new) }
+        ensures does { NumberedChange result self.old self.new }
+
+        // What is particular to it: it is one call, and one that fails makes no edit.
+        ensures fails { IsErrOf result StoreFault.Failed ↔ (next_fails self.old.changes ≡ true) }
+        ensures stays { OnErr result (told self.new.tree ≡ told self.old.tree) }
+    {
+        if self.changes.next_fails() {
+            self.changes.count();
+            return Err(StoreFault::Failed);
+        }
+        self.store.replace(alloc, edits)?;
+        self.changes.count();
+        Ok(())
     }
 }

@@ -89,7 +89,8 @@ fn take(folders: &mut BTreeSet<Text>, folder: &Text)
     folders.remove(folder);
 }
 
-fn copy_of(folders: &BTreeSet<Text>) -> Result<BTreeSet<Text>, NoMemory>
+/// A copy of these folders.
+pub fn copy_of(folders: &BTreeSet<Text>) -> Result<BTreeSet<Text>, NoMemory>
     ensures { IfOk result (λ copy. copy.keys ≡ folders.now.keys) }
 {
     let copy = folders.clone()?;

@@ -66,6 +66,14 @@ fn front_of(alloc: Global, text: Option<&Text>, most: usize) -> Result<Option<Te
     Ok(Some(Text::of(alloc, &bytes[..bytes.len().min(most)])?))
 }
 
+/// A copy of these files.
+pub fn copy_all(files: &Files) -> Result<Files, NoMemory>
+    ensures { IfOk result (λ copy. copy.entries ≡ files.now.entries) }
+{
+    let copy = files.clone()?;
+    Ok(copy)
+}
+
 /// Gives a file these bytes.
 #[tactic(auto, using(crate::proofs::PlaceLemmas::put_place))]
 pub fn put(

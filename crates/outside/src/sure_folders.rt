@@ -1,12 +1,14 @@
 //! Folders in memory that never fail.
-ghost use Rattle.std.specs.Prelude.{◌≡◌, Some, OnOk, OnErr, if◌then◌else◌};
+ghost use Rattle.std.specs.Prelude.{◌≡◌, Some, IfOk, OnOk, OnErr, not, is_some, if◌then◌else◌};
 ghost use Rattle.outside.specs.Counts.{risen};
 ghost use Rattle.std.specs.FinMap as map;
-ghost use Rattle.outside.specs.Tree.{with_file};
+ghost use Rattle.outside.specs.Tree.{with_file, file_at, has_folder, has_empty_folder};
+ghost use Rattle.outside.specs.Stored.{removing, making_folder, removing_folder};
+ghost use Rattle.outside.specs.Edits.{edited, all_edited};
 ghost use Rattle.outside.specs.Whole.{told};
 
 use crate::places::Files;
-use crate::{Folders, StoreFault, paths, places};
+use crate::{Edit, Folders, StoreFault, paths, places};
 use ss_text::{NoMemory, Text};
 use std::alloc::Global;
 use std::collections::{BTreeMap, BTreeSet};
@@ -24,11 +26,12 @@ impl Model for SureFolders {
     ghost use Rattle.std.specs.FinMap as map;
     ghost use Rattle.outside.specs.Tree.{tree_of};
     ghost use Rattle.outside.specs.Whole.{IsWhole};
-    ghost use Rattle.outside.specs.MemTree.{SureFoldersState, coded_sure_state};
+    ghost use Rattle.outside.specs.MemTree.{coded_stored};
+    ghost use Rattle.outside.specs.Stored.{Stored};
 
-    ghost Value = { SureFoldersState };
+    ghost Value = { Stored };
 
-    ghost coded = { coded_sure_state };
+    ghost coded = { coded_stored };
 
     ghost view = { λ s. record {
       tree = tree_of s.folders.keys s.files.entries;
@@ -67,6 +70,115 @@ impl SureFolders {
         let folders = paths::with_path(alloc, &self.folders, folder)?;
         places::put(alloc, &mut self.files, folder, file, bytes)?;
         self.folders = folders;
+        Ok(())
+    }
+
+    // Takes a file away, and answers whether it was there.
+    fn take(&mut self, alloc: Global, folder: &Text, file: &Text) -> Result<bool, NoMemory>
+        ensures was { IfOk result (λ was. was ≡ is_some (file_at self.old.tree folder.now file.now)) }
+        ensures ok { OnOk result (self.new ≡ removing folder.now file.now self.old) }
+        ensures err { OnErr result (self.new ≡ self.old) }
+        ensures tells { told self.new.tree ≡ Some self.new.tree }
+        ensures told_before { told self.old.tree ≡ Some self.old.tree }
+    {
+        let was = places::take(alloc, &mut self.files, folder, file)?;
+        self.writes = counted(self.writes, was);
+        Ok(was)
+    }
+
+    // Makes a folder and those above it, where it is missing, and answers whether it was.
+    fn make(&mut self, alloc: Global, folder: &Text) -> Result<bool, NoMemory>
+        ensures made { IfOk result (λ made. made ≡ not (has_folder self.old.tree folder.now)) }
+        ensures ok { OnOk result (self.new ≡ making_folder folder.now self.old) }
+        ensures err { OnErr result (self.new ≡ self.old) }
+        ensures tells { told self.new.tree ≡ Some self.new.tree }
+        ensures told_before { told self.old.tree ≡ Some self.old.tree }
+    {
+        let made = paths::make(alloc, &mut self.folders, folder)?;
+        self.writes = counted(self.writes, made);
+        Ok(made)
+    }
+
+    // Takes a folder away that is there without files and subfolders, and answers whether it was so.
+    fn take_folder(&mut self, alloc: Global, folder: &Text) -> Result<bool, NoMemory>
+        ensures was { IfOk result (λ was. was ≡ has_empty_folder self.old.tree folder.now) }
+        ensures ok { OnOk result (self.new ≡ removing_folder folder.now self.old) }
+        ensures err { OnErr result (self.new ≡ self.old) }
+        ensures tells { told self.new.tree ≡ Some self.new.tree }
+        ensures told_before { told self.old.tree ≡ Some self.old.tree }
+    {
+        let was = paths::take_empty(alloc, &mut self.folders, &self.files, folder)?;
+        self.writes = counted(self.writes, was);
+        Ok(was)
+    }
+
+    fn copy(&self) -> Result<SureFolders, NoMemory>
+        ensures { IfOk result (λ copy. copy ≡ self.now) }
+    {
+        let folders = paths::copy_of(&self.folders)?;
+        let files = places::copy_all(&self.files)?;
+        Ok(SureFolders {
+            folders,
+            files,
+            writes: self.writes,
+        })
+    }
+
+    // Makes one edit.
+    fn edit(&mut self, alloc: Global, edit: &Edit) -> Result<(), NoMemory>
+        ensures { OnOk result (self.new ≡ edited edit.now self.old) }
+    {
+        match edit {
+            Edit::MakeFolder { folder } => {
+                self.make(alloc, folder)?;
+            }
+            Edit::Write {
+                folder,
+                file,
+                bytes,
+            } => {
+                self.put(alloc, folder, file, bytes.as_slice())?;
+                self.writes = counted(self.writes, true);
+            }
+            Edit::Remove { folder, file } => {
+                self.take(alloc, folder, file)?;
+            }
+            Edit::RemoveFolder { folder } => {
+                self.take_folder(alloc, folder)?;
+            }
+        }
+        Ok(())
+    }
+
+    // No file lies outside a folder, so the tree is told. It does nothing.
+    fn tells(&self)
+        ensures { told self.now.tree ≡ Some self.now.tree }
+    {
+        let _ = &self.folders;
+    }
+
+    // The folders after all of these edits.
+    fn edited(&self, alloc: Global, edits: &[Edit]) -> Result<SureFolders, NoMemory>
+        ensures { IfOk result (λ next. next ≡ all_edited edits.now self.now) }
+    {
+        let mut next = self.copy()?;
+        for edit in edits {
+            next.edit(alloc, edit)?;
+        }
+        Ok(next)
+    }
+
+    // Makes all of these edits, or none.
+    fn replace_all(&mut self, alloc: Global, edits: &[Edit]) -> Result<(), NoMemory>
+        ensures ok { OnOk result (self.new ≡ all_edited edits.now self.old) }
+        ensures err { OnErr result (self.new ≡ self.old) }
+        ensures tells { told self.new.tree ≡ Some self.new.tree }
+        ensures told_before { told self.old.tree ≡ Some self.old.tree }
+    {
+        self.tells();
+        let next = self.edited(alloc, edits)?;
+        next.tells();
+        *self = next;
         Ok(())
     }
 }
@@ -120,21 +232,19 @@ impl Folders for SureFolders {
     }
 
     fn remove(&mut self, alloc: Global, folder: &Text, file: &Text) -> Result<bool, StoreFault> {
-        let was = places::take(alloc, &mut self.files, folder, file)?;
-        self.writes = counted(self.writes, was);
-        Ok(was)
+        Ok(self.take(alloc, folder, file)?)
     }
 
     fn make_folder(&mut self, alloc: Global, folder: &Text) -> Result<bool, StoreFault> {
-        let made = paths::make(alloc, &mut self.folders, folder)?;
-        self.writes = counted(self.writes, made);
-        Ok(made)
+        Ok(self.make(alloc, folder)?)
     }
 
     fn remove_folder(&mut self, alloc: Global, folder: &Text) -> Result<bool, StoreFault> {
-        let was = paths::take_empty(alloc, &mut self.folders, &self.files, folder)?;
-        self.writes = counted(self.writes, was);
-        Ok(was)
+        Ok(self.take_folder(alloc, folder)?)
+    }
+
+    fn replace(&mut self, alloc: Global, edits: &[Edit]) -> Result<(), StoreFault> {
+        Ok(self.replace_all(alloc, edits)?)
     }
 }
 

@@ -8,11 +8,9 @@ use std::alloc::Global;
 
 const SOURCE: &str = "category,dept,salFloor\nProf,cs,72000\nProf,math,65000\nAssoc,cs,60000\n";
 
-// The sources behind the first change, and the half of them that a write which fails leaves.
+// The sources behind the first change. A save that fails leaves them as before.
 const MORE_SOURCE: &str =
     "category,dept,salFloor\nProf,cs,72000\nProf,math,65000\nAssoc,cs,60000\nLect,math,1\n";
-
-const HALF_SOURCE: &str = "category,dept,salFloor\nProf,cs,72000\nPro";
 
 const FILES: [File; 2] = [A_TO_C, ("sources/univ-A", "salInfo.csv", SOURCE)];
 // A change, a sync, and a table that comes and goes before the next one.
@@ -96,7 +94,7 @@ const WRITES: [Failing; 7] = [
     ),
     (
         3,
-        HALF_SOURCE,
+        SOURCE,
         Want {
             status: 7,
             printed: CHANGED,
@@ -116,7 +114,7 @@ const WRITES: [Failing; 7] = [
     ),
     (
         5,
-        HALF_SOURCE,
+        MORE_SOURCE,
         Want {
             status: 7,
             printed: DELETED,

@@ -4,24 +4,19 @@
 //! It is the trusted edge: its adapters tell nothing of what real folders and streams hold.
 #![tactic(auto)]
 
-mod folders;
-mod listing;
-mod paths;
-mod reading;
 mod streams;
 mod words;
-mod writing;
 
 ghost use Rattle.std.specs.Prelude.{◌≡◌, ◌<◌};
 
-use folders::HostFolders;
+use host_folders::HostFolders;
 use ss_text::{Steps, Text};
 use ss_top::{Status, run};
 use std::marker::Brand;
 use std::process::ExitCode;
 use std::sync::ledger::{Blank, Ledger};
 use streams::{HostSink, HostSource};
-use words::words_of;
+use words::{words_of, writes_of};
 
 fn main(rt: HostRuntime) -> ExitCode {
     match words_of(&rt) {
@@ -39,7 +34,7 @@ fn run_here<L: Ledger>(rt: &HostRuntime, words: &[Text], blank: Blank) -> Status
     requires parts { blank.parts ≡ L.parts }
     requires some { 0 < L.parts }
 {
-    let mut store = HostFolders::of(*rt);
+    let mut store = HostFolders::of(*rt, writes_of(words));
     let mut input = HostSource::of(rt.stdin());
     let mut output = HostSink::of(rt.stdout());
     let mut steps = Steps::<L>::of(blank);

@@ -1,4 +1,5 @@
 //! The words after the program's name.
+use host_folders::Writes;
 use ss_text::{NoMemory, Text};
 use ss_top::Status;
 use std::alloc::Global;
@@ -29,5 +30,18 @@ fn status_of(error: &Error) -> Status {
     match error.kind() {
         ErrorKind::OutOfMemory => Status::NoMemory,
         _ => Status::ReadFault,
+    }
+}
+
+/// What the command that these words ask for may change.
+pub(crate) fn writes_of(words: &[Text]) -> Writes {
+    match words {
+        [command, ..] => match command.as_slice() {
+            b"maintain" => Writes::ViewAndSources,
+            b"show" => Writes::View,
+            b"apply" => Writes::OnlyView,
+            _ => Writes::Nothing,
+        },
+        [] => Writes::Nothing,
     }
 }

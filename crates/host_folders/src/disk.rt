@@ -1,0 +1,288 @@
+//! The calls on real files by which the edits of a root are made whole or not at all.
+use crate::listing::{Wanted, list_at};
+use crate::paths::{
+    Root, file_path, folder_path, is_beside, is_missing, is_part, list_in, new_list_in, parent_of,
+    target_of,
+};
+use crate::stamps::{Stamp, link_stamp_at, stamp_at};
+use crate::writing::{
+    Place, make_folder_at, remove_folder_at, remove_what_is_left, remove_where_there, sync_folder,
+};
+use outside::StoreFault;
+use ss_text::Text;
+use std::alloc::Global;
+use std::collections::BTreeSet;
+use std::fs::{self, File, OpenFile};
+use std::io::{Error, ErrorKind, Read, Write};
+use std::rt::Files;
+use whole_sync::Disk;
+
+/// The files of a root.
+#[derive(Drop)]
+pub(crate) struct HostDisk<R: Files + AllocGlobal + Clone + Drop> {
+    rt: R,
+    root: Root,
+    next: u64,
+    /// The folders in which something was done that may not be on the disk yet.
+    changed: BTreeSet<String>,
+    /// The files that took their places.
+    placed: Vec<Stamp>,
+}
+
+impl<R: Files + AllocGlobal + Clone + Drop> HostDisk<R> {
+    /// The files of a root, of which nothing was changed yet.
+    pub(crate) fn of(rt: R, root: Root) -> Self {
+        let alloc = rt.alloc();
+        HostDisk {
+            rt,
+            root,
+            next: 0,
+            changed: BTreeSet::new(alloc),
+            placed: Vec::new(alloc),
+        }
+    }
+
+    /// Whether a list lies there.
+    pub(crate) fn has_list(&self) -> Result<bool, Error> {
+        let path = list_in(self.rt.alloc(), self.root.path())?;
+        Ok(link_stamp_at(&self.rt, path.as_str())?.is_some())
+    }
+
+    // The bytes of the list. What is no regular file is a failure.
+    fn read_list(&self) -> Result<Option<Text>, Error> {
+        if !self.has_list()? {
+            return Ok(None);
+        }
+        let path = list_in(self.rt.alloc(), self.root.path())?;
+        if !fs::symlink_metadata(&self.rt, path.as_str())?.is_file() {
+            return Err(Error::from(ErrorKind::InvalidData));
+        }
+        let mut bytes = Vec::new(self.rt.alloc());
+        File::open(&self.rt, path.as_str())?.read_to_end(&mut bytes)?;
+        match Text::of_vec(bytes) {
+            Ok(text) => Ok(Some(text)),
+            Err(_) => Err(Error::from(ErrorKind::OutOfMemory)),
+        }
+    }
+
+    // A file is put beside its place where the folder is there, and in the root where it is to be made. A link that leads
+    // into a folder which is missing is a failure.
+    fn put(&mut self, folder: &Text, file: &Text, bytes: &[u8]) -> Result<Text, Error> {
+        self.check_place(folder, Some(file))?;
+        let place = Place::of(&self.rt, folder, file)?;
+        let mut beside_in = parent_of(self.rt.alloc(), place.target.as_str())?;
+        if !fs::exists(&self.rt, beside_in.as_str())? {
+            if place.target != file_path(self.rt.alloc(), folder, file)? {
+                return Err(Error::from(ErrorKind::NotFound));
+            }
+            beside_in = String::from_str(self.rt.alloc(), self.root.path())?;
+            fs::create_dir_all(&self.rt, beside_in.as_str())?;
+        }
+        let path = place.put_beside(&self.rt, beside_in.as_str(), &mut self.next, bytes, true)?;
+        self.changed.insert(beside_in)?;
+        text_of(self.rt.alloc(), path.as_str())
+    }
+
+    // The list is written under another name first, and synced before it gets its own.
+    fn put_whole_list(&mut self, list: &[u8]) -> Result<(), Error> {
+        let root = self.root.path();
+        fs::create_dir_all(&self.rt, root)?;
+        let new = new_list_in(self.rt.alloc(), root)?;
+        let path = list_in(self.rt.alloc(), root)?;
+        remove_where_there(&self.rt, new.as_str())?;
+        self.sync_changed()?;
+        let mut file = File::create_new(&self.rt, new.as_str())?;
+        file.write_all(list)?;
+        file.flush()?;
+        file.sync_all()?;
+        fs::rename(&self.rt, new.as_str(), path.as_str())?;
+        sync_folder(&self.rt, self.root.path())
+    }
+
+    fn remove_list(&mut self) -> Result<(), Error> {
+        let path = list_in(self.rt.alloc(), self.root.path())?;
+        let new = new_list_in(self.rt.alloc(), self.root.path())?;
+        remove_where_there(&self.rt, new.as_str())?;
+        if remove_where_there(&self.rt, path.as_str())? {
+            sync_folder(&self.rt, self.root.path())?;
+        }
+        Ok(())
+    }
+
+    // What no longer lies beside its place is there already.
+    fn place(&mut self, beside: &Text, folder: &Text, file: &Text) -> Result<(), Error> {
+        self.check_place(folder, Some(file))?;
+        let beside = folder_path(beside)?;
+        if !is_beside(beside) {
+            return Err(Error::from(ErrorKind::InvalidData));
+        }
+        make_folder_at(&self.rt, folder_path(folder)?)?;
+        let target = target_of(&self.rt, folder, file)?;
+        if link_stamp_at(&self.rt, beside)?.is_some() {
+            fs::rename(&self.rt, beside, target.as_str())?;
+            self.note(beside)?;
+            self.note(target.as_str())?;
+        }
+        if let Some(stamp) = stamp_at(&self.rt, target.as_str())? {
+            self.placed.push(stamp)?;
+        }
+        Ok(())
+    }
+
+    // A file that has just taken its place is not removed, which is so where names differ in case alone and the file
+    // system takes them for one.
+    fn remove_file(&mut self, folder: &Text, file: &Text) -> Result<(), Error> {
+        self.check_place(folder, Some(file))?;
+        let path = file_path(self.rt.alloc(), folder, file)?;
+        let Some(stamp) = link_stamp_at(&self.rt, path.as_str())? else {
+            return Ok(());
+        };
+        if !self.placed.iter().any(|placed| placed.is_same_file(&stamp)) {
+            remove_where_there(&self.rt, path.as_str())?;
+            self.note(path.as_str())?;
+        }
+        Ok(())
+    }
+
+    fn make(&mut self, folder: &Text) -> Result<(), Error> {
+        self.check_place(folder, None)?;
+        let path = folder_path(folder)?;
+        make_folder_at(&self.rt, path)?;
+        self.note(path)
+    }
+
+    fn remove_dir(&mut self, folder: &Text) -> Result<(), Error> {
+        self.check_place(folder, None)?;
+        let path = folder_path(folder)?;
+        remove_folder_at(&self.rt, path)?;
+        self.note(path)
+    }
+
+    // That something was done in the folder of a path.
+    fn note(&mut self, path: &str) -> Result<(), Error> {
+        let parent = parent_of(self.rt.alloc(), path)?;
+        self.changed.insert(parent)?;
+        Ok(())
+    }
+
+    fn sync_changed(&mut self) -> Result<(), Error> {
+        for folder in self.changed.iter() {
+            sync_folder(&self.rt, folder.as_str())?;
+        }
+        self.changed = BTreeSet::new(self.rt.alloc());
+        Ok(())
+    }
+
+    // What a list names lies in the root, or right in a folder of it.
+    fn check_place(&self, folder: &Text, file: Option<&Text>) -> Result<(), Error> {
+        let folder = folder_path(folder)?;
+        let root = self.root.path();
+        let is_inside = match folder.strip_prefix(root) {
+            Some("") => true,
+            Some(rest) => match rest.strip_prefix("/") {
+                Some(part) => is_part(part),
+                None => false,
+            },
+            None => false,
+        };
+        let is_named = match file {
+            Some(file) => is_part(folder_path(file)?),
+            None => true,
+        };
+        if is_inside && is_named {
+            Ok(())
+        } else {
+            Err(Error::from(ErrorKind::InvalidData))
+        }
+    }
+
+    // What lies beside places in the root and in the folders of it. What cannot be taken away stays.
+    fn remove_all_left(&self) -> Result<(), Error> {
+        let root = self.root.path();
+        remove_what_is_left(&self.rt, root)?;
+        if self.root.is_view() {
+            return Ok(());
+        }
+        let name = text_of(self.rt.alloc(), root)?;
+        for folder in list_at(&self.rt, &name, Wanted::Folders)? {
+            let folder = folder_path(&folder)?;
+            let path = format!(in self.rt.alloc(); "{root}/{folder}")?;
+            remove_what_is_left(&self.rt, path.as_str())?;
+        }
+        Ok(())
+    }
+}
+
+fn text_of(alloc: Global, path: &str) -> Result<Text, Error> {
+    match Text::of(alloc, path.as_bytes()) {
+        Ok(text) => Ok(text),
+        Err(_) => Err(Error::from(ErrorKind::OutOfMemory)),
+    }
+}
+
+fn answer<T>(done: Result<T, Error>) -> Result<T, StoreFault> {
+    match done {
+        Ok(value) => Ok(value),
+        Err(error) if error.kind() == ErrorKind::OutOfMemory => Err(StoreFault::NoMemory),
+        Err(_) => Err(StoreFault::Failed),
+    }
+}
+
+impl<R: Files + AllocGlobal + Clone + Drop> Disk for HostDisk<R> {
+    fn list(&mut self, _alloc: Global) -> Result<Option<Text>, StoreFault> {
+        answer(self.read_list())
+    }
+
+    fn put_beside(
+        &mut self,
+        _alloc: Global,
+        folder: &Text,
+        file: &Text,
+        bytes: &[u8],
+    ) -> Result<Text, StoreFault> {
+        answer(self.put(folder, file, bytes))
+    }
+
+    fn drop_beside(&mut self, _alloc: Global, beside: &Text) -> Result<(), StoreFault> {
+        answer(folder_path(beside).and_then(|path| fs::remove_file(&self.rt, path)))
+    }
+
+    fn put_list(&mut self, _alloc: Global, list: &[u8]) -> Result<(), StoreFault> {
+        answer(self.put_whole_list(list))
+    }
+
+    fn drop_list(&mut self, _alloc: Global) -> Result<(), StoreFault> {
+        answer(self.remove_list())
+    }
+
+    fn make_folder(&mut self, _alloc: Global, folder: &Text) -> Result<(), StoreFault> {
+        answer(self.make(folder))
+    }
+
+    fn take_place(
+        &mut self,
+        _alloc: Global,
+        beside: &Text,
+        folder: &Text,
+        file: &Text,
+    ) -> Result<(), StoreFault> {
+        answer(self.place(beside, folder, file))
+    }
+
+    fn remove(&mut self, _alloc: Global, folder: &Text, file: &Text) -> Result<(), StoreFault> {
+        answer(self.remove_file(folder, file))
+    }
+
+    fn remove_folder(&mut self, _alloc: Global, folder: &Text) -> Result<(), StoreFault> {
+        answer(self.remove_dir(folder))
+    }
+
+    fn sync(&mut self, _alloc: Global) -> Result<(), StoreFault> {
+        answer(self.sync_changed())
+    }
+
+    fn clean(&mut self, _alloc: Global) -> Result<(), StoreFault> {
+        let _ = self.remove_all_left();
+        Ok(())
+    }
+}
