@@ -9,7 +9,7 @@ import time
 from typing import NamedTuple
 
 HERE = pathlib.Path(__file__).resolve().parent
-PROGRAM = HERE.parent / "crates" / "schemasql_cli" / "out" / "schemasql_cli"
+PROGRAM = HERE.parent / "build" / "schemasql"
 
 
 def program():
