@@ -1,18 +1,36 @@
-PROGRAM = crates/schemasql_cli/out/schemasql_cli
-ENGINE = crates/engine_bench/out/engine_bench
+PROGRAM = build/schemasql
+UNPROVED = build/schemasql-unproved
+ENGINE = build/engine_bench
 PREFIX = /usr/local
 SOURCES = $(wildcard crates.txt HANDLES crates/*/src/*.rt crates/*/src/*/*.rt crates/*/specs/*.antt crates/*/proofs/*.antt crates/*/proofs/*/*.antt)
 
-# Builds the proved program.
+# Proves the program and builds it: no tests, and no edits that must fail.
 all: $(PROGRAM)
 
-# What `rt ci` proves is kept, so that the gate does not prove it again.
-$(PROGRAM) $(ENGINE): $(SOURCES)
-	rm -f $@
-	rt ci > build.log 2>&1; test -x $@ || (cat build.log; exit 1)
-	rm -f build.log
+$(PROGRAM): $(SOURCES)
+	tools/prove schemasql_cli $@
 
-# Shows the three offices' data in one another's form, and the sales of some months in one table.
+$(ENGINE): $(SOURCES)
+	tools/prove engine_bench $@
+
+# Builds the program as it is written, with no proof.
+$(UNPROVED): $(SOURCES)
+	tools/try $@
+
+# Shows the three offices in one another's form by the unproved program, in a folder to try it in.
+try: $(UNPROVED)
+	@examples/offices/show $(UNPROVED) build/offices
+	@echo
+	@echo "Nothing is proved yet. This was made by $(UNPROVED), the program as it is written."
+	@echo "It checks each access to memory, and is many times slower than the proved one."
+	@echo "The files are in build/offices. To try the commands of README.md there:"
+	@echo
+	@echo "    cd build/offices"
+	@echo "    alias schemasql=../../$(UNPROVED)"
+	@echo
+	@echo "\`make\` proves the program."
+
+# The same by the proved program, over changes too, and the sales of some months in one table.
 demo: $(PROGRAM)
 	examples/offices/run $(PROGRAM)
 	examples/months/run $(PROGRAM)
@@ -25,27 +43,28 @@ test:
 check:
 	rt all check
 
-# The program on the examples, on the command lines of README.md and the man page, killed in the middle of syncs, and
-# on each end-to-end case.
+# The program on the examples, on the command lines of the documents, killed in the middle of syncs, and on each
+# end-to-end case.
 cases: $(PROGRAM)
-	examples/check
-	cases/tour
-	cases/killed
-	cases/run
+	examples/check $(PROGRAM)
+	cases/tour $(PROGRAM)
+	cases/killed $(PROGRAM)
+	cases/together $(PROGRAM)
+	cases/run $(PROGRAM)
 
 # How long the program takes.
 bench: $(PROGRAM)
-	bench/run
+	bench/run $(PROGRAM)
 
 # How long parts of the engine take, each by itself.
 bench-engine: $(ENGINE)
-	bench/engine.py
+	bench/engine.py $(ENGINE)
 
 install: $(PROGRAM)
 	install -D $(PROGRAM) $(DESTDIR)$(PREFIX)/bin/schemasql
 	install -D -m 644 man/schemasql.1 $(DESTDIR)$(PREFIX)/share/man/man1/schemasql.1
 
 clean:
-	rm -rf crates/*/out build.log
+	rm -rf crates/*/out build
 
-.PHONY: all demo test check cases bench bench-engine install clean
+.PHONY: all try demo test check cases bench bench-engine install clean
