@@ -6,9 +6,8 @@ ghost use Rattle.fold_op.specs.Sheets.{FitsSheet};
 
 use crate::flat::{fields, lines};
 use flow_law::Stop;
-use fold_op::{Fold, Pick};
+use fold_op::{Fold, Pick, Sheet, SheetChange};
 use operator_law::{Delta, Operator};
-use fold_op::{Sheet, SheetChange};
 use ss_text::{NoMemory, Row, Steps, Text};
 use std::alloc::Global;
 use std::marker::{Brand, Model};

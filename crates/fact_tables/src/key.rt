@@ -9,11 +9,10 @@ ghost use Rattle.fact_tables.specs.Next.{next_of, holds_first, shortened, Begins
 
 use crate::short::ShortFirst;
 use crate::values::Values;
-use ss_text::{NoMemory, Row, Text};
+use ss_text::{NoMemory, Row, Text, front_of, is_whole};
 use std::alloc::Global;
 use std::cmp::Ordering;
 use std::marker::Model;
-use ss_text::{front_of, is_whole};
 
 /// The values of the constant columns, which contracts see as a row; equality and order are those of the row. Two
 /// fronts stand beside them, so that most comparisons read no value: that of the first value, and that of what is

@@ -6,11 +6,10 @@ ghost use Rattle.std.specs.Cmp.Lexicographic.{slice_cmp, nat_list_eq_equiv, nat_
 ghost use Rattle.ss_text.specs.Front.{front_of, AreDigits};
 
 use crate::short::Short;
-use ss_text::{NoMemory, Text};
+use ss_text::{NoMemory, Text, front_of, is_whole};
 use std::alloc::Global;
 use std::cmp::Ordering;
 use std::marker::Model;
-use ss_text::{front_of, is_whole};
 
 /// A text, which contracts see as its bytes; equality and order are those of the text. Its front stands beside it,
 /// so that most comparisons read no text.

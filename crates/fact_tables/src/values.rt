@@ -5,10 +5,9 @@ ghost use Rattle.ss_text.specs.Texts.{row_cmp};
 use crate::label::Label;
 use crate::short::ShortFirst;
 use crate::three::Three;
-use ss_text::Text;
+use ss_text::{Text, front_of, is_whole};
 use std::cmp::Ordering;
 use std::marker::Model;
-use ss_text::{front_of, is_whole};
 
 /// The values of the constant columns, which contracts see as a row. One or two stand in place, so that no list of
 /// them need be made. Beside three stands the front of the third, so that a short one is not read.

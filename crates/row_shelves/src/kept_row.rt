@@ -7,10 +7,9 @@ ghost use Rattle.row_shelves.specs.Stocks.{stock, changed};
 ghost use Rattle.row_shelves.specs.Fronts.{IsFrontOf};
 
 use crate::sought::SoughtKey;
-use ss_text::{NoMemory, Row, Text};
+use ss_text::{NoMemory, Row, Text, first_front};
 use std::cmp::Ordering;
 use std::marker::Model;
-use ss_text::first_front;
 
 /// A key, and a cell for each dynamic column. Contracts see how many cells there is room for beside them. The front of
 /// the key's first text stands beside it, so that a search reads few keys.

@@ -1,9 +1,8 @@
 //! A key that is sought among many.
 ghost use Rattle.std.specs.Prelude.{◌≡◌};
 
-use ss_text::Row;
+use ss_text::{Row, first_front};
 use std::marker::Model;
-use ss_text::first_front;
 
 /// A key, which contracts see as its row, with the front of its first text.
 #[derive(Drop)]

@@ -35,9 +35,11 @@ use course::{LineHandler, Verdict};
 use csv_catalog::save_changed;
 use effects::Stop;
 use outside::{Folders, Sink};
-use ss_print::{print_script, print_synced, refuse};
 use schema_model::{Change, ChangeFault};
-use ss_print::{clash_fields, escape_fields, illegal_fields, line_fields, refusal_fields};
+use ss_print::{
+    clash_fields, escape_fields, illegal_fields, line_fields, print_script, print_synced,
+    refusal_fields, refuse,
+};
 use ss_text::{NoMemory, Row, Steps, Text};
 use std::alloc::Global;
 use std::marker::Model;

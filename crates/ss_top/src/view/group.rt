@@ -18,11 +18,11 @@ use crate::view::OpenView;
 use crate::word::Word;
 use effects::Stop;
 use outside::{Folders, Sink};
-use ss_print::{print_aborted, print_begun, print_held, print_script, refuse};
 use schema_model::{Change, ChangeFault};
 use ss_print::{
     clash_fields, group_broken_fields, illegal_fields, in_group_fields, line_fields,
-    no_group_fields, open_group_fields, refusal_fields,
+    no_group_fields, open_group_fields, print_aborted, print_begun, print_held, print_script,
+    refusal_fields, refuse,
 };
 use ss_text::{NoMemory, Row, Steps};
 use std::alloc::Global;
