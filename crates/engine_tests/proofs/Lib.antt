@@ -3,3 +3,4 @@ mod UnitedNames
 mod PageLemmas
 mod Moved
 mod FactTests
+mod WaitLemmas

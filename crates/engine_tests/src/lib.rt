@@ -34,6 +34,8 @@ mod pages;
 #[cfg(test)]
 mod plans;
 #[cfg(test)]
+mod proposals;
+#[cfg(test)]
 mod same;
 #[cfg(test)]
 mod shelves;

@@ -112,8 +112,8 @@ fn is_made<L: Ledger>(
     steps: &mut Steps<L>,
 ) -> Result<bool, NoMemory>
     requires well_formed { IsTrue (is_well_formed change.now) }
-    requires idle { session.old.held ≡ None }
-    ensures { session.new.held ≡ None }
+    requires idle { (session.old.held ≡ None) × (session.old.proposed ≡ None) }
+    ensures { (session.new.held ≡ None) × (session.new.proposed ≡ None) }
 {
     match session.apply(alloc, change, steps) {
         Ok(_) => Ok(true),
@@ -151,8 +151,8 @@ fn step<L: Ledger>(
     steps: &mut Steps<L>,
 ) -> Result<bool, NoMemory>
     requires well_formed { IsTrue (is_well_formed change.now) }
-    requires idle { session.old.held ≡ None }
-    ensures { session.new.held ≡ None }
+    requires idle { (session.old.held ≡ None) × (session.old.proposed ≡ None) }
+    ensures { (session.new.held ≡ None) × (session.new.proposed ≡ None) }
 {
     let made = is_made(alloc, session, change, steps)?;
     let due = is_due(alloc, session.catalogue(), view, change, made, tables)?;
@@ -168,7 +168,7 @@ fn first_other<L: Ledger>(
     tables: &mut Tables,
     steps: &mut Steps<L>,
 ) -> Result<Option<usize>, ChangeFault>
-    requires { session.old.held ≡ None }
+    requires { (session.old.held ≡ None) × (session.old.proposed ≡ None) }
 {
     for place in 0..CHANGES {
         let change = chance.change(alloc, session.catalogue())?;
@@ -189,7 +189,7 @@ fn first_opened<L: Ledger>(
     chance: &mut Chance,
     steps: &mut Steps<L>,
 ) -> Result<Option<usize>, ChangeFault>
-    requires { session.old.held ≡ None }
+    requires { (session.old.held ≡ None) × (session.old.proposed ≡ None) }
 {
     let mut tables = Tables::new(alloc);
     let meant = is_meant(alloc, session.catalogue(), view, &mut tables);

@@ -131,8 +131,8 @@ fn put_row(bytes: &mut Vec<u8>, row: &Row) -> Result<(), NoMemory> {
     Ok(())
 }
 
-// The lines of a script as text.
-fn script_text(alloc: Global, script: &Script) -> Result<Text, NoMemory> {
+/// The lines of a script as text, their fields parted by spaces and the lines by commas.
+pub fn script_text(alloc: Global, script: &Script) -> Result<Text, NoMemory> {
     let rows = script_lines(alloc, script)?;
     let mut bytes = Vec::new(alloc);
     for row in &rows {
@@ -149,8 +149,8 @@ fn answer<L: Ledger>(
     steps: &mut Steps<L>,
 ) -> Result<Text, NoMemory>
     requires well_formed { IsTrue (is_well_formed change.now) }
-    requires idle { session.old.held ≡ None }
-    ensures { session.new.held ≡ None }
+    requires idle { (session.old.held ≡ None) × (session.old.proposed ≡ None) }
+    ensures { (session.new.held ≡ None) × (session.new.proposed ≡ None) }
 {
     match session.apply(alloc, change, steps) {
         Ok(script) => script_text(alloc, &script),
@@ -169,8 +169,8 @@ fn answers<L: Ledger>(
     told: &str,
     steps: &mut Steps<L>,
 ) -> Result<bool, ChangeFault>
-    requires { session.old.held ≡ None }
-    ensures { session.new.held ≡ None }
+    requires { (session.old.held ≡ None) × (session.old.proposed ≡ None) }
+    ensures { (session.new.held ≡ None) × (session.new.proposed ≡ None) }
 {
     let change = change(alloc, line)?;
     let answer = answer(alloc, session, &change, steps);
@@ -185,7 +185,7 @@ fn first_other<L: Ledger>(
     worked: &[(&'static str, &'static str)],
     steps: &mut Steps<L>,
 ) -> Result<Option<&'static str>, ChangeFault>
-    requires { session.old.held ≡ None }
+    requires { (session.old.held ≡ None) × (session.old.proposed ≡ None) }
 {
     for (line, told) in worked {
         if !answers(alloc, session, line, told, steps)? {

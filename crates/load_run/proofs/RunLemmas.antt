@@ -38,6 +38,9 @@ view_kept s g = elim (is_refused s g) as (λ b. (cond b s (moved s g)).query ≡
 pub idle_kept : (s : SessionState) (g : Change) → s.held ≡ None → (session_after s g).held ≡ None
 idle_kept s g h = elim (is_refused s g) as (λ b. (cond b s (moved s g)).held ≡ None) [ true ↦ h | false ↦ h ]
 
+pub unproposed_kept : (s : SessionState) (g : Change) → s.proposed ≡ None → (session_after s g).proposed ≡ None
+unproposed_kept s g h = elim (is_refused s g) as (λ b. (cond b s (moved s g)).proposed ≡ None) [ true ↦ h | false ↦ h ]
+
 -- whether one of two refusals stands
 neither : (o : Option Refusal) (p : Option EvalFault) → o ≡ None → p ≡ None → (is_some o || is_some p) ≡ false
 neither None None a b = refl

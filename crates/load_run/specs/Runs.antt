@@ -21,10 +21,11 @@ pub record RunState : Type 0 where
   pub refused : ℕ
   pub lines : ℕ
 
--- the view is the run's, no group is open, and the lines of each script are counted in 64 bits
+-- the view is the run's, no group is open and nothing is proposed, and the lines of each script are counted in 64 bits
 pub record IsRun (r : RunState) : Type 0 where
   pub view : r.session.query ≡ query
   pub idle : r.session.held ≡ None
+  pub unproposed : r.session.proposed ≡ None
   pub lines : r.lines ≤ r.accepted * 2 ^ 64
 
 -- whether a change is refused: by the catalogue, or by the view over the changed one

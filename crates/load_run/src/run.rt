@@ -106,7 +106,7 @@ impl Run {
     }
 
     // Makes a change and counts its lines, or counts that it is refused.
-    #[tactic(auto, using(crate::proofs::RunLemmas::view_kept, crate::proofs::RunLemmas::idle_kept))]
+    #[tactic(auto, using(crate::proofs::RunLemmas::view_kept, crate::proofs::RunLemmas::idle_kept, crate::proofs::RunLemmas::unproposed_kept))]
     fn answer<L: Ledger>(
         &mut self,
         alloc: Global,
@@ -154,6 +154,7 @@ fn apply<L: Ledger>(
 ) -> Result<Option<usize>, NoMemory>
     requires well_formed { IsTrue (is_well_formed change.now) }
     requires idle { session.old.held ≡ None }
+    requires unproposed { session.old.proposed ≡ None }
     ensures lines { IfOk result (λ lines. lines ≡ lines_of session.old change.now) }
     ensures session { OnOk result (session.new ≡ session_after session.old change.now) }
     ensures same { OnErr result (session.new ≡ session.old) }

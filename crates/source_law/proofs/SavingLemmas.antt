@@ -5,8 +5,6 @@ use Rattle.std.specs.FinMap as map_of
 use Rattle.std.specs.List.{AllByRecursion, list_any, list_all}
 use Rattle.std.specs.Option.{option_map_or}
 use Rattle.std.specs.Ordering.{eq_by_cmp}
-use Rattle.std.specs.Cmp.{IsTotalOrder, on_total, then_total}
-use Rattle.std.specs.Cmp.Lexicographic.{nat_list_cmp_total}
 use Rattle.std.specs.declared.cmp.Ordering.TheVariants.{Less, Equal, Greater}
 use Rattle.std.proofs.lemmas.Bool.{and_parts, or_right, true≢false, false_from_ne_true, or_parts, and_from, or_left, not_from_false}
 use Rattle.std.proofs.lemmas.List.{append_cancel_left}
@@ -26,7 +24,7 @@ use Rattle.schema_model.specs.declared.pair.Pair.{Pair}
 use Rattle.schema_model.specs.declared.change.Change.{Change}
 use Rattle.schema_model.specs.Catalogue.{RelationValue, DatabaseValue, CatalogueValue, relation_value, relation_name, database_name, relation_in, database_of, relation_of}
 use Rattle.schema_model.specs.Changes.{after, after_all, is_well_formed}
-use Rattle.schema_model.specs.Pairs.{pair, pair_cmp}
+use Rattle.schema_model.specs.Pairs.{pair}
 use Rattle.schema_model.specs.Refusals.{fault, group_fault}
 use Rattle.schema_model.specs.Sound.{IsRelation, IsDatabase, IsSound}
 use Rattle.schema_model.proofs.PairOrder.{pair_same}
@@ -44,6 +42,7 @@ use Rattle.view_folder.specs.Files.{view_folder}
 use Rattle.view_folder.proofs.FolderLemmas.{there}
 use Rattle.view_session.specs.Named.{Names, named_relations, named_databases, with_change, with_changes}
 use Rattle.view_session.specs.Session.{SessionState, moved, committed}
+use Rattle.view_session.proofs.ComingLemmas.{pair_total}
 use Rattle.source_law.specs.Counted.{tree_by, tree_after}
 use Rattle.source_law.specs.Synced.{Synced, unsaved, synced, saving, HeldOnlyRelations, ReadsBack, SourcesHold}
 use Rattle.source_law.proofs.NamedLemmas.{same_text, named, in_kept, found_in}
@@ -167,10 +166,6 @@ pending_first s n sound same none = record {
   databases = λ db _. ap (λ (c : CatalogueValue). is_there c db) same;
   labels = ap (list_all is_table_label) none;
 }
-
--- relations are named in one order
-pair_total : IsTotalOrder pair_cmp
-pair_total = then_total (on_total (λ (p : Pair). p.db) nat_list_cmp_total) (on_total (λ (p : Pair). p.rel) nat_list_cmp_total)
 
 -- a change
 

@@ -77,7 +77,7 @@ impl Drop for OpenView {
 }
 
 impl Model for OpenView {
-    ghost use Rattle.std.specs.Prelude.{◌≡◌};
+    ghost use Rattle.std.specs.Prelude.{◌≡◌, None};
     ghost use Rattle.std.specs.List.Sorted.{IsStrictlySortedBy};
     ghost use Rattle.ss_text.specs.Texts.{text_cmp};
     ghost use Rattle.ss_top.specs.Open.{OpenValue};
@@ -93,6 +93,7 @@ impl Model for OpenView {
     ghost invariant = { λ v. record {
       view_db : v.view_db ≡ v.session.query.view_db;
       synced : IsStrictlySortedBy text_cmp v.synced.items;
+      unproposed : v.session.proposed ≡ None;
     } };
 }
 

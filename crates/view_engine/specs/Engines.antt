@@ -65,7 +65,6 @@ pub record StandsAs (old new : Engine) : Type 0 where
 pub record IsReadyMove (m : EngineMove) (ready : EngineReady) : Type 0 where
   pub plan : ready.plan ≡ m.plan.sides
   pub tables : made_for ready.tables ≡ m.plan.facts
-  pub lines : ready.lines.items ≡ lines_in m
 
 -- and it waits in an engine
 pub record IsReadyEngine (e : Engine) (ready : EngineReady) : Type 0 where

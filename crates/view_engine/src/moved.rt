@@ -26,5 +26,4 @@ impl EngineMove {
 pub struct EngineReady {
     pub(crate) plan: PlanReady,
     pub(crate) tables: TablesReady,
-    pub(crate) lines: Vec<TableLine>,
 }

@@ -3,5 +3,8 @@ pub mod ConditionCode
 pub mod Group
 pub mod Limits
 pub mod Named
+pub mod Proposals
 pub mod Session
 pub mod Upkeeps
+pub mod Verdicts
+pub mod Waits

@@ -22,16 +22,17 @@ use Rattle.view_session.specs.declared.fault.HoldRefused.TheVariants as hold
 use Rattle.view_session.specs.declared.fault.Refused.{Refused}
 use Rattle.view_session.specs.declared.fault.Refused.TheVariants as refused
 
--- the view, the catalogue that it stands for, what was named since names were last cleared, and the changes that the open group holds, where one is open
+-- the view, the catalogue that it stands for, what was named since names were last cleared, the changes that the open group holds, where one is open, and those that are proposed, where some are
 pub record SessionState : Type 0 where
   pub query : Query
   pub catalogue : CatalogueValue
   pub changed : Names
   pub held : Option (List Change)
+  pub proposed : Option (List Change)
 
 -- a session that was just opened
 abbrev pub opened : Query → CatalogueValue → SessionState
-opened q c = record { query = q; catalogue = c; changed = no_names; held = None }
+opened q c = record { query = q; catalogue = c; changed = no_names; held = None; proposed = None }
 
 -- with no names
 abbrev pub cleared : SessionState → SessionState
@@ -73,11 +74,22 @@ made s gs = record s {
   catalogue = after_all s.catalogue gs;
   changed = with_lines (with_changes s.changed s.catalogue gs) (lines_to s (after_all s.catalogue gs));
   held = None;
+  proposed = None;
 }
 
 -- and after those that the open group holds
 abbrev pub committed : SessionState → SessionState
 committed s = made s (unwrap_or s.held [])
+
+-- changes are proposed, and are made or dropped
+abbrev pub proposing : SessionState → List Change → SessionState
+proposing s gs = record s { proposed = Some gs }
+
+abbrev pub accepted : SessionState → SessionState
+accepted s = made s (unwrap_or s.proposed [])
+
+abbrev pub dismissed : SessionState → SessionState
+dismissed s = record s { proposed = None }
 
 -- the fault of an opening, of a change and of a group, where a view is refused
 abbrev pub open_fault : EvalFault → OpenFault
@@ -113,11 +125,14 @@ IsRefusedBy expected (refused.Illegal e) = expected ≡ Some (eval.Illegal e)
 IsRefusedBy expected (refused.Conflict e) = expected ≡ Some (eval.Conflict e)
 IsRefusedBy expected refused.NoMemory = ⊤
 
--- a change is refused by the catalogue, or else by the view over the changed one, or there was no memory
+-- a change of a catalogue is refused by the catalogue, or else by the view over the changed one, or there was no memory
+abbrev pub IsRefusedOver : CatalogueValue → Query → Change → Refused → Type 0
+IsRefusedOver c q g (refused.Change r) = fault c g ≡ Some r
+IsRefusedOver c q g refused.NoMemory = ⊤
+IsRefusedOver c q g e = (fault c g ≡ None) × IsRefusedBy (refusal (after c g) q) e
+
 abbrev pub IsRefused : SessionState → Change → Refused → Type 0
-IsRefused s g (refused.Change r) = fault s.catalogue g ≡ Some r
-IsRefused s g refused.NoMemory = ⊤
-IsRefused s g e = (fault s.catalogue g ≡ None) × IsRefusedBy (refusal (after s.catalogue g) s.query) e
+IsRefused s g e = IsRefusedOver s.catalogue s.query g e
 
 -- a change is not held, since a catalogue refuses it, or there was no memory; that is the one after those that the group holds
 abbrev pub IsNotHeld : CatalogueValue → Change → HoldRefused → Type 0

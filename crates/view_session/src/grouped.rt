@@ -1,139 +1,150 @@
-//! The changes of a group, made all at once: memory first, and then the moves.
-ghost use Rattle.std.specs.Prelude.{◌≡◌, ◌≤◌, None, IfOk, IfErr, OnOk, OnErr};
-ghost use Rattle.schema_model.specs.Changes.{after_all};
+//! Changes that are proposed together.
+ghost use Rattle.std.specs.Prelude.{◌≡◌, ◌≤◌, None, IfOk, IfErr, IfSome, OnOk, IsTrue};
+ghost use Rattle.std.specs.List.{AllByRecursion};
+ghost use Rattle.schema_model.specs.Catalogue.{CatalogueValue};
+ghost use Rattle.schema_model.specs.Changes.{after_all, is_well_formed};
+ghost use Rattle.schema_model.specs.Refusals.{group_fault};
 ghost use Rattle.change_draft.specs.Drafts.{StandsOver};
 ghost use Rattle.flow_law.specs.Script.{script};
 ghost use Rattle.valuation_meaning.specs.Meaning.{meaning};
 ghost use Rattle.valuation_meaning.specs.Refusal.{refusal};
 ghost use Rattle.view_engine.specs.Engines.{EngineMoves};
-ghost use Rattle.view_session.specs.Named.{with_changes, with_lines};
-ghost use Rattle.view_session.specs.Group.{IsOver, names_held, names_with, CanMoveAll};
+ghost use Rattle.apply_law.specs.Verdicts.{Verdict, IsGroupRefused};
+ghost use Rattle.view_session.specs.Group.{IsOver};
+ghost use Rattle.view_session.specs.Proposals.{proposed_in, CanMake};
 ghost use Rattle.view_session.specs.Session.{IsGroupStop};
-ghost use Rattle.view_session.specs.Upkeeps.{view_of, IsKept, KeptAs, IsReadyFor, IsReadyUpkeep};
+ghost use Rattle.view_session.specs.Upkeeps.{view_of, IsKept, KeptAs};
+ghost use Rattle.view_session.specs.Verdicts.{verdict_of};
 
-use crate::GroupStop;
 use crate::changed::Changed;
 use crate::group::Group;
 use crate::moving::MANY;
-use crate::upkeep::{Upkeep, UpkeepReady};
+use crate::proposal::{CatalogueReady, Proposal};
+use crate::upkeep::Upkeep;
+use crate::{GroupStop, HoldRefused};
+use apply_law::GroupRefused;
 use change_script::Script;
-use schema_model::{Catalogue, ReadyAll};
+use schema_model::{Catalogue, Change};
 use ss_text::{NoMemory, Steps};
 use std::alloc::Global;
 use std::sync::ledger::Ledger;
 use view_engine::EngineMove;
 
-/// The changes of a group, for which all memory was taken.
-#[derive(Drop)]
-pub(crate) struct GroupReady {
-    catalogue: ReadyAll,
-    upkeep: UpkeepReady,
-}
-
-// Takes all memory for what follows the changes of a group. All stays, after `NoMemory` too.
-fn reserve_upkeep(
-    alloc: Global,
-    catalogue: &Catalogue,
-    upkeep: &mut Upkeep,
-    group: &Group,
-    moved: EngineMove,
-) -> Result<UpkeepReady, NoMemory>
-    requires kept { IsKept catalogue.now.databases upkeep.old }
-    requires over { StandsOver group.now.draft catalogue.now.databases }
-    requires moves { EngineMoves catalogue.now.databases (after_all catalogue.now.databases group.now.draft.changes) (view_of upkeep.old) moved }
-    ensures same { KeptAs upkeep.old upkeep.new }
-    ensures ready { IfOk result (IsReadyFor (after_all catalogue.now.databases group.now.draft.changes) (view_of upkeep.old) moved) }
-    ensures waits { IfOk result (IsReadyUpkeep upkeep.new) }
+// The group of these changes, or the first that is refused behind those before it.
+fn group_of(alloc: Global, catalogue: &Catalogue, changes: &[Change]) -> Result<Group, GroupRefused>
+    requires { AllByRecursion (λ g. IsTrue (is_well_formed g)) changes.now }
+    ensures over { IfOk result (λ group. IsOver group catalogue.now.databases) }
+    ensures changes { IfOk result (λ group. group.draft.changes ≡ changes.now) }
+    ensures refused { (verdict : CatalogueValue → Verdict) → IfErr result (IsGroupRefused verdict catalogue.now.databases changes.now) }
 {
-    if moved.lines().len() < MANY {
-        return upkeep.reserve(alloc, moved);
-    }
-    match group.after(catalogue) {
-        Ok(after) => {
-            let ready = upkeep.reserve_anew(alloc, moved, &after);
-            drop(after);
-            ready
-        }
-        Err(NoMemory) => {
-            drop(moved);
-            Err(NoMemory)
+    let mut group = Group::new(alloc);
+    for change in changes {
+        match group.hold(alloc, catalogue, change) {
+            Ok(()) => {}
+            Err(HoldRefused::Change(refusal)) => {
+                let place = group.count();
+                return Err(GroupRefused::Change { place, refusal });
+            }
+            Err(HoldRefused::NoMemory) => return Err(GroupRefused::NoMemory),
         }
     }
+    Ok(group)
 }
 
-// Takes all memory for the changes of a group that move what is kept so. All stays, after `NoMemory` too.
+// The catalogue after the changes of a group, where so many lines follow them that the tables are made anew.
+fn after_many(
+    catalogue: &Catalogue,
+    group: &Group,
+    lines: usize,
+) -> Result<Option<Catalogue>, NoMemory>
+    requires { StandsOver group.now.draft catalogue.now.databases }
+    ensures { IfOk result (λ o. IfSome o (λ after_them. after_them.databases ≡ after_all catalogue.now.databases group.now.draft.changes)) }
+{
+    if lines < MANY {
+        return Ok(None);
+    }
+    let after = group.after(catalogue)?;
+    Ok(Some(after))
+}
+
+// Takes all memory for the changes of a group that move what is kept so. All stays but what waits, after `NoMemory` too.
 fn reserve(
     alloc: Global,
     catalogue: &mut Catalogue,
     upkeep: &mut Upkeep,
     changed: &mut Changed,
-    group: &mut Group,
+    group: Group,
     moved: EngineMove,
-) -> Result<GroupReady, NoMemory>
+) -> Result<(Proposal, Script), NoMemory>
     requires kept { IsKept catalogue.old.databases upkeep.old }
-    requires over { StandsOver group.old.draft catalogue.old.databases }
-    requires moves { EngineMoves catalogue.old.databases (after_all catalogue.old.databases group.old.draft.changes) (view_of upkeep.old) moved }
+    requires over { IsOver group catalogue.old.databases }
+    requires moves { EngineMoves catalogue.old.databases (after_all catalogue.old.databases group.draft.changes) (view_of upkeep.old) moved }
     ensures catalogue { catalogue.new.databases ≡ catalogue.old.databases }
     ensures upkeep { KeptAs upkeep.old upkeep.new }
     ensures names { changed.new.names ≡ changed.old.names }
-    ensures draft { group.new.draft ≡ group.old.draft }
-    ensures held { names_held group.new ≡ names_held group.old }
-    ensures changes { IfOk result (λ ready. ready.catalogue ≡ group.old.draft.changes) }
-    ensures can { IfOk result (CanMoveAll catalogue.new upkeep.new (names_with group.new changed.new)) }
+    ensures changes { IfOk result (λ told. proposed_in told.0 ≡ group.draft.changes) }
+    ensures can { IfOk result (λ told. CanMake catalogue.new upkeep.new changed.new told.0) }
+    ensures script { IfOk result (λ told. told.1 ≡ script (meaning catalogue.old.databases (view_of upkeep.old)) (meaning (after_all catalogue.old.databases group.draft.changes) (view_of upkeep.old))) }
 {
-    group.expect_lines(alloc, changed, moved.lines())?;
-    let upkeep = reserve_upkeep(alloc, catalogue, upkeep, group, moved)?;
-    let catalogue = catalogue.reserve_all(group.changes())?;
-    Ok(GroupReady { catalogue, upkeep })
+    let after = after_many(catalogue, &group, moved.lines().len())?;
+    let (draft, names) = group.into_parts();
+    changed.expect_all(alloc, names, moved.lines())?;
+    let (upkeep, lines) = upkeep.reserve(alloc, moved, after)?;
+    let catalogue = catalogue.reserve_all(draft.changes())?;
+    let catalogue = CatalogueReady::All(catalogue);
+    Ok((Proposal { catalogue, upkeep }, Script::of(lines)))
 }
 
-// Makes the changes of a group that wait, and answers the lines by which the tables change. It takes no memory.
-fn commit(
-    catalogue: &mut Catalogue,
-    upkeep: &mut Upkeep,
-    changed: &mut Changed,
-    group: &mut Group,
-    ready: GroupReady,
-) -> Script
-    requires kept { IsKept catalogue.old.databases upkeep.old }
-    requires can { CanMoveAll catalogue.old upkeep.old (names_with group.old changed.old) ready }
-    ensures catalogue { catalogue.new.databases ≡ after_all catalogue.old.databases ready.catalogue }
-    ensures kept { IsKept catalogue.new.databases upkeep.new }
-    ensures view { view_of upkeep.new ≡ view_of upkeep.old }
-    ensures names { changed.new.names ≡ with_lines (names_with group.old changed.old).names result }
-    ensures lines { result ≡ script (meaning catalogue.old.databases (view_of upkeep.old)) (meaning catalogue.new.databases (view_of upkeep.old)) }
-{
-    group.put(changed);
-    let lines = ready.upkeep.commit(upkeep);
-    catalogue.commit_all(ready.catalogue);
-    Script::of(lines)
-}
-
-// Makes the changes of a group, and answers the lines by which the tables change; or why the view is refused over the
-// catalogue after them. After each refusal all but the group is as before.
-pub(crate) fn commit_group<L: Ledger>(
+/// Proposes the changes of a group, and answers the script; or why the view is refused over the catalogue after them. All
+/// stays but what waits, after each refusal too.
+pub(crate) fn propose_group<L: Ledger>(
     alloc: Global,
     catalogue: &mut Catalogue,
     upkeep: &mut Upkeep,
     changed: &mut Changed,
-    group: &mut Group,
+    group: Group,
     steps: &mut Steps<L>,
-) -> Result<Script, GroupStop>
+) -> Result<(Proposal, Script), GroupStop>
     requires kept { IsKept catalogue.old.databases upkeep.old }
-    requires over { IsOver group.old changed.old.names catalogue.old.databases }
-    ensures catalogue { OnOk result (catalogue.new.databases ≡ after_all catalogue.old.databases group.old.draft.changes) }
-    ensures kept { IsKept catalogue.new.databases upkeep.new }
-    ensures view { view_of upkeep.new ≡ view_of upkeep.old }
-    ensures names { IfOk result (λ lines. changed.new.names ≡ with_lines (with_changes changed.old.names catalogue.old.databases group.old.draft.changes) lines) }
-    ensures lines { IfOk result (λ lines. lines ≡ script (meaning catalogue.old.databases (view_of upkeep.old)) (meaning (after_all catalogue.old.databases group.old.draft.changes) (view_of upkeep.old))) }
-    ensures allowed { OnOk result (refusal (after_all catalogue.old.databases group.old.draft.changes) (view_of upkeep.old) ≡ None) }
-    ensures refused { IfErr result (IsGroupStop (refusal (after_all catalogue.old.databases group.old.draft.changes) (view_of upkeep.old))) }
-    ensures same { OnErr result (catalogue.new.databases ≡ catalogue.old.databases) }
-    ensures same_names { OnErr result (changed.new.names ≡ changed.old.names) }
+    requires over { IsOver group catalogue.old.databases }
+    ensures catalogue { catalogue.new.databases ≡ catalogue.old.databases }
+    ensures upkeep { KeptAs upkeep.old upkeep.new }
+    ensures names { changed.new.names ≡ changed.old.names }
+    ensures changes { IfOk result (λ told. proposed_in told.0 ≡ group.draft.changes) }
+    ensures can { IfOk result (λ told. CanMake catalogue.new upkeep.new changed.new told.0) }
+    ensures allowed { OnOk result (refusal (after_all catalogue.old.databases group.draft.changes) (view_of upkeep.old) ≡ None) }
+    ensures script { IfOk result (λ told. told.1 ≡ script (meaning catalogue.old.databases (view_of upkeep.old)) (meaning (after_all catalogue.old.databases group.draft.changes) (view_of upkeep.old))) }
+    ensures refused { IfErr result (IsGroupStop (refusal (after_all catalogue.old.databases group.draft.changes) (view_of upkeep.old))) }
     ensures rises { steps.old ≤ steps.new }
 {
     let engine = &upkeep.engine;
     let moved = engine.prepare_all(alloc, catalogue, group.changes(), steps)?;
-    let ready = reserve(alloc, catalogue, upkeep, changed, group, moved)?;
-    Ok(commit(catalogue, upkeep, changed, group, ready))
+    Ok(reserve(alloc, catalogue, upkeep, changed, group, moved)?)
+}
+
+/// Proposes changes, and answers the script; or the first that is refused behind those before it, or why the view is refused
+/// over the catalogue after them. All stays but what waits, after each refusal too.
+pub(crate) fn propose_all<L: Ledger>(
+    alloc: Global,
+    catalogue: &mut Catalogue,
+    upkeep: &mut Upkeep,
+    changed: &mut Changed,
+    changes: &[Change],
+    steps: &mut Steps<L>,
+) -> Result<(Proposal, Script), GroupRefused>
+    requires kept { IsKept catalogue.old.databases upkeep.old }
+    requires well_formed { AllByRecursion (λ g. IsTrue (is_well_formed g)) changes.now }
+    ensures catalogue { catalogue.new.databases ≡ catalogue.old.databases }
+    ensures upkeep { KeptAs upkeep.old upkeep.new }
+    ensures names { changed.new.names ≡ changed.old.names }
+    ensures changes { IfOk result (λ told. proposed_in told.0 ≡ changes.now) }
+    ensures can { IfOk result (λ told. CanMake catalogue.new upkeep.new changed.new told.0) }
+    ensures accepted { OnOk result (group_fault catalogue.old.databases changes.now ≡ None) }
+    ensures allowed { OnOk result (refusal (after_all catalogue.old.databases changes.now) (view_of upkeep.old) ≡ None) }
+    ensures script { IfOk result (λ told. told.1 ≡ script (meaning catalogue.old.databases (view_of upkeep.old)) (meaning (after_all catalogue.old.databases changes.now) (view_of upkeep.old))) }
+    ensures refused { IfErr result (IsGroupRefused (verdict_of (view_of upkeep.old)) catalogue.old.databases changes.now) }
+    ensures rises { steps.old ≤ steps.new }
+{
+    let group = group_of(alloc, catalogue, changes)?;
+    Ok(propose_group(alloc, catalogue, upkeep, changed, group, steps)?)
 }

@@ -5,13 +5,16 @@
 //! to the present ones. It knows nothing of lines, of files or of how a script is printed.
 #![tactic(auto)]
 
+mod applies;
 mod changed;
 mod fault;
 mod group;
 mod grouped;
 mod moving;
+mod proposal;
 mod session;
 mod upkeep;
+mod waits;
 
 pub use fault::{GroupStop, HoldRefused, OpenFault, Refused};
 pub use session::Session;

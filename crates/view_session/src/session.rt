@@ -1,25 +1,34 @@
 //! A view over a catalogue, and its changes.
-ghost use Rattle.std.specs.Prelude.{◌≡◌, ◌≢◌, ◌+◌, ◌≤◌, true, None, Err, IfOk, IfErr, OnOk, OnErr, IsTrue, is_some, option_map, length};
+ghost use Rattle.std.specs.Prelude.{◌≡◌, ◌≢◌, ◌+◌, ◌≤◌, [], ◌∷◌, true, None, Err, IfOk, IfErr, OnOk, OnErr, IsTrue, is_some, option_map, length};
+ghost use Rattle.std.specs.List.{AllByRecursion};
 ghost use Rattle.std.specs.Option.{ForSome};
 ghost use Rattle.std.specs.List.Sorted.{IsStrictlySortedBy};
 ghost use Rattle.ss_text.specs.Texts.{text_cmp};
-ghost use Rattle.schema_model.specs.Changes.{after, is_well_formed};
+ghost use Rattle.schema_model.specs.Changes.{after, after_all, is_well_formed};
 ghost use Rattle.schema_model.specs.Pairs.{pair_cmp};
-ghost use Rattle.schema_model.specs.Refusals.{fault};
+ghost use Rattle.schema_model.specs.Refusals.{fault, group_fault};
+ghost use Rattle.schema_model.specs.declared.change.Change.{Change as ChangeValue};
 ghost use Rattle.view_def.specs.Query.{query_of};
 ghost use Rattle.view_def.specs.Profile.{IsViewOfProfile};
-ghost use Rattle.valuation_meaning.specs.Meaning.{shape_of};
+ghost use Rattle.flow_law.specs.Script.{script};
+ghost use Rattle.valuation_meaning.specs.Meaning.{meaning, shape_of};
 ghost use Rattle.valuation_meaning.specs.Refusal.{refusal, IsRefusal};
-ghost use Rattle.view_session.specs.Limits.{limit_of};
-ghost use Rattle.view_session.specs.Upkeeps.{view_of, IsKept};
-ghost use Rattle.view_session.specs.Session.{opened, cleared, begun, holding, closed, working, committed, tables_of, lines_to, moved, IsOpenFault, IsAccepted, IsRefused, IsHoldRefused, IsGroupStop};
+ghost use Rattle.apply_law.specs.Verdicts.{IsGroupRefused};
+ghost use Rattle.view_session.specs.Limits.{limit_of, limit_over};
+ghost use Rattle.view_session.specs.Proposals.{proposed_in, CanMake};
+ghost use Rattle.view_session.specs.Upkeeps.{view_of, IsKept, KeptAs};
+ghost use Rattle.view_session.specs.Session.{opened, cleared, begun, holding, closed, working, committed, proposing, accepted, dismissed, tables_of, lines_to, moved, IsOpenFault, IsAccepted, IsRefused, IsHoldRefused, IsGroupStop};
+ghost use Rattle.view_session.specs.Verdicts.{verdict_of};
 
 use crate::changed::Changed;
 use crate::group::Group;
-use crate::grouped::commit_group;
-use crate::moving::{commit, reserve};
+use crate::grouped::{propose_all, propose_group};
+use crate::moving::{propose_first, propose_one};
+use crate::proposal::Proposal;
 use crate::upkeep::Upkeep;
+use crate::waits::Waits;
 use crate::{GroupStop, HoldRefused, OpenFault, Refused};
+use apply_law::GroupRefused;
 use change_script::Script;
 use flow_law::Shape;
 use kept_tables::KeptTables;
@@ -27,19 +36,20 @@ use schema_model::{Catalogue, Change, Pair};
 use ss_text::{Steps, Text};
 use std::alloc::Global;
 use std::marker::Model;
+use std::mem;
 use std::sync::ledger::Ledger;
 use valuation_meaning::{EvalFault, shape_of};
 use view_def::View;
 
 /// A view that is kept up to date, which contracts see as the view, the catalogue that it stands for, what was named
-/// since the names were last cleared, and the changes that the open group holds, where one is open. Its tables are the
-/// view's meaning.
+/// since the names were last cleared, the changes that the open group holds, where one is open, and those that are
+/// proposed, where some are. Its tables are the view's meaning.
 pub struct Session {
     catalogue: Catalogue,
     upkeep: Upkeep,
     shape: Shape,
     changed: Changed,
-    group: Option<Group>,
+    waits: Waits,
 }
 
 // Each part is let go by a call, so that the proof of what owns a session does not unfold it.
@@ -50,23 +60,22 @@ impl Drop for Session {
             upkeep,
             shape,
             changed,
-            group,
+            waits,
         } = self;
         drop(catalogue);
         drop(upkeep);
         drop(shape);
         drop(changed);
-        drop(group);
+        drop(waits);
     }
 }
 
 impl Model for Session {
-    ghost use Rattle.std.specs.Prelude.{◌≡◌, IfSome, option_map};
+    ghost use Rattle.std.specs.Prelude.{◌≡◌};
     ghost use Rattle.valuation_meaning.specs.Meaning.{shape_of};
-    ghost use Rattle.view_session.specs.declared.group.Group.{Group};
-    ghost use Rattle.view_session.specs.Group.{IsOver};
     ghost use Rattle.view_session.specs.Session.{SessionState};
     ghost use Rattle.view_session.specs.Upkeeps.{view_of, IsKept};
+    ghost use Rattle.view_session.specs.Waits.{held_in, proposed_by, CanEnd};
     ghost use Rattle.std.specs.Coded.{Coded, codes};
     ghost use Rattle.view_session.specs.ConditionCode.{Mark, condition_code};
 
@@ -74,12 +83,12 @@ impl Model for Session {
 
     ghost coded = { let mark_code : Coded Mark = Prim.hlevel codes in Prim.hlevel (codes, condition_code mark_code) };
 
-    ghost view = { λ s. record { query = view_of s.upkeep; catalogue = s.catalogue.databases; changed = s.changed.names; held = option_map (λ (g : Group). g.draft.changes) s.group } };
+    ghost view = { λ s. record { query = view_of s.upkeep; catalogue = s.catalogue.databases; changed = s.changed.names; held = held_in s.waits; proposed = proposed_by s.waits } };
 
     ghost invariant = { λ s. record {
       kept : IsKept s.catalogue.databases s.upkeep;
       shape : s.shape ≡ shape_of (view_of s.upkeep);
-      group : IfSome s.group (λ g. IsOver g s.changed.names s.catalogue.databases);
+      waits : CanEnd s.catalogue s.upkeep s.changed s.waits;
     } };
 }
 
@@ -101,6 +110,35 @@ fn kept_over<L: Ledger>(
     let shape = shape_of(&view)?;
     let upkeep = Upkeep::open(alloc, catalogue, view, steps)?;
     Ok((shape, upkeep))
+}
+
+// Proposes changes of a catalogue, for which a view is kept. All stays but what waits, after each refusal too.
+fn propose<L: Ledger>(
+    alloc: Global,
+    catalogue: &mut Catalogue,
+    upkeep: &mut Upkeep,
+    changed: &mut Changed,
+    changes: &[Change],
+    steps: &mut Steps<L>,
+) -> Result<(Proposal, Script), GroupRefused>
+    requires kept { IsKept catalogue.old.databases upkeep.old }
+    requires well_formed { AllByRecursion (λ g. IsTrue (is_well_formed g)) changes.now }
+    ensures catalogue { catalogue.new.databases ≡ catalogue.old.databases }
+    ensures upkeep { KeptAs upkeep.old upkeep.new }
+    ensures names { changed.new.names ≡ changed.old.names }
+    ensures changes { IfOk result (λ told. proposed_in told.0 ≡ changes.now) }
+    ensures can { IfOk result (λ told. CanMake catalogue.new upkeep.new changed.new told.0) }
+    ensures accepted { OnOk result (group_fault catalogue.old.databases changes.now ≡ None) }
+    ensures allowed { OnOk result (refusal (after_all catalogue.old.databases changes.now) (view_of upkeep.old) ≡ None) }
+    ensures script { IfOk result (λ told. told.1 ≡ script (meaning catalogue.old.databases (view_of upkeep.old)) (meaning (after_all catalogue.old.databases changes.now) (view_of upkeep.old))) }
+    ensures refused { IfErr result (IsGroupRefused (verdict_of (view_of upkeep.old)) catalogue.old.databases changes.now) }
+    ensures within { (g : ChangeValue) → changes.now ≡ g ∷ [] → result ≢ Err GroupRefused.NoMemory → ForSome (limit_over (view_of upkeep.old) catalogue.old.databases g) (λ n. steps.new ≤ steps.old + n) }
+    ensures rises { steps.old ≤ steps.new }
+{
+    if let [change] = changes {
+        return propose_first(alloc, catalogue, upkeep, changed, change, steps);
+    }
+    propose_all(alloc, catalogue, upkeep, changed, changes, steps)
 }
 
 impl Session {
@@ -125,7 +163,7 @@ impl Session {
                 upkeep,
                 shape,
                 changed: Changed::none(alloc),
-                group: None,
+                waits: Waits::Nothing,
             }),
             Err(fault) => {
                 drop(catalogue);
@@ -134,8 +172,8 @@ impl Session {
         }
     }
 
-    /// Makes a change where no group is open, and answers the lines by which the tables change. It takes all memory
-    /// first. After each refusal the session is as before.
+    /// Makes a change where no group is open and nothing is proposed, and answers the lines by which the tables change. It
+    /// takes all memory first. After each refusal the session is as before.
     pub fn apply<L: Ledger>(
         &mut self,
         alloc: Global,
@@ -144,6 +182,7 @@ impl Session {
     ) -> Result<Script, Refused>
         requires well_formed { IsTrue (is_well_formed change.now) }
         requires idle { self.old.held ≡ None }
+        requires unproposed { self.old.proposed ≡ None }
         ensures script { IfOk result (λ lines. lines ≡ lines_to self.old (after self.old.catalogue change.now)) }
         ensures accepted { OnOk result (IsAccepted self.old change.now) }
         ensures moved { OnOk result (self.new ≡ moved self.old change.now) }
@@ -152,33 +191,25 @@ impl Session {
         ensures within { result ≢ Err Refused.NoMemory → ForSome (limit_of self.old change.now) (λ n. steps.new ≤ steps.old + n) }
         ensures rises { steps.old ≤ steps.new }
     {
-        if let Some(refusal) = self.catalogue.judge(change) {
-            return Err(Refused::Change(refusal));
-        }
-        let engine = &self.upkeep.engine;
-        let moved = engine.prepare(alloc, &self.catalogue, change, steps)?;
-        let ready = reserve(
+        let (proposal, script) = propose_one(
             alloc,
             &mut self.catalogue,
             &mut self.upkeep,
             &mut self.changed,
             change,
-            moved,
+            steps,
         )?;
-        Ok(commit(
-            &mut self.catalogue,
-            &mut self.upkeep,
-            &mut self.changed,
-            ready,
-        ))
+        proposal.accept(&mut self.catalogue, &mut self.upkeep, &mut self.changed);
+        Ok(script)
     }
 
-    /// Opens a group of changes.
+    /// Opens a group of changes, where none is open and nothing is proposed.
     pub fn begin(&mut self, alloc: Global)
-        requires { self.old.held ≡ None }
+        requires idle { self.old.held ≡ None }
+        requires unproposed { self.old.proposed ≡ None }
         ensures { self.new ≡ begun self.old }
     {
-        self.group = Some(Group::new(alloc));
+        self.waits = Waits::Open(Group::new(alloc));
     }
 
     /// Holds one more change in the open group. After each refusal the session is as before.
@@ -190,10 +221,10 @@ impl Session {
         ensures refused { IfErr result (λ e. IsHoldRefused self.old change.now e) }
         ensures same { OnErr result (self.new ≡ self.old) }
     {
-        let Some(group) = &mut self.group else {
+        let Waits::Open(group) = &mut self.waits else {
             unreachable!()
         };
-        group.hold(alloc, &self.catalogue, &self.changed, change)
+        group.hold(alloc, &self.catalogue, change)
     }
 
     /// Makes the changes of the open group, all at once, and answers the lines by which the tables change. The group
@@ -211,19 +242,19 @@ impl Session {
         ensures closed { OnErr result (self.new ≡ closed self.old) }
         ensures rises { steps.old ≤ steps.new }
     {
-        let Some(mut group) = self.group.take() else {
+        let Some(group) = mem::replace(&mut self.waits, Waits::Nothing).into_group() else {
             unreachable!()
         };
-        let made = commit_group(
+        let (proposal, script) = propose_group(
             alloc,
             &mut self.catalogue,
             &mut self.upkeep,
             &mut self.changed,
-            &mut group,
+            group,
             steps,
-        );
-        drop(group);
-        made
+        )?;
+        proposal.accept(&mut self.catalogue, &mut self.upkeep, &mut self.changed);
+        Ok(script)
     }
 
     /// Gives up the open group.
@@ -231,16 +262,74 @@ impl Session {
         requires { is_some self.old.held ≡ true }
         ensures { self.new ≡ closed self.old }
     {
-        self.group = None;
+        self.waits = Waits::Nothing;
+    }
+
+    /// Proposes changes, all together, where no group is open and nothing is proposed, and answers the lines by which the
+    /// tables change; or the first change that is refused behind those before it, or why the view is refused over the
+    /// catalogue after them. All memory is taken. After each refusal the session is as before.
+    pub fn propose<L: Ledger>(
+        &mut self,
+        alloc: Global,
+        changes: &[Change],
+        steps: &mut Steps<L>,
+    ) -> Result<Script, GroupRefused>
+        requires well_formed { AllByRecursion (λ g. IsTrue (is_well_formed g)) changes.now }
+        requires idle { self.old.held ≡ None }
+        requires unproposed { self.old.proposed ≡ None }
+        ensures script { IfOk result (λ lines. lines ≡ lines_to self.old (after_all self.old.catalogue changes.now)) }
+        ensures accepted { OnOk result (group_fault self.old.catalogue changes.now ≡ None) }
+        ensures allowed { OnOk result (refusal (after_all self.old.catalogue changes.now) self.old.query ≡ None) }
+        ensures proposed { OnOk result (self.new ≡ proposing self.old changes.now) }
+        ensures refused { IfErr result (IsGroupRefused (verdict_of self.old.query) self.old.catalogue changes.now) }
+        ensures same { OnErr result (self.new ≡ self.old) }
+        ensures within { (g : ChangeValue) → changes.now ≡ g ∷ [] → result ≢ Err GroupRefused.NoMemory → ForSome (limit_of self.old g) (λ n. steps.new ≤ steps.old + n) }
+        ensures rises { steps.old ≤ steps.new }
+    {
+        match propose(
+            alloc,
+            &mut self.catalogue,
+            &mut self.upkeep,
+            &mut self.changed,
+            changes,
+            steps,
+        ) {
+            Ok((proposal, script)) => {
+                self.waits = Waits::Proposed(proposal);
+                Ok(script)
+            }
+            Err(refused) => Err(refused),
+        }
+    }
+
+    /// Makes the changes that are proposed. It takes no memory.
+    pub fn accept(&mut self)
+        requires { is_some self.old.proposed ≡ true }
+        ensures { self.new ≡ accepted self.old }
+    {
+        let Some(proposal) = mem::replace(&mut self.waits, Waits::Nothing).into_proposal() else {
+            unreachable!()
+        };
+        proposal.accept(&mut self.catalogue, &mut self.upkeep, &mut self.changed);
+    }
+
+    /// Drops the changes that are proposed. It takes no memory, and gives that of the tables' lines back.
+    pub fn dismiss(&mut self)
+        requires { is_some self.old.proposed ≡ true }
+        ensures { self.new ≡ dismissed self.old }
+    {
+        self.upkeep.forget();
+        self.changed.forget();
+        self.waits = Waits::Nothing;
     }
 
     /// How many changes the open group holds, where one is open.
     pub fn held(&self) -> Option<usize>
         ensures { result ≡ option_map length self.now.held }
     {
-        match &self.group {
-            Some(group) => Some(group.count()),
-            None => None,
+        match &self.waits {
+            Waits::Open(group) => Some(group.count()),
+            Waits::Nothing | Waits::Proposed(_) => None,
         }
     }
 
@@ -290,9 +379,16 @@ impl Session {
         self.changed.databases()
     }
 
-    /// Forgets what was named, where no group is open.
+    // What is kept for the catalogue.
+    pub(crate) fn upkeep(&self) -> &Upkeep
+        ensures view { view_of result.now ≡ self.now.query }
+        ensures kept { IsKept self.now.catalogue result.now }
+    {
+        &self.upkeep
+    }
+
+    /// Forgets what was named.
     pub fn clear_changed(&mut self)
-        requires { self.old.held ≡ None }
         ensures { self.new ≡ cleared self.old }
     {
         self.changed.clear();
