@@ -17,8 +17,10 @@ use Rattle.tab_lines.specs.declared.lines.ReadStop.TheVariants as read
 use Rattle.tab_lines.proofs.LineLemmas.{whole_first, whole_none, lines_first, lines_last, some_line}
 use Rattle.course.specs.declared.status.Verdict.{Verdict}
 use Rattle.course.specs.declared.status.Halt.TheVariants as halt
-use Rattle.course.specs.Answering.{Reply, Continues, Ending, effects_of, prefixed, follow, course, Answered, Ended, CutOff, Ran, TookLittle, IsReadOut, BlamesRun, halt_of}
-use Rattle.course.proofs.AnsweringLemmas.{Mid, further, goes, halts, stops, mid_course, mid_halt, mid_stop, mid_idle, mid_end, mid_no_more, course_goes_on, line_goes_on, as_halt}
+use Rattle.course.specs.declared.status.LineStop.{LineStop}
+use Rattle.course.specs.declared.status.LineStop.TheVariants as line_stop
+use Rattle.course.specs.Answering.{Reply, Continues, Ending, effects_of, prefixed, follow, course, Answered, Ended, CutOff, Ran, TookLittle, IsReadOut, BlamesRun, halt_of, halt_of_line}
+use Rattle.course.proofs.AnsweringLemmas.{Mid, further, goes, halts, stops, held_up, mid_course, mid_halt, mid_stop, mid_idle, mid_end, mid_no_more, course_goes_on, line_goes_on, as_halt}
 
 -- the bytes of the lines that were answered: all that was taken but for what the reader holds, which one read gave
 pub record Front (taken : List ℕ) (lines : List (List ℕ)) (reader : LinesState) : Type 0 where
@@ -292,10 +294,13 @@ module _ {A : Type 0} (step : A → List ℕ → Reply A) (finish : A → Ending
   gave_out read.NoMemory old now state reader new_reader later m = idle (Err read.NoMemory) old now state reader new_reader later m
 
   -- the answer of a line stopped
-  pub line_stops : (line : List ℕ) (old now new : World) (state self : A) (reader new_reader : LinesState) (later : Option (List ℕ)) (e : Stop)
-      → Met step start bytes (Ok (Line line)) (contents old) state reader new_reader later (contents now) → Answered (step state line) now new self (Err e) → Ran step finish start bytes later old new (Err (halt.Stopped e))
-  line_stops line old now new state self reader new_reader later e m h =
-      mid_stop step finish start (lines_of bytes) (contents old) state line (lines_of (ahead new_reader m.more)) (contents now) (contents new) (line_mid line (contents old) state reader new_reader later (contents now) m) (stops (step state line) now new self e h)
+  pub line_stops : (line : List ℕ) (old now new : World) (state self : A) (reader new_reader : LinesState) (later : Option (List ℕ)) (e : LineStop)
+      → Met step start bytes (Ok (Line line)) (contents old) state reader new_reader later (contents now) → Answered (step state line) now new self (Err e) → Ran step finish start bytes later old new (Err (halt_of_line e))
+  line_stops line old now new state self reader new_reader later (line_stop.Stopped e) m h =
+      mid_stop step finish start (lines_of bytes) (contents old) state line (lines_of (ahead new_reader m.more)) (contents now) (contents new) (line_mid line (contents old) state reader new_reader later (contents now) m) (stops (step state line) now new self (line_stop.Stopped e) h)
+  line_stops line old now new state self reader new_reader later line_stop.DiskFault m h =
+      let mid = line_mid line (contents old) state reader new_reader later (contents now) m in
+      record { answered = mid.lines; line = line; more = lines_of (ahead new_reader m.more); are = mid.are; effects = mid.effects; state = state; goes = mid.answered; done = held_up (step state line) now new self h ∙ mid.done }
 
   -- it ended the run
   pub line_ends : (line : List ℕ) (old now new : World) (state self : A) (reader new_reader : LinesState) (later : Option (List ℕ)) (v : Verdict)
@@ -390,7 +395,7 @@ module _ {A : Type 0} (step : A → List ℕ → Reply A) (finish : A → Ending
       took_little old now now state reader m.left m.step_made.part m.more later rest.0 m.at m.step_made.split m.step_made.told (seen_by reader.left m.step_made.part m.at.front.short m.step_made.soon) rest.1 (nothing_yet rest.0 (contents now) (contents now) refl)
 
   -- the answer of a line stopped
-  pub line_stops_took : (line : List ℕ) (old now new : World) (state self : A) (reader new_reader : LinesState) (later : Option (List ℕ)) (e : Stop)
+  pub line_stops_took : (line : List ℕ) (old now new : World) (state self : A) (reader new_reader : LinesState) (later : Option (List ℕ)) (e : LineStop)
       → Met step start bytes (Ok (Line line)) (contents old) state reader new_reader later (contents now) → Answered (step state line) now new self (Err e) → TookLittle step finish start bytes later old new
   unfolding line_mid mid_of
   line_stops_took line old now new state self reader new_reader later e m h =

@@ -47,6 +47,7 @@ number_done verdict.Usage e = absurd (cc)
 number_done verdict.BadDefinition e = absurd (cc)
 number_done verdict.BadCatalogue e = absurd (cc)
 number_done verdict.NoView e = absurd (cc)
+number_done verdict.JournalFull e = absurd (cc)
 
 module _ (t : Tree) (lines : List (List ℕ)) (old new : World) (s : Status) (told : old.store.tree ≡ Some t) (done : s ≡ status.Done) where
   script_applied : (a : Accepted) (d : DefinitionOrRefusal) → d ≡ Ok a → (before : TablesValue) → held (shape_of a.query) t (folder_of a) ≡ Ok before

@@ -116,8 +116,9 @@ course_can lines s = by_reply (follow step lines (Continues [] s)) refl
     by_reply (Continues es a) f = refl
     by_reply (Finishes es w) f = ap (λ (v : Verdict). can_apply (verdict_status v)) (halts_so lines s es w f).0
 
-pub drove_can : (s : ApplyState) (w v : World) (r : Result Verdict Halt) → AnsweredSome step finish s w v r → can_apply (status_of r) ≡ true
-drove_can s w v (Ok x) h = ap (λ (y : Verdict). can_apply (verdict_status y)) h.ran.1 ∙ course_can h.lines s
-drove_can s w v (Err halt.InputFault) h = refl
-drove_can s w v (Err halt.TooLong) h = refl
-drove_can s w v (Err (halt.Stopped e)) h = stopped_can e
+pub drove_can : (s : ApplyState) (w v : World) (r : Result Verdict Halt) → AnsweredSome step finish s w v r → r ≢ Err halt.DiskFault → can_apply (status_of r) ≡ true
+drove_can s w v (Ok x) h never = ap (λ (y : Verdict). can_apply (verdict_status y)) h.ran.1 ∙ course_can h.lines s
+drove_can s w v (Err halt.InputFault) h never = refl
+drove_can s w v (Err halt.TooLong) h never = refl
+drove_can s w v (Err halt.DiskFault) h never = absurd (never refl)
+drove_can s w v (Err (halt.Stopped e)) h never = stopped_can e

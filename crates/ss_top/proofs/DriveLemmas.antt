@@ -9,7 +9,7 @@ use Rattle.course.specs.declared.status.Halt.{Halt}
 use Rattle.course.specs.declared.status.Halt.TheVariants as halt
 use Rattle.course.specs.Answering.{Reply, Continues, Ending, course, Ran, CutOff, EndedOver}
 use Rattle.course.specs.Answering as lines
-use Rattle.ss_top.specs.Course.{GaveOut, RanBy, Took, by_lines, first}
+use Rattle.ss_top.specs.Course.{GaveOut, HeldUp, RanBy, Took, by_lines, first}
 
 -- an ending behind an opening
 pub ended_later : (es : List Effect) (e : Ending) (old mid new : World) (r : Result Verdict Halt) → contents mid ≡ performed es (contents old) → EndedOver e mid new r → EndedOver (first es e) old new r
@@ -29,12 +29,25 @@ module _ {A : Type 0} (step : A → List ℕ → Reply A) (finish : A → Ending
     done = cut.done ∙ ap (performed cut.effects) h ∙ sym (performed_append es cut.effects (contents old));
   }
 
+  -- the disk failed behind an opening
+  abbrev held_up : (es : List Effect) (o : A) (bytes : List ℕ) (old mid new : World) → contents mid ≡ performed es (contents old) → lines.HeldUp step o bytes mid new → HeldUp (by_lines step finish (Continues es o)) bytes old new
+  held_up es o bytes old mid new h held = record {
+    answered = held.answered;
+    line = held.line;
+    more = held.more;
+    are = held.are;
+    effects = es ++ held.effects;
+    meant = rw held.goes refl;
+    done = held.done ∙ ap (performed held.effects) h ∙ sym (performed_append es held.effects (contents old));
+  }
+
   pub went_on : (es : List Effect) (o : A) (bytes : List ℕ) (rest : Option (List ℕ)) (old mid new : World) (r : Result Verdict Halt) → contents mid ≡ performed es (contents old) → Ran step finish o bytes rest mid new r → RanBy (by_lines step finish (Continues es o)) bytes rest old new r
   went_on es o bytes rest old mid new (Ok v) h ran =
       let e = course step finish o (lines_of bytes) in
       (ran.0 ∙ ap (performed e.effects) h ∙ sym (performed_append es e.effects (contents old)), ran.1)
   went_on es o bytes rest old mid new (Err halt.InputFault) h ran = gave_out es o bytes rest old mid new h ran
   went_on es o bytes rest old mid new (Err halt.TooLong) h ran = (gave_out es o bytes rest old mid new h ran.0, ran.1)
+  went_on es o bytes rest old mid new (Err halt.DiskFault) h ran = held_up es o bytes old mid new h ran
   went_on es o bytes rest old mid new (Err (halt.Stopped e)) h ran = partly_later es (course step finish o (lines_of bytes)).effects (contents old) (contents mid) (contents new) h ran
 
   -- what was taken of the input

@@ -41,6 +41,7 @@ pub idle_drove : (r : Result Verdict Halt) (w v : World) → IfErr r (λ e. e �
 idle_drove (Ok verdict) w v h = tt
 idle_drove (Err halt.InputFault) w v h = tt
 idle_drove (Err halt.TooLong) w v h = tt
+idle_drove (Err halt.DiskFault) w v h = tt
 idle_drove (Err (halt.Stopped stop.ReadFault)) w v h = absurd (h refl)
 idle_drove (Err (halt.Stopped stop.WriteFault)) w v h = tt
 idle_drove (Err (halt.Stopped stop.NoMemory)) w v h = tt
@@ -58,3 +59,4 @@ refused_can_show verdict.Usage h = absurd (cc)
 refused_can_show verdict.BadDefinition h = refl
 refused_can_show verdict.BadCatalogue h = refl
 refused_can_show verdict.NoView h = refl
+refused_can_show verdict.JournalFull h = absurd (cc)

@@ -1,5 +1,5 @@
 -- From an opening and the answers behind it to a run of `maintain`.
-use Rattle.std.proofs.Common.{◌≡◌, ℕ, Bool, true, false, List, [], ◌∷◌, ◌++◌, Option, Some, refl, ap, ◌∙◌, subst, arith, inl, inr}
+use Rattle.std.proofs.Common.{◌≡◌, ◌≢◌, ℕ, Bool, true, false, List, [], ◌∷◌, ◌++◌, Option, Some, refl, ap, ◌∙◌, subst, arith, inl, inr}
 use Rattle.std.specs.Prelude.{Result, Ok, Err, IfOk, OnErr, if◌then◌else◌}
 use Rattle.effects.specs.Effects.{Effect, World, contents}
 use Rattle.effects.specs.Blame.{Blames}
@@ -52,6 +52,7 @@ ended_whole bytes rest verdict.Usage h done = absurd (cc)
 ended_whole bytes rest verdict.BadDefinition h done = absurd (cc)
 ended_whole bytes rest verdict.BadCatalogue h done = absurd (cc)
 ended_whole bytes rest verdict.NoView h done = absurd (cc)
+ended_whole bytes rest verdict.JournalFull h done = absurd (cc)
 
 -- what was done, whatever the input tells
 pub some_ended : (r : Reply OpenValue) (old new : World) (v : Verdict) → Opens r old new (Ok (opened_as.Ended v)) → RanSome (by_lines step finish r) old new (Ok v)
@@ -82,6 +83,7 @@ refused_can verdict.Usage h = absurd (cc)
 refused_can verdict.BadDefinition h = refl
 refused_can verdict.BadCatalogue h = refl
 refused_can verdict.NoView h = refl
+refused_can verdict.JournalFull h = absurd (cc)
 
 pub stopped_can : (e : Stop) → (let r : Result Verdict Halt = Err (halt.Stopped e) in can_maintain (status_of r) ≡ true)
 stopped_can stop.ReadFault = refl
@@ -92,19 +94,21 @@ done_can : (b : Bool) → can_maintain (verdict_status (if b then verdict.SomeRe
 done_can true = refl
 done_can false = refl
 
-pub drove_can : (o : OpenValue) (w v : World) (r : Result Verdict Halt) → AnsweredSome step finish o w v r → can_maintain (status_of r) ≡ true
-drove_can o w v (Ok s) h =
+pub drove_can : (o : OpenValue) (w v : World) (r : Result Verdict Halt) → AnsweredSome step finish o w v r → r ≢ Err halt.DiskFault → can_maintain (status_of r) ≡ true
+drove_can o w v (Ok s) h never =
     let all = goes_always h.lines [] o in
     ap (λ (x : Verdict). can_maintain (verdict_status x)) (h.ran.1 ∙ ap (λ (r : Reply OpenValue). (ending finish r).status) all.2) ∙ done_can (end_view all.1).refused
-drove_can o w v (Err halt.InputFault) h = refl
-drove_can o w v (Err halt.TooLong) h = refl
-drove_can o w v (Err (halt.Stopped e)) h = stopped_can e
+drove_can o w v (Err halt.InputFault) h never = refl
+drove_can o w v (Err halt.TooLong) h never = refl
+drove_can o w v (Err halt.DiskFault) h never = absurd (never refl)
+drove_can o w v (Err (halt.Stopped e)) h never = stopped_can e
 
 -- a count that rose, behind an opening
 pub blamed_later : {A : Type 0} (i j : ℕ) (old mid new : World) (a : A) (r : Result Verdict Halt) → Blames old mid (Ok a) → BlamesRun i j mid new r → BlamesRun i j old new r
 blamed_later i j old mid new a (Ok v) b c = record { steady = steady_more old mid new b.steady c.steady; input = c.input; because = tt }
 blamed_later i j old mid new a (Err halt.InputFault) b c = record { steady = steady_more old mid new b.steady c.steady; input = c.input; because = c.because }
 blamed_later i j old mid new a (Err halt.TooLong) b c = record { steady = steady_more old mid new b.steady c.steady; input = c.input; because = tt }
+blamed_later i j old mid new a (Err halt.DiskFault) b c = record { steady = steady_more old mid new b.steady c.steady; input = c.input; because = tt }
 blamed_later i j old mid new a (Err (halt.Stopped stop.ReadFault)) b c = record { steady = steady_more old mid new b.steady c.steady; input = c.input; because = omega (arith, b.steady.reads, c.because) }
 blamed_later i j old mid new a (Err (halt.Stopped stop.WriteFault)) b c = record {
   steady = steady_more old mid new b.steady c.steady;

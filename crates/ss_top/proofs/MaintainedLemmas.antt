@@ -299,6 +299,8 @@ module _ (old new : World) (t : Tree) (told : old.store.tree ≡ Some t) (whole 
   did_give_out name status.NoView gave h = absurd gave
   did_give_out name status.WriteFault gave h = absurd gave
   did_give_out name status.NoMemory gave h = absurd gave
+  did_give_out name status.DiskFault gave h = absurd gave
+  did_give_out name status.JournalFull gave h = absurd gave
 
 pub did_cut_off : (name : Text) (t : Tree) (bytes : List ℕ) (d : DefinitionOrRefusal) (rest : Option (List ℕ)) (old new : World) (s : Status) → IsDefinition name (definition_bytes t name) d → old.store.tree ≡ Some t → IsWhole t → GaveOutStatus old new s → Did (course_of (Maintain name) t d) bytes rest old new s → IsCutOff d t bytes rest old new
 did_cut_off name t bytes d rest old new s defined told whole gave h = did_give_out old new t told whole bytes rest d (profile_of name t d defined) name s gave h

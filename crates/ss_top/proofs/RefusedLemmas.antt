@@ -55,6 +55,8 @@ refused_finished c bytes rest old new status.ReadFault r h = absurd (cc)
 refused_finished c bytes rest old new status.WriteFault r h = absurd (cc)
 refused_finished c bytes rest old new status.NoMemory r h = absurd (cc)
 refused_finished c bytes rest old new status.TooLong r h = absurd (cc)
+refused_finished c bytes rest old new status.DiskFault r h = absurd (cc)
+refused_finished c bytes rest old new status.JournalFull r h = h
 
 end_unrefused : (b : Bool) → is_refused_status (verdict_status (if b then verdict.SomeRefused else verdict.Done)) ≡ false
 end_unrefused true = refl
@@ -137,6 +139,7 @@ module _ (old new : World) (r : Result Verdict Halt) (refused : is_refused_statu
   some_refused e (Ok v) is h = refused_ended e v is h
   some_refused e (Err halt.InputFault) is h = absurd (false≢true (ap (λ (x : Result Verdict Halt). is_refused_status (status_of x)) (sym is) ∙ refused))
   some_refused e (Err halt.TooLong) is h = absurd (false≢true (ap (λ (x : Result Verdict Halt). is_refused_status (status_of x)) (sym is) ∙ refused))
+  some_refused e (Err halt.DiskFault) is h = absurd (false≢true (ap (λ (x : Result Verdict Halt). is_refused_status (status_of x)) (sym is) ∙ refused))
   some_refused e (Err (halt.Stopped stop.ReadFault)) is h = absurd (false≢true (ap (λ (x : Result Verdict Halt). is_refused_status (status_of x)) (sym is) ∙ refused))
   some_refused e (Err (halt.Stopped stop.WriteFault)) is h = absurd (false≢true (ap (λ (x : Result Verdict Halt). is_refused_status (status_of x)) (sym is) ∙ refused))
   some_refused e (Err (halt.Stopped stop.NoMemory)) is h = absurd (false≢true (ap (λ (x : Result Verdict Halt). is_refused_status (status_of x)) (sym is) ∙ refused))

@@ -64,24 +64,28 @@ by_status c bytes rest old new i j (Ok verdict.Usage) h b idle = record { status
 by_status c bytes rest old new i j (Ok verdict.BadDefinition) h b idle = record { status = ap verdict_status h.1; done = h.0 }
 by_status c bytes rest old new i j (Ok verdict.BadCatalogue) h b idle = record { status = ap verdict_status h.1; done = h.0 }
 by_status c bytes rest old new i j (Ok verdict.NoView) h b idle = record { status = ap verdict_status h.1; done = h.0 }
+by_status c bytes rest old new i j (Ok verdict.JournalFull) h b idle = record { status = ap verdict_status h.1; done = h.0 }
 by_status c bytes rest old new i j (Err halt.InputFault) h b idle = inr h
 by_status c bytes rest old new i j (Err halt.TooLong) h b idle = h
+by_status c bytes rest old new i j (Err halt.DiskFault) h b idle = h
 by_status c bytes rest old new i j (Err (halt.Stopped stop.ReadFault)) h b idle = inl (b.because, idle_contents old new idle)
 by_status c bytes rest old new i j (Err (halt.Stopped stop.WriteFault)) h b idle = h
 by_status c bytes rest old new i j (Err (halt.Stopped stop.NoMemory)) h b idle = h
 
-pub by_cause : (i j : ℕ) (old new : World) (r : Result Verdict Halt) → BlamesRun i j old new r → Cause (status_of r) i j old new
-by_cause i j old new (Ok verdict.Done) b = tt
-by_cause i j old new (Ok verdict.SomeRefused) b = tt
-by_cause i j old new (Ok verdict.Usage) b = tt
-by_cause i j old new (Ok verdict.BadDefinition) b = tt
-by_cause i j old new (Ok verdict.BadCatalogue) b = tt
-by_cause i j old new (Ok verdict.NoView) b = tt
-by_cause i j old new (Err halt.InputFault) b = inl b.because
-by_cause i j old new (Err halt.TooLong) b = tt
-by_cause i j old new (Err (halt.Stopped stop.ReadFault)) b = inr b.because
-by_cause i j old new (Err (halt.Stopped stop.WriteFault)) b = b.because
-by_cause i j old new (Err (halt.Stopped stop.NoMemory)) b = tt
+pub by_cause : (i j : ℕ) (old new : World) (r : Result Verdict Halt) → BlamesRun i j old new r → r ≢ Err halt.DiskFault → Cause (status_of r) i j old new
+by_cause i j old new (Ok verdict.Done) b never = tt
+by_cause i j old new (Ok verdict.SomeRefused) b never = tt
+by_cause i j old new (Ok verdict.Usage) b never = tt
+by_cause i j old new (Ok verdict.BadDefinition) b never = tt
+by_cause i j old new (Ok verdict.BadCatalogue) b never = tt
+by_cause i j old new (Ok verdict.NoView) b never = tt
+by_cause i j old new (Ok verdict.JournalFull) b never = tt
+by_cause i j old new (Err halt.InputFault) b never = inl b.because
+by_cause i j old new (Err halt.TooLong) b never = tt
+by_cause i j old new (Err halt.DiskFault) b never = absurd (never refl)
+by_cause i j old new (Err (halt.Stopped stop.ReadFault)) b never = inr b.because
+by_cause i j old new (Err (halt.Stopped stop.WriteFault)) b never = b.because
+by_cause i j old new (Err (halt.Stopped stop.NoMemory)) b never = tt
 
 -- two words, the second a legal name
 pub two_words : (words : List Text) (word name : Text) → length words ≡ 2 → word ≡ get_or words 0 word → name ≡ get_or words 1 name → is_table_label name ≡ true → asked_of words ≡ command_named word name
@@ -109,13 +113,15 @@ by_no_fault c bytes rest old new i j status.NoView h cause none few some = h
 by_no_fault c bytes rest old new i j status.ReadFault h cause none few some = elim cause [ inl r ↦ absurd (none.input r) | inr r ↦ absurd (none.reads r) ]
 by_no_fault c bytes rest old new i j status.WriteFault h cause none few some = elim cause [ inl r ↦ absurd (none.writes r) | inr r ↦ absurd (none.prints r) ]
 by_no_fault c bytes rest old new i j status.NoMemory h cause none few some = absurd (some refl)
+by_no_fault c bytes rest old new i j status.JournalFull h cause none few some = h
+by_no_fault c bytes rest old new i j status.DiskFault h cause none few some = absurd cause
 by_no_fault c bytes rest old new i j status.TooLong h cause none few some =
     let long : length bytes ≡ length h.0.taken + length h.0.left = ap length h.0.split ∙ length-append h.0.taken h.0.left in
     let most : length h.0.taken ≡ most_taken = h.1 in
     absurd (omega (arith, long, most, few))
 
-pub finishes : (c : Course) (bytes : List ℕ) (rest : Option (List ℕ)) (old new : World) (i j : ℕ) (r : Result Verdict Halt) → RanBy c bytes rest old new r → BlamesRun i j old new r → IdleRun r old new → NoFault i j old new → length bytes < most_taken → status_of r ≢ status.NoMemory → Finished (c.whole (lines_of bytes)) old new (status_of r)
-finishes c bytes rest old new i j r h b idle none few some = by_no_fault c bytes rest old new i j (status_of r) (by_status c bytes rest old new i j r h b idle) (by_cause i j old new r b) none few some
+pub finishes : (c : Course) (bytes : List ℕ) (rest : Option (List ℕ)) (old new : World) (i j : ℕ) (r : Result Verdict Halt) → RanBy c bytes rest old new r → BlamesRun i j old new r → IdleRun r old new → r ≢ Err halt.DiskFault → NoFault i j old new → length bytes < most_taken → status_of r ≢ status.NoMemory → Finished (c.whole (lines_of bytes)) old new (status_of r)
+finishes c bytes rest old new i j r h b idle never none few some = by_no_fault c bytes rest old new i j (status_of r) (by_status c bytes rest old new i j r h b idle) (by_cause i j old new r b never) none few some
 
 -- a run that gave up
 no_fault_number : (v : Verdict) → is_fault_status (verdict_status v) ≡ false
@@ -125,6 +131,7 @@ no_fault_number verdict.Usage = refl
 no_fault_number verdict.BadDefinition = refl
 no_fault_number verdict.BadCatalogue = refl
 no_fault_number verdict.NoView = refl
+no_fault_number verdict.JournalFull = refl
 
 pub by_fault : (r : Result Verdict Halt) (P : Type 0) → OnErr r P → is_fault_status (status_of r) ≡ true → P
 by_fault (Err h) P given e = given

@@ -98,6 +98,8 @@ done_finished c bytes rest old new status.ReadFault e h = absurd (cc)
 done_finished c bytes rest old new status.WriteFault e h = absurd (cc)
 done_finished c bytes rest old new status.NoMemory e h = absurd (cc)
 done_finished c bytes rest old new status.TooLong e h = absurd (cc)
+done_finished c bytes rest old new status.DiskFault e h = absurd (cc)
+done_finished c bytes rest old new status.JournalFull e h = h
 
 -- the run of `show` by its course
 pub did_show : (name : Text) (t : Tree) (d : DefinitionOrRefusal) (rest : Option (List ℕ)) (old new : World) (s : Status) → old.store.tree ≡ Some t → s ≡ status.Done → Did (course_of (Show name) t d) [] rest old new s → IsShown d t old new

@@ -39,7 +39,7 @@ use Rattle.ss_top.specs.Answers.{answer, step, finish, end_effects, end_view}
 use Rattle.ss_top.specs.Applies.{apply_opening}
 use Rattle.ss_top.specs.Checking.{checked}
 use Rattle.ss_top.specs.Verifying.{by_comparison, verified_over, verified_view}
-use Rattle.ss_top.specs.Course.{Did, RanBy, RanSome, GaveOut, by_lines, goes_so_far, is_unread_status}
+use Rattle.ss_top.specs.Course.{Did, RanBy, RanSome, GaveOut, HeldUp, by_lines, goes_so_far, is_unread_status}
 use Rattle.ss_top.specs.declared.status.Status.{Status}
 use Rattle.ss_top.specs.declared.status.Status.TheVariants as status
 use Rattle.ss_top.specs.Runs.{course_of}
@@ -282,10 +282,16 @@ module _ (a : Asked) (t : Tree) (d : DefinitionOrRefusal) (old new : World) wher
         let front = course_front a t d (whole_lines g.taken) first.0 g.effects g.meant in
         partly_front g.effects front.0 ((course_of a t d).whole (lines_of bytes)).effects (contents old) (contents new) (ap (λ (ls : List (List ℕ)). ((course_of a t d).whole ls).effects) first.1 ∙ front.1) g.done
 
+    held_up : HeldUp (course_of a t d) bytes old new → Fronts (lines_of bytes)
+    held_up g =
+        let front = course_front a t d g.answered (g.line ∷ g.more) g.effects g.meant in
+        partly_front g.effects front.0 ((course_of a t d).whole (lines_of bytes)).effects (contents old) (contents new) (ap (λ (ls : List (List ℕ)). ((course_of a t d).whole ls).effects) g.are ∙ front.1) g.done
+
     told_front : (r : Result Verdict Halt) → RanBy (course_of a t d) bytes rest old new r → Fronts (lines_of bytes)
     told_front (Ok v) h = partly_whole ((course_of a t d).whole (lines_of bytes)).effects (contents old) (contents new) h.0
     told_front (Err halt.InputFault) h = gave_out h
     told_front (Err halt.TooLong) h = gave_out h.0
+    told_front (Err halt.DiskFault) h = held_up h
     told_front (Err (halt.Stopped e)) h = h
 
   module _ (told : old.store.tree ≡ Some t) where
@@ -336,3 +342,5 @@ did_nothing name t d bytes rest old new status.BadCatalogue unread h = absurd (c
 did_nothing name t d bytes rest old new status.NoView unread h = absurd (cc unread)
 did_nothing name t d bytes rest old new status.WriteFault unread h = absurd (cc unread)
 did_nothing name t d bytes rest old new status.NoMemory unread h = absurd (cc unread)
+did_nothing name t d bytes rest old new status.DiskFault unread h = absurd (cc unread)
+did_nothing name t d bytes rest old new status.JournalFull unread h = absurd (cc unread)

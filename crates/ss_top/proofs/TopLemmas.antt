@@ -1,5 +1,5 @@
 -- From what a command did to what is promised of a whole run.
-use Rattle.std.proofs.Common.{◌≡◌, ◌≢◌, ℕ, true, List, [], Option, Some, sym, ap, subst}
+use Rattle.std.proofs.Common.{◌≡◌, ◌≢◌, ℕ, true, false, List, [], Option, Some, sym, ap, ◌∙◌, subst}
 use Rattle.std.specs.Prelude.{Result, Err, OnErr}
 use Rattle.std.specs.FinMap.{empty}
 use Rattle.ss_text.specs.Texts.{Text}
@@ -10,7 +10,9 @@ use Rattle.effects.specs.Effects.{World}
 use Rattle.course.specs.declared.status.Verdict.{Verdict}
 use Rattle.course.specs.declared.status.Halt.{Halt}
 use Rattle.course.specs.Answering.{BlamesRun}
-use Rattle.ss_top.specs.Commands.{Asked, Check, Show, Maintain, Verify, Apply, Load, asked_of, uses_store, reads_input}
+use Rattle.ss_top.specs.Commands.{Asked, Check, Show, Maintain, Verify, Apply, Load, Other, asked_of, uses_store, reads_input, can_end}
+use Rattle.std.proofs.lemmas.Bool.{false≢true}
+use Rattle.ss_top.specs.declared.status.Status.TheVariants as status
 use Rattle.ss_top.specs.Stages.{DefinitionOrRefusal}
 use Rattle.ss_top.specs.Course.{Course, Did, RanBy, RanSome, Took, Finished, status_of}
 use Rattle.ss_top.specs.Runs.{IsAsked, course_of, Told}
@@ -34,6 +36,19 @@ use Rattle.ss_top.proofs.DefinitionLemmas.{is_defined}
 no_tree : Tree
 no_tree = record { folders = empty; files = empty }
 
+-- no command is held up by a disk
+unheld : (a : Asked) → can_end a status.DiskFault ≡ false
+unheld (Check name) = refl
+unheld (Show name) = refl
+unheld (Maintain name) = refl
+unheld (Verify name) = refl
+unheld (Apply name) = refl
+unheld (Load changes seed) = refl
+unheld Other = refl
+
+pub not_held_up : (a : Asked) (r : Result Verdict Halt) → can_end a (status_of r) ≡ true → r ≢ Err halt.DiskFault
+not_held_up a r can is = false≢true (sym (unheld a) ∙ ap (λ (x : Result Verdict Halt). can_end a (status_of x)) (sym is) ∙ can)
+
 -- a run over these words, and what its command says of it
 module _ (words : List Text) (input rest : Option (List ℕ)) (i j : ℕ) (old new : World) (r : Result Verdict Halt) where
   -- what the command did, by the course of a definition
@@ -51,10 +66,10 @@ module _ (words : List Text) (input rest : Option (List ℕ)) (i j : ℕ) (old n
     pub does_course : DoesCourse words input rest old new (status_of r)
     does_course c bytes has read = subst (λ (x : Course). Did x bytes rest old new (status_of r)) (sym has.is.course) (did_by has.tree bytes has.is.definition has.told read has.is.asked)
 
-    pub is_complete : IsComplete words input i j old new (status_of r)
-    is_complete c bytes has read none few some =
+    pub is_complete : can_end (asked_of words) (status_of r) ≡ true → IsComplete words input i j old new (status_of r)
+    is_complete can c bytes has read none few some =
         subst (λ (x : Course). Finished (x.whole (lines_of bytes)) old new (status_of r)) (sym has.is.course)
-        (finishes (course_of (asked_of words) has.tree has.is.definition) bytes rest old new i j r (ran has.tree bytes has.is.definition has.told read has.is.asked) blames idle none few some)
+        (finishes (course_of (asked_of words) has.tree has.is.definition) bytes rest old new i j r (ran has.tree bytes has.is.definition has.told read has.is.asked) blames idle (not_held_up (asked_of words) r can) none few some)
 
     -- a command by its name
     named : (a : Asked) (t : Tree) (bytes : List ℕ) (d : DefinitionOrRefusal) → asked_of words ≡ a → Told (uses_store a) old.store.tree t → Told (reads_input a) input bytes → IsAsked a t d → Did (course_of a t d) bytes rest old new (status_of r)

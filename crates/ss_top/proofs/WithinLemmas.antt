@@ -52,7 +52,7 @@ use Rattle.ss_top.specs.Stages.{DefinitionOrRefusal, Accepted, loaded_or_refused
 use Rattle.ss_top.specs.Opening.{with_catalogue, with_view, opening_effects, done_at_once}
 use Rattle.ss_top.specs.Verifying.{by_comparison, verified_over, verified_view}
 use Rattle.ss_top.specs.Answers.{answer, step, finish, view_effects, sync_effects, synced_by, last_synced, view_after, end_synced, end_effects, end_view}
-use Rattle.ss_top.specs.Course.{RanBy, RanSome, GaveOut, by_lines, goes_so_far}
+use Rattle.ss_top.specs.Course.{RanBy, RanSome, GaveOut, HeldUp, by_lines, goes_so_far}
 use Rattle.ss_top.specs.Commands.{Asked, Check, Show, Maintain, Verify, Apply, Load, Other}
 use Rattle.ss_top.specs.Runs.{course_of}
 use Rattle.ss_top.specs.Promises.{Keeps, KeepsBut, sources_exempt, exempt_of, folder_of}
@@ -436,10 +436,19 @@ module _ (a : Asked) (t : Tree) (d : DefinitionOrRefusal) (old new : World) (tol
           kept = kept lines (subst (StaysIn (exempt_of a t d lines) t) (sym g.done) (performed_stays (exempt_of a t d lines) t g.effects (contents old) (so_far_within a t d lines g.effects g.meant) (at_first_stays (exempt_of a t d lines) t old told)));
         }
 
+    held_up : HeldUp (course_of a t d) bytes old new → KeepsBut a t d (Some bytes) new
+    held_up g =
+        record {
+          lines = g.answered;
+          first = λ bs e. (g.line ∷ g.more, ap lines_of (sym (same_some bytes bs e)) ∙ g.are);
+          kept = kept g.answered (subst (StaysIn (exempt_of a t d g.answered) t) (sym g.done) (performed_stays (exempt_of a t d g.answered) t g.effects (contents old) (so_far_within a t d g.answered g.effects g.meant) (at_first_stays (exempt_of a t d g.answered) t old told)));
+        }
+
     did_told : (r : Result Verdict Halt) → RanBy (course_of a t d) bytes rest old new r → KeepsBut a t d (Some bytes) new
     did_told (Ok v) h = all_lines (done_all (lines_of bytes) v h)
     did_told (Err halt.InputFault) h = gave_out h
     did_told (Err halt.TooLong) h = gave_out h.0
+    did_told (Err halt.DiskFault) h = held_up h
     did_told (Err (halt.Stopped e)) h = all_lines (done_partly (lines_of bytes) h)
 
 pub did_keep : (a : Asked) (t : Tree) (d : DefinitionOrRefusal) (input rest : Option (List ℕ)) (old new : World) (r : Result Verdict Halt) → old.store.tree ≡ Some t → RanSome (course_of a t d) old new r

@@ -3,6 +3,8 @@ use Rattle.std.specs.Prelude.{ℕ, Bool, true, false, List, [], ◌∷◌, Optio
 use Rattle.ss_text.specs.Texts.{Text, text_eq}
 use Rattle.ss_text.specs.Label.{is_table_label}
 use Rattle.load_run.specs.Numbers.{changes_of, seed_of}
+use Rattle.ss_top.specs.declared.asked.Command.{Command}
+use Rattle.ss_top.specs.declared.asked.Command.TheVariants as command
 use Rattle.ss_top.specs.declared.status.Status.{Status}
 use Rattle.ss_top.specs.declared.status.Status.TheVariants as status
 
@@ -40,6 +42,16 @@ asked_of (word ∷ []) = Other
 asked_of (word ∷ name ∷ []) = if is_table_label name then command_named word name else Other
 asked_of (word ∷ changes ∷ seed ∷ []) = command_counted word changes seed
 asked_of (word ∷ name ∷ more ∷ another ∷ rest) = Other
+
+-- what a command asks for
+abbrev pub asked_by : Command → Asked
+asked_by (command.Check name) = Check name.now
+asked_by (command.Show name) = Show name.now
+asked_by (command.Maintain name) = Maintain name.now
+asked_by (command.Verify name) = Verify name.now
+asked_by (command.Apply name) = Apply name.now
+asked_by (command.Load changes seed) = Load changes seed
+asked_by command.Other = Other
 
 -- whether a command calls the store
 abbrev pub uses_store : Asked → Bool

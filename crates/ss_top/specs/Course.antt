@@ -1,5 +1,5 @@
 -- What a whole run does, by what it is asked and by what the outside tells.
-use Rattle.std.specs.Prelude.{◌≡◌, ℕ, ◌<◌, ◌≤◌, Bool, true, false, List, [], ◌++◌, length, ◌⊎◌, Option, None, Some, Result, Ok, Err}
+use Rattle.std.specs.Prelude.{◌≡◌, ℕ, ◌<◌, ◌≤◌, Bool, true, false, List, [], ◌∷◌, ◌++◌, length, ◌⊎◌, Option, None, Some, Result, Ok, Err}
 use Rattle.outside.specs.Counts.{Rose}
 use Rattle.effects.specs.Effects.{Effect, World, contents, performed, Partly}
 use Rattle.effects.specs.declared.stop.Stop.TheVariants as stop
@@ -52,12 +52,14 @@ verdict_status verdict.Usage = status.Usage
 verdict_status verdict.BadDefinition = status.BadDefinition
 verdict_status verdict.BadCatalogue = status.BadCatalogue
 verdict_status verdict.NoView = status.NoView
+verdict_status verdict.JournalFull = status.JournalFull
 
 -- the status of an ending
 abbrev pub status_of : Result Verdict Halt → Status
 status_of (Ok v) = verdict_status v
 status_of (Err halt.InputFault) = status.ReadFault
 status_of (Err halt.TooLong) = status.TooLong
+status_of (Err halt.DiskFault) = status.DiskFault
 status_of (Err (halt.Stopped stop.ReadFault)) = status.ReadFault
 status_of (Err (halt.Stopped stop.WriteFault)) = status.WriteFault
 status_of (Err (halt.Stopped stop.NoMemory)) = status.NoMemory
@@ -72,17 +74,28 @@ pub record GaveOut (c : Course) (bytes : List ℕ) (rest : Option (List ℕ)) (o
   pub meant : c.so_far (whole_lines taken) ≡ Some effects
   pub done : contents new ≡ performed effects (contents old)
 
+-- the disk failed: the lines before one of the input were answered, and nothing else was done
+pub record HeldUp (c : Course) (bytes : List ℕ) (old new : World) : Type 0 where
+  pub answered : List (List ℕ)
+  pub line : List ℕ
+  pub more : List (List ℕ)
+  pub are : lines_of bytes ≡ answered ++ line ∷ more
+  pub effects : List Effect
+  pub meant : c.so_far answered ≡ Some effects
+  pub done : contents new ≡ performed effects (contents old)
+
 -- all of it was done, and the status is that of its end
 pub record Finished (e : Ending) (old new : World) (s : Status) : Type 0 where
   pub status : s ≡ verdict_status e.status
   pub done : contents new ≡ performed e.effects (contents old)
 
--- what was done where a run ends so: all of it; or up to some place, where the one effect under way may have broken off; or exactly what the bytes taken ask for, which are 2^32 where the input is too long; or nothing, where the store could not be read
+-- what was done where a run ends so: all of it; or up to some place, where the one effect under way may have broken off; or exactly what the bytes taken ask for, which are 2^32 where the input is too long; or what the lines ask for before the one at which the disk failed; or nothing, where the store could not be read
 abbrev pub Did : Course → List ℕ → Option (List ℕ) → World → World → Status → Type 0
 Did c bytes rest old new status.ReadFault = (Rose old.store.read_faults new.store.read_faults × (contents new ≡ contents old)) ⊎ GaveOut c bytes rest old new
 Did c bytes rest old new status.WriteFault = Partly (c.whole (lines_of bytes)).effects (contents old) (contents new)
 Did c bytes rest old new status.NoMemory = Partly (c.whole (lines_of bytes)).effects (contents old) (contents new)
 Did c bytes rest old new status.TooLong = (g : GaveOut c bytes rest old new) × (length g.taken ≡ most_taken)
+Did c bytes rest old new status.DiskFault = HeldUp c bytes old new
 Did c bytes rest old new s = Finished (c.whole (lines_of bytes)) old new s
 
 -- the lines of the first bytes were answered, and behind them no more was taken than a line and what one read gives
@@ -105,10 +118,11 @@ pub record TookLittle (c : Course) (bytes : List ℕ) (rest : Option (List ℕ))
 abbrev pub Took : Course → List ℕ → Option (List ℕ) → World → World → Type 0
 Took c bytes rest old new = (rest ≡ Some bytes) ⊎ TookLittle c bytes rest old new
 
--- a fault comes only where a count of faults rose: i and j are those of the input
+-- a fault comes only where a count of faults rose: i and j are those of the input; and no command that uses no disk is held up by one
 abbrev pub Cause : Status → ℕ → ℕ → World → World → Type 0
 Cause status.ReadFault i j old new = Rose i j ⊎ Rose old.store.read_faults new.store.read_faults
 Cause status.WriteFault i j old new = Rose old.store.write_faults new.store.write_faults ⊎ Rose old.output.faults new.output.faults
+Cause status.DiskFault i j old new = ⊥
 Cause s i j old new = Unit {0}
 
 -- no count of faults rose: i and j are those of the input
@@ -123,6 +137,7 @@ abbrev pub RanBy : Course → List ℕ → Option (List ℕ) → World → World
 RanBy c bytes rest old new (Ok v) = Ended (c.whole (lines_of bytes)) old new (Ok v)
 RanBy c bytes rest old new (Err halt.InputFault) = GaveOut c bytes rest old new
 RanBy c bytes rest old new (Err halt.TooLong) = (g : GaveOut c bytes rest old new) × (length g.taken ≡ most_taken)
+RanBy c bytes rest old new (Err halt.DiskFault) = HeldUp c bytes old new
 RanBy c bytes rest old new (Err (halt.Stopped e)) = Partly (c.whole (lines_of bytes)).effects (contents old) (contents new)
 
 -- what a command did, whatever its input tells: some lines were answered in turn

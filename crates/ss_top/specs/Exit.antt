@@ -15,3 +15,5 @@ exit_number status.ReadFault = 6
 exit_number status.WriteFault = 7
 exit_number status.NoMemory = 8
 exit_number status.TooLong = 9
+exit_number status.DiskFault = 10
+exit_number status.JournalFull = 11

@@ -16,7 +16,7 @@ ghost use Rattle.ss_top.specs.Course.{RanBy, RanSome, Took, by_lines, status_of,
 
 use crate::accepted;
 use crate::definition::{Understood, read_definition};
-use course::{Halt, Verdict, answer_lines};
+use course::{Halt, NoDisk, Verdict, answer_lines};
 use effects::Stop;
 use outside::{Folders, Sink, Source};
 use ss_print::refuse;
@@ -99,7 +99,7 @@ pub(crate) fn apply<F: Folders, S: Source, K: Sink, L: Ledger>(
     ensures steps { steps.new ≡ steps.old }
 {
     match open(alloc, store, output, name)? {
-        Folder::Open(mut tables) => answer_lines(alloc, &mut tables, store, input, output, steps),
+        Folder::Open(mut tables) => answer_lines(alloc, &mut tables, store, input, output, &mut NoDisk, steps),
         Folder::Ended(verdict) => Ok(verdict),
     }
 }

@@ -6,6 +6,7 @@
 
 mod accepted;
 mod apply;
+mod asked;
 mod check;
 mod command;
 mod definition;

@@ -13,7 +13,7 @@ ghost use Rattle.ss_top.specs.Steps.{IdleRun};
 ghost use Rattle.ss_top.specs.Course.{RanBy, RanSome, Took, by_lines, status_of, IsWholeInput};
 
 use crate::opening::{Opened, open};
-use course::{Halt, Verdict, answer_lines};
+use course::{Halt, NoDisk, Verdict, answer_lines};
 use effects::Stop;
 use outside::{Folders, Sink, Source};
 use ss_text::{Steps, Text};
@@ -42,7 +42,7 @@ pub(crate) fn maintain<F: Folders, S: Source, K: Sink, L: Ledger>(
 {
     match open(alloc, store, output, name, steps)? {
         Opened::Open(mut view) => {
-            let ending = answer_lines(alloc, &mut view, store, input, output, steps);
+            let ending = answer_lines(alloc, &mut view, store, input, output, &mut NoDisk, steps);
             drop(view);
             ending
         }

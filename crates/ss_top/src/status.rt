@@ -28,6 +28,10 @@ pub enum Status {
     NoMemory,
     /// The input is too long.
     TooLong,
+    /// The disk failed on which accepted changes are kept.
+    DiskFault,
+    /// No more changes can be kept.
+    JournalFull,
 }
 
 impl Status {
@@ -48,6 +52,8 @@ impl Status {
             Status::WriteFault => 7,
             Status::NoMemory => 8,
             Status::TooLong => 9,
+            Status::DiskFault => 10,
+            Status::JournalFull => 11,
         }
     }
 }
@@ -63,6 +69,7 @@ fn status_of_verdict(verdict: Verdict) -> Status
         Verdict::BadDefinition => Status::BadDefinition,
         Verdict::BadCatalogue => Status::BadCatalogue,
         Verdict::NoView => Status::NoView,
+        Verdict::JournalFull => Status::JournalFull,
     }
 }
 
@@ -74,6 +81,7 @@ pub(crate) fn status_of_ending(ending: Result<Verdict, Halt>) -> Status
         Ok(verdict) => status_of_verdict(verdict),
         Err(Halt::InputFault) => Status::ReadFault,
         Err(Halt::TooLong) => Status::TooLong,
+        Err(Halt::DiskFault) => Status::DiskFault,
         Err(Halt::Stopped(Stop::ReadFault)) => Status::ReadFault,
         Err(Halt::Stopped(Stop::WriteFault)) => Status::WriteFault,
         Err(Halt::Stopped(Stop::NoMemory)) => Status::NoMemory,

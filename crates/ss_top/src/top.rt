@@ -13,7 +13,8 @@ ghost use Rattle.ss_top.specs.Promises.{Takes};
 ghost use Rattle.ss_top.specs.Clauses.{DoesCourse, IsComplete, Checks, Shows, Maintains, StopsAtSync, Verifies, TellsDifference, Applies, AppliesNothing, Loads, ReadsWhole, KeepsAll, KeepsOthers, LeavesBetween, TakesLittle, TakesSteps};
 
 use crate::Status;
-use crate::command::run_words;
+use crate::asked::command_of;
+use crate::command::run_command;
 use crate::status::status_of_ending;
 use outside::{Folders, Sink, Source};
 use ss_text::{Steps, Text};
@@ -31,7 +32,7 @@ use std::sync::ledger::Ledger;
 /// and deletes outside groups, `maintain` takes no more of them than the sum, over the changes that the catalogue does
 /// not refuse, of four for each combination of flat rows that the changed row is part of and four for each such flat
 /// row.
-#[tactic(auto, using(crate::proofs::RunLemmas::by_status, crate::proofs::RunLemmas::by_cause))]
+#[tactic(auto, using(crate::proofs::RunLemmas::by_status))]
 pub fn run<F: Folders, S: Source, K: Sink, L: Ledger>(
     alloc: Global,
     words: &[Text],
@@ -76,6 +77,7 @@ pub fn run<F: Folders, S: Source, K: Sink, L: Ledger>(
     ensures steps { counts (asked_of words.now) ≡ false → steps.new ≡ steps.old }
     ensures within { TakesSteps words.now (S.rest input.old) (world_of (F.state store.old) (K.state output.old)) steps.old steps.new result }
 {
-    let ending = run_words(alloc, words, store, input, output, steps);
+    let command = command_of(words);
+    let ending = run_command(alloc, command, store, input, output, steps);
     status_of_ending(ending)
 }

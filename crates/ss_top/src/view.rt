@@ -31,7 +31,7 @@ ghost use Rattle.ss_top.specs.Limits.{IsWithin};
 ghost use Rattle.ss_top.specs.Answers.{step, finish, answer, by_row, by_change, by_fault, in_group, more_broken, refusing, syncing, sync_effects, view_effects, sync_count, end_view};
 
 use crate::word::word_of;
-use course::{LineHandler, Verdict};
+use course::{LineHandler, LineStop, NoDisk, Verdict};
 use csv_catalog::save_changed;
 use effects::Stop;
 use outside::{Folders, Sink};
@@ -459,12 +459,19 @@ fn refused_fields(alloc: Global, change: &Change, refused: &Refused) -> Result<R
     }
 }
 
-impl LineHandler for OpenView {
-    ghost use Rattle.std.specs.Prelude.{true};
+impl LineHandler<NoDisk> for OpenView {
+    ghost use Rattle.std.specs.Prelude.{true, []};
+    ghost use Rattle.course.specs.Keeping.{no_log};
     ghost use Rattle.ss_top.specs.Answers.{step, finish};
     ghost use Rattle.ss_top.specs.Limits.{limit};
 
     ghost step = { step };
+
+    ghost log = { no_log };
+
+    ghost note = { λ view line. [] };
+
+    ghost ready = { λ view disk. Unit {0} };
 
     ghost limit = { limit };
 
@@ -477,9 +484,10 @@ impl LineHandler for OpenView {
         alloc: Global,
         store: &mut F,
         output: &mut K,
+        _disk: &mut NoDisk,
         line: &[u8],
         steps: &mut Steps<L>,
-    ) -> Result<Option<Verdict>, Stop> {
+    ) -> Result<Option<Verdict>, LineStop> {
         self.answer(alloc, store, output, line, steps)?;
         Ok(None)
     }

@@ -6,6 +6,7 @@ use Rattle.effects.specs.Effects.{World, contents, performed, Partly}
 use Rattle.effects.specs.declared.stop.Stop.{Stop}
 use Rattle.effects.proofs.EffectLemmas.{partly_more}
 use Rattle.course.specs.declared.status.Verdict.TheVariants as verdict
+use Rattle.course.specs.declared.status.LineStop.TheVariants as line_stop
 use Rattle.course.specs.Answering.{Answered}
 use Rattle.ss_print.specs.Printing.{refuses}
 use Rattle.view_apply.specs.Applying.{ApplyState, taken, reply, step}
@@ -19,12 +20,12 @@ module _ (s u : ApplyState) (line : List ℕ) where
   line_refused fields w v e h = subst (λ (r : Result ApplyState Row). Answered (reply r) w v u (Ok (Some verdict.BadCatalogue))) (sym e) (h, refl)
 
   -- it was not, and its refusal broke off
-  pub line_stopped : (w v : World) (e : Stop) → Partly [] (contents w) (contents v) → Answered (step s line) w v u (Err e)
+  pub line_stopped : (w v : World) (e : Stop) → Partly [] (contents w) (contents v) → Answered (step s line) w v u (Err (line_stop.Stopped e))
   line_stopped w v e h = by_answer (taken s line) h
     where
-      by_answer : (r : Result ApplyState Row) → Partly [] (contents w) (contents v) → Answered (reply r) w v u (Err e)
+      by_answer : (r : Result ApplyState Row) → Partly [] (contents w) (contents v) → Answered (reply r) w v u (Err (line_stop.Stopped e))
       by_answer (Ok a) h = h
       by_answer (Err fields) h = partly_more [] (refuses fields ∷ []) (contents w) (contents v) h
 
-  pub refusal_stopped : (fields : Row) (w v : World) (e : Stop) → taken s line ≡ Err fields → Partly (refuses fields ∷ []) (contents w) (contents v) → Answered (step s line) w v u (Err e)
-  refusal_stopped fields w v e is h = subst (λ (r : Result ApplyState Row). Answered (reply r) w v u (Err e)) (sym is) h
+  pub refusal_stopped : (fields : Row) (w v : World) (e : Stop) → taken s line ≡ Err fields → Partly (refuses fields ∷ []) (contents w) (contents v) → Answered (step s line) w v u (Err (line_stop.Stopped e))
+  refusal_stopped fields w v e is h = subst (λ (r : Result ApplyState Row). Answered (reply r) w v u (Err (line_stop.Stopped e))) (sym is) h

@@ -14,7 +14,7 @@ ghost use Rattle.view_apply.specs.Applying.{just_read, by_applying, by_reading, 
 
 use crate::refused::{apply_fields, escape_fields, script_fields};
 use change_script::{ApplyFault, ScriptFault, ScriptLine, apply_line, read_script_line};
-use course::{LineHandler, Verdict};
+use course::{LineHandler, LineStop, NoDisk, Verdict};
 use effects::Stop;
 use flow_law::{Shape, TableLine, Tables};
 use outside::{Folders, Sink};
@@ -210,11 +210,18 @@ impl Applying {
     }
 }
 
-impl LineHandler for Applying {
-    ghost use Rattle.std.specs.Prelude.{Some, false};
+impl LineHandler<NoDisk> for Applying {
+    ghost use Rattle.std.specs.Prelude.{Some, false, []};
+    ghost use Rattle.course.specs.Keeping.{no_log};
     ghost use Rattle.view_apply.specs.Applying.{step, finish};
 
     ghost step = { step };
+
+    ghost log = { no_log };
+
+    ghost note = { λ a line. [] };
+
+    ghost ready = { λ a d. Unit {0} };
 
     ghost limit = { λ a line. Some 0 };
 
@@ -228,9 +235,10 @@ impl LineHandler for Applying {
         alloc: Global,
         _store: &mut F,
         output: &mut K,
+        _disk: &mut NoDisk,
         line: &[u8],
         _steps: &mut Steps<L>,
-    ) -> Result<Option<Verdict>, Stop> {
+    ) -> Result<Option<Verdict>, LineStop> {
         match self.take(alloc, line)? {
             None => Ok(None),
             Some(fields) => {

@@ -1,5 +1,6 @@
 use Rattle.std.proofs.lemmas.Result.{err_from_is_err_and}
 use Rattle.effects.specs.Effects.{world_of}
+use Rattle.course.proofs.KeepingLemmas.{never_held_up}
 use Rattle.ss_top.specs.Applies.{apply_opening}
 use Rattle.ss_top.proofs.ApplyLemmas.{opening_stopped, drove_whole, drove_can, took_applying}
 use Rattle.ss_top.proofs.apply.apply.Goals as goal
@@ -13,7 +14,7 @@ pub returns-in-Open-clause-whole : goal.returns-in-Open-clause-whole
 returns-in-Open-clause-whole g c = λ bytes given. drove_whole c.in-Open.tables bytes (g.S.Source.rest c.args.input.now) _ _ _ c.answer_lines.result c.answer_lines.ensures.whole (c.answer_lines.ensures.ran bytes given) given
 
 pub returns-in-Open-clause-can : goal.returns-in-Open-clause-can
-returns-in-Open-clause-can g c = drove_can c.in-Open.tables _ _ c.answer_lines.result c.answer_lines.ensures.some
+returns-in-Open-clause-can g c = drove_can c.in-Open.tables _ _ c.answer_lines.result c.answer_lines.ensures.some (never_held_up _ _ _ c.answer_lines.ensures.disk)
 
 pub returns-in-Open-clause-took : goal.returns-in-Open-clause-took
 returns-in-Open-clause-took g c = λ t bytes d told given defined.

@@ -2,6 +2,7 @@ use Rattle.std.proofs.lemmas.Result.{err_from_is_err_and}
 use Rattle.effects.specs.Effects.{world_of}
 use Rattle.tab_lines.specs.Lines.{lines_of}
 use Rattle.ss_top.specs.Opening.{opening}
+use Rattle.course.proofs.KeepingLemmas.{never_held_up}
 use Rattle.ss_top.proofs.LimitLemmas.{unspent, drove_steps}
 use Rattle.ss_top.proofs.MaintainLemmas.{opening_stopped, drove_whole, drove_can, took_answering}
 use Rattle.ss_top.proofs.maintain.maintain.Goals as goal
@@ -15,7 +16,7 @@ pub returns-in-Open-clause-whole : goal.returns-in-Open-clause-whole
 returns-in-Open-clause-whole g c = λ bytes given. drove_whole c.in-Open.view bytes (g.S.Source.rest c.args.input.now) _ c.answer_lines-ending.result c.answer_lines-ending.ensures.whole given
 
 pub returns-in-Open-clause-can : goal.returns-in-Open-clause-can
-returns-in-Open-clause-can g c = drove_can c.in-Open.view _ _ c.answer_lines-ending.result c.answer_lines-ending.ensures.some
+returns-in-Open-clause-can g c = drove_can c.in-Open.view _ _ c.answer_lines-ending.result c.answer_lines-ending.ensures.some (never_held_up _ _ _ c.answer_lines-ending.ensures.disk)
 
 pub returns-in-Open-clause-took : goal.returns-in-Open-clause-took
 returns-in-Open-clause-took g c = λ t bytes d told given defined.

@@ -1,0 +1,62 @@
+//! What the words ask for.
+ghost use Rattle.std.specs.Prelude.{◌≡◌};
+ghost use Rattle.ss_top.specs.Commands.{asked_of, asked_by, command_named, command_counted};
+
+use load_run::{changes_of, seed_of};
+use ss_text::{Text, table_label_legal};
+
+/// A command that words ask for.
+#[derive(Clone, Copy)]
+pub(crate) enum Command<'a> {
+    Check(&'a Text),
+    Show(&'a Text),
+    Maintain(&'a Text),
+    Verify(&'a Text),
+    Apply(&'a Text),
+    Load { changes: u32, seed: u32 },
+    Other,
+}
+
+// The command that these words ask for.
+pub(crate) fn command_of(words: &[Text]) -> Command<'_>
+    ensures { asked_by result ≡ asked_of words.now }
+{
+    match words {
+        [word, name] if table_label_legal(name) => named(word, name),
+        [word, changes, seed] => counted(word, changes, seed),
+        _ => Command::Other,
+    }
+}
+
+// A word with a legal name.
+fn named<'a>(word: &Text, name: &'a Text) -> Command<'a>
+    ensures { asked_by result ≡ command_named word.now name.now }
+{
+    let word = word.as_slice();
+    if word == b"check".as_slice() {
+        Command::Check(name)
+    } else if word == b"show".as_slice() {
+        Command::Show(name)
+    } else if word == b"maintain".as_slice() {
+        Command::Maintain(name)
+    } else if word == b"verify".as_slice() {
+        Command::Verify(name)
+    } else if word == b"apply".as_slice() {
+        Command::Apply(name)
+    } else {
+        Command::Other
+    }
+}
+
+// A word with two numbers.
+fn counted(word: &Text, changes: &Text, seed: &Text) -> Command<'static>
+    ensures { asked_by result ≡ command_counted word.now changes.now seed.now }
+{
+    if word.as_slice() != b"load".as_slice() {
+        return Command::Other;
+    }
+    match (changes_of(changes), seed_of(seed)) {
+        (Some(changes), Some(seed)) => Command::Load { changes, seed },
+        _ => Command::Other,
+    }
+}
