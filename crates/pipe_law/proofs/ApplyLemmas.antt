@@ -14,8 +14,8 @@ use Rattle.change_script.specs.declared.applying.ApplyFault.{ApplyFault}
 use Rattle.change_script.specs.declared.applying.ApplyFault.TheVariants.{KeyLength}
 use Rattle.change_script.specs.Applied.{wrong_key, key_fault, line_fault, unless, applied_line, applied_behind, applied}
 use Rattle.change_script.specs.Reading.{HasKeyText}
-use Rattle.ss_top.specs.Answers.{Said, Refuses, Begins, Holds, Aborts, Scripts, Syncs}
-use Rattle.ss_top.specs.Promises.{TakesBy}
+use Rattle.view_answers.specs.Answers.{Said, Refuses, Begins, Holds, Aborts, Scripts, Syncs}
+use Rattle.upkeep_law.specs.Promises.{TakesBy}
 use Rattle.pipe_law.proofs.TellingLemmas.{lines_in}
 
 -- a key of as many texts as there are constant columns has a text

@@ -32,18 +32,19 @@ use Rattle.view_session.specs.Session.{tables_of}
 use Rattle.view_session.proofs.UpkeepLemmas.{meaning_in_order}
 use Rattle.view_apply.specs.Applying as applying
 use Rattle.view_apply.specs.Scripts.{script_said}
-use Rattle.ss_top.specs.Answers.{answer, finish, step}
-use Rattle.ss_top.specs.Applies.{IsApplied, apply_opening, named_by}
+use Rattle.view_answers.specs.Answers.{answer, finish, step}
+use Rattle.plain_commands.specs.Applies.{IsApplied, apply_opening, named_by}
 use Rattle.ss_top.specs.Commands.{Apply}
-use Rattle.ss_top.specs.Course.{by_lines}
-use Rattle.ss_top.specs.Open.{OpenValue}
-use Rattle.ss_top.specs.Opening.{IsDefinition}
-use Rattle.ss_top.specs.Promises.{EachTakes, IsMaintained, effects_so_far, folder_of, opening_of, printed_by, TakesBy, view_at_first}
+use Rattle.run_course.specs.Course.{by_lines}
+use Rattle.view_stages.specs.Open.{OpenValue}
+use Rattle.view_stages.specs.Opening.{IsDefinition}
+use Rattle.upkeep_law.specs.Promises.{EachTakes, IsMaintained, effects_so_far, opening_of, printed_by, TakesBy}
+use Rattle.view_stages.specs.Opened.{folder_of, view_at_first}
 use Rattle.ss_top.specs.Runs.{course_of}
-use Rattle.ss_top.specs.Stages.{DefinitionOrRefusal, files_of_view}
-use Rattle.ss_top.specs.declared.status.Status.{Status}
-use Rattle.ss_top.proofs.AnswerCases.{answer_query}
-use Rattle.ss_top.proofs.TakeLemmas.{definition_of_profile, meaning_fits_form}
+use Rattle.view_stages.specs.Stages.{DefinitionOrRefusal, files_of_view}
+use Rattle.run_course.specs.declared.status.Status.{Status}
+use Rattle.view_answers.proofs.AnswerCases.{answer_query}
+use Rattle.upkeep_law.proofs.TakeLemmas.{definition_of_profile, meaning_fits_form}
 use Rattle.pipe_law.specs.Law.{HavePlainHeaders, IsPiped, PipedViewsFollow}
 use Rattle.pipe_law.proofs.ApplyLemmas.{applied_both, keys_applied, tables_applied, takes_along}
 use Rattle.pipe_law.proofs.CourseLemmas.{applying_ends}

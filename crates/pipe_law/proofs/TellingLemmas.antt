@@ -23,12 +23,13 @@ use Rattle.source_law.proofs.AfterLemmas.{Silent}
 use Rattle.source_law.proofs.SavingLemmas.{saved_silent}
 use Rattle.ss_print.specs.Printing.{says, lines_text, script_rows, prints_script, prints_synced}
 use Rattle.view_apply.specs.Scripts.{script_said}
-use Rattle.ss_top.specs.Answers.{Answer, Said, Refuses, Begins, Holds, Aborts, Scripts, Syncs, answer, end_effects, end_view, finish, sync_effects}
-use Rattle.ss_top.specs.Open.{OpenValue}
-use Rattle.ss_top.specs.Opening.{opening_effects}
-use Rattle.ss_top.specs.Promises.{printed_by}
-use Rattle.ss_top.proofs.AnswerCases.{answer_case, end_case}
-use Rattle.ss_top.proofs.KeptLemmas.{printed_append}
+use Rattle.view_answers.specs.Answers.{Answer, Said, Refuses, Begins, Holds, Aborts, Scripts, Syncs, answer, end_effects, end_view, finish}
+use Rattle.view_stages.specs.Syncs.{sync_effects}
+use Rattle.view_stages.specs.Open.{OpenValue}
+use Rattle.view_stages.specs.Opening.{opening_effects}
+use Rattle.upkeep_law.specs.Promises.{printed_by}
+use Rattle.view_answers.proofs.AnswerCases.{answer_case, end_case}
+use Rattle.upkeep_law.proofs.KeptLemmas.{printed_append}
 use Rattle.view_session.specs.Session.{tables_of, lines_to, working}
 use Rattle.schema_model.specs.Changes.{after}
 use Rattle.pipe_law.proofs.LineLemmas.{HasFields, rows_said, text_said, passed_first, line_first}

@@ -21,13 +21,14 @@ use Rattle.view_folder.specs.Held.{held}
 use Rattle.view_folder.specs.Sync.{Holds}
 use Rattle.view_folder.specs.TableFiles.{table_records, table_files}
 use Rattle.view_apply.specs.Scripts.{script_said}
-use Rattle.ss_top.specs.declared.status.Status.{Status}
-use Rattle.ss_top.specs.Applies.{IsApplied}
+use Rattle.run_course.specs.declared.status.Status.{Status}
+use Rattle.plain_commands.specs.Applies.{IsApplied}
 use Rattle.ss_top.specs.Commands.{Apply}
-use Rattle.ss_top.specs.Opening.{IsDefinition}
-use Rattle.ss_top.specs.Promises.{IsMaintained, folder_of}
+use Rattle.view_stages.specs.Opening.{IsDefinition}
+use Rattle.upkeep_law.specs.Promises.{IsMaintained}
+use Rattle.view_stages.specs.Opened.{folder_of}
 use Rattle.ss_top.specs.Runs.{course_of}
-use Rattle.ss_top.specs.Stages.{DefinitionOrRefusal, files_of_view}
+use Rattle.view_stages.specs.Stages.{DefinitionOrRefusal, files_of_view}
 
 -- the headers of these tables do not begin with a byte order mark
 abbrev pub HavePlainHeaders : Shape → TablesValue → Type 0

@@ -1,5 +1,5 @@
 -- From what a command did to what is promised of a whole run.
-use Rattle.std.proofs.Common.{◌≡◌, ◌≢◌, ℕ, true, false, List, [], Option, Some, sym, ap, ◌∙◌, subst}
+use Rattle.std.proofs.Common.{◌≡◌, ◌≢◌, ℕ, true, false, List, [], Option, Some, refl, sym, ap, ◌∙◌, subst}
 use Rattle.std.specs.Prelude.{Result, Err, OnErr}
 use Rattle.std.specs.FinMap.{empty}
 use Rattle.ss_text.specs.Texts.{Text}
@@ -10,27 +10,28 @@ use Rattle.effects.specs.Effects.{World}
 use Rattle.course.specs.declared.status.Verdict.{Verdict}
 use Rattle.course.specs.declared.status.Halt.{Halt}
 use Rattle.course.specs.Answering.{BlamesRun}
-use Rattle.ss_top.specs.Commands.{Asked, Check, Show, Maintain, Verify, Apply, Load, Other, asked_of, uses_store, reads_input, can_end}
 use Rattle.std.proofs.lemmas.Bool.{false≢true}
-use Rattle.ss_top.specs.declared.status.Status.TheVariants as status
-use Rattle.ss_top.specs.Stages.{DefinitionOrRefusal}
-use Rattle.ss_top.specs.Course.{Course, Did, RanBy, RanSome, Took, Finished, status_of}
-use Rattle.ss_top.specs.Runs.{IsAsked, course_of, Told}
-use Rattle.ss_top.specs.Steps.{IdleRun}
-use Rattle.ss_top.specs.Clauses.{DoesCourse, IsComplete, Checks, Shows, Maintains, StopsAtSync, Verifies, TellsDifference, Applies, AppliesNothing, Loads, KeepsAll, KeepsOthers, LeavesBetween, TakesLittle, TakesSteps}
-use Rattle.ss_top.specs.Limits.{StepsOf}
 use Rattle.effects.specs.declared.stop.Stop.TheVariants as stop
 use Rattle.course.specs.declared.status.Halt.TheVariants as halt
-use Rattle.ss_top.proofs.RunLemmas.{by_status, finishes, by_fault}
-use Rattle.ss_top.proofs.ShownLemmas.{did_show}
-use Rattle.ss_top.proofs.CheckedLemmas.{did_check, did_verify}
-use Rattle.ss_top.proofs.LoadedLemmas.{did_load}
-use Rattle.ss_top.proofs.MaintainedLemmas.{did_maintain, did_cut_off}
-use Rattle.ss_top.proofs.AppliedLemmas.{did_apply}
-use Rattle.ss_top.proofs.RefusedLemmas.{did_differ, did_refuse}
-use Rattle.ss_top.proofs.WithinLemmas.{did_keep}
-use Rattle.ss_top.proofs.StopLemmas.{did_leave, did_nothing}
-use Rattle.ss_top.proofs.DefinitionLemmas.{is_defined}
+use Rattle.run_course.specs.declared.status.Status.TheVariants as status
+use Rattle.run_course.specs.Course.{Course, Did, RanBy, RanSome, Took, Finished, status_of}
+use Rattle.run_course.specs.Idle.{IdleRun}
+use Rattle.run_course.proofs.RunLemmas.{by_status, finishes, by_fault}
+use Rattle.view_stages.specs.Stages.{DefinitionOrRefusal}
+use Rattle.plain_commands.proofs.ShownLemmas.{did_show}
+use Rattle.plain_commands.proofs.CheckedLemmas.{did_check, did_verify}
+use Rattle.plain_commands.proofs.LoadedLemmas.{did_load}
+use Rattle.plain_commands.proofs.AppliedLemmas.{did_apply}
+use Rattle.plain_commands.proofs.RefusedLemmas.{did_differ}
+use Rattle.plain_commands.proofs.StopLemmas.{did_nothing}
+use Rattle.upkeep_law.proofs.MaintainedLemmas.{did_maintain, did_cut_off}
+use Rattle.ss_top.specs.Commands.{Asked, Check, Show, Maintain, Verify, Apply, Load, Other, asked_of, uses_store, reads_input, can_end}
+use Rattle.ss_top.specs.Runs.{IsAsked, course_of, Told, StepsOf}
+use Rattle.ss_top.specs.Clauses.{DoesCourse, IsComplete, Checks, Shows, Maintains, StopsAtSync, Verifies, TellsDifference, Applies, AppliesNothing, Loads, KeepsAll, KeepsOthers, LeavesBetween, TakesLittle, TakesSteps}
+use Rattle.ss_top.proofs.RefusedLemmas.{did_refuse}
+use Rattle.ss_top.proofs.KeepLemmas.{did_keep}
+use Rattle.ss_top.proofs.LeaveLemmas.{did_leave}
+use Rattle.ss_top.proofs.DefinedLemmas.{is_defined}
 
 -- a tree where nothing is
 no_tree : Tree

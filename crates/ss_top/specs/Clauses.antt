@@ -5,18 +5,21 @@ use Rattle.tab_lines.specs.Lines.{lines_of}
 use Rattle.tab_lines.specs.Taking.{most_taken}
 use Rattle.outside.specs.Tree.{Tree}
 use Rattle.effects.specs.Effects.{World, contents}
-use Rattle.ss_top.specs.declared.status.Status.{Status}
-use Rattle.ss_top.specs.declared.status.Status.TheVariants as status
+use Rattle.run_course.specs.declared.status.Status.{Status}
+use Rattle.run_course.specs.declared.status.Status.TheVariants as status
+use Rattle.run_course.specs.Course.{Course, Did, Took, NoFault, Finished, IsReadWhole, is_done_status, is_fault_status, is_refused_status, is_unread_status, GaveOutStatus}
+use Rattle.run_course.specs.Idle.{Unchanged}
+use Rattle.view_stages.specs.Stages.{DefinitionOrRefusal}
+use Rattle.view_stages.specs.Opening.{IsDefinition, definition_bytes, opening}
+use Rattle.view_answers.specs.Limits.{StepsBehind}
+use Rattle.plain_commands.specs.Applies.{IsApplied}
+use Rattle.plain_commands.specs.Loads.{IsLoaded}
+use Rattle.plain_commands.specs.Promises.{IsChecked, IsShown, IsVerified, Differs}
+use Rattle.upkeep_law.specs.Promises.{IsMaintained, IsCutOff}
 use Rattle.ss_top.specs.Commands.{Check, Show, Maintain, Verify, Apply, Load, asked_of, uses_store, reads_input}
-use Rattle.ss_top.specs.Stages.{DefinitionOrRefusal}
-use Rattle.ss_top.specs.Opening.{IsDefinition, definition_bytes, opening}
-use Rattle.ss_top.specs.Limits.{StepsBehind}
-use Rattle.ss_top.specs.Course.{Course, Did, Took, NoFault, Finished, IsReadWhole, is_done_status, is_fault_status, is_refused_status, is_unread_status, GaveOutStatus}
 use Rattle.ss_top.specs.Runs.{IsAsked, IsCourse, Told}
 use Rattle.ss_top.specs.Between.{IsLeftBetween}
-use Rattle.ss_top.specs.Applies.{IsApplied}
-use Rattle.ss_top.specs.Loads.{IsLoaded}
-use Rattle.ss_top.specs.Promises.{IsChecked, IsShown, IsMaintained, IsCutOff, IsVerified, Differs, Unchanged, KeepsBut}
+use Rattle.ss_top.specs.Promises.{KeepsBut}
 
 -- the definition of a name, over a store that tells its tree
 pub record Defines (name : Text) (w : World) (t : Tree) (d : DefinitionOrRefusal) : Type 0 where

@@ -3,10 +3,10 @@ use Rattle.std.specs.Prelude.{ℕ, Bool, true, false, List, [], ◌∷◌, Optio
 use Rattle.ss_text.specs.Texts.{Text, text_eq}
 use Rattle.ss_text.specs.Label.{is_table_label}
 use Rattle.load_run.specs.Numbers.{changes_of, seed_of}
+use Rattle.run_course.specs.declared.status.Status.{Status}
+use Rattle.run_course.specs.Statuses.{can_check, can_show, can_maintain, can_apply, can_load, can_refuse}
 use Rattle.ss_top.specs.declared.asked.Command.{Command}
 use Rattle.ss_top.specs.declared.asked.Command.TheVariants as command
-use Rattle.ss_top.specs.declared.status.Status.{Status}
-use Rattle.ss_top.specs.declared.status.Status.TheVariants as status
 
 -- a command with the name of a view, a run of so many changes with a seed, or words that are none of the forms
 pub data Asked : Type 0 where
@@ -80,41 +80,6 @@ abbrev pub counts : Asked → Bool
 counts (Maintain name) = true
 counts (Load changes seed) = true
 counts asked = false
-
--- the statuses that any command can give
-abbrev pub can_always : Status → Bool
-can_always status.WriteFault = true
-can_always status.NoMemory = true
-can_always s = false
-
-abbrev pub can_check : Status → Bool
-can_check status.Done = true
-can_check status.BadDefinition = true
-can_check status.ReadFault = true
-can_check s = can_always s
-
-abbrev pub can_show : Status → Bool
-can_show status.BadCatalogue = true
-can_show status.NoView = true
-can_show s = can_check s
-
-abbrev pub can_maintain : Status → Bool
-can_maintain status.SomeRefused = true
-can_maintain status.TooLong = true
-can_maintain s = can_show s
-
-abbrev pub can_apply : Status → Bool
-can_apply status.BadCatalogue = true
-can_apply status.TooLong = true
-can_apply s = can_check s
-
-abbrev pub can_load : Status → Bool
-can_load status.Done = true
-can_load s = can_always s
-
-abbrev pub can_refuse : Status → Bool
-can_refuse status.Usage = true
-can_refuse s = can_always s
 
 -- the statuses that what is asked can give, whatever the store, the input and the output do
 abbrev pub can_end : Asked → Status → Bool

@@ -1,19 +1,20 @@
 -- The course of a run by what is asked.
-use Rattle.std.specs.Prelude.{◌≡◌, Bool, true, [], ◌∷◌, Option, Some}
+use Rattle.std.specs.Prelude.{◌≡◌, Bool, true, [], ◌∷◌, Option, Some, ℕ, List}
 use Rattle.outside.specs.Tree.{Tree}
 use Rattle.course.specs.declared.status.Verdict.TheVariants as verdict
 use Rattle.course.specs.Answering.{ending}
-use Rattle.ss_top.specs.Commands.{Asked, Check, Show, Maintain, Verify, Apply, Load, Other}
 use Rattle.ss_print.specs.Printing.{prints_usage}
-use Rattle.ss_top.specs.Stages.{DefinitionOrRefusal}
-use Rattle.ss_top.specs.Opening.{IsDefinition, definition_bytes, opening, done_at_once}
-use Rattle.ss_top.specs.Checking.{checked}
-use Rattle.ss_top.specs.Verifying.{verified}
-use Rattle.ss_top.specs.Loads.{loaded}
-use Rattle.ss_top.specs.Answers.{step, finish}
-use Rattle.ss_top.specs.Applies.{apply_opening}
 use Rattle.view_apply.specs.Applying as applying
-use Rattle.ss_top.specs.Course.{Course, unread, by_lines}
+use Rattle.run_course.specs.Course.{Course, unread, by_lines}
+use Rattle.view_stages.specs.Stages.{DefinitionOrRefusal}
+use Rattle.view_stages.specs.Opening.{IsDefinition, definition_bytes, opening, done_at_once}
+use Rattle.view_answers.specs.Answers.{step, finish}
+use Rattle.view_answers.specs.Limits.{StepsBehind}
+use Rattle.plain_commands.specs.Checking.{checked}
+use Rattle.plain_commands.specs.Verifying.{verified}
+use Rattle.plain_commands.specs.Loads.{loaded}
+use Rattle.plain_commands.specs.Applies.{apply_opening}
+use Rattle.ss_top.specs.Commands.{Asked, Check, Show, Maintain, Verify, Apply, Load, Other}
 
 -- what the definition that is asked for is
 abbrev pub IsAsked : Asked → Tree → DefinitionOrRefusal → Type 0
@@ -49,3 +50,8 @@ pub record IsCourse (a : Asked) (t : Tree) (c : Course) : Type 0 where
 -- the content is told, where it is wanted
 abbrev pub Told : {A : Type 0} → Bool → Option A → A → Type 0
 Told wanted content x = wanted ≡ true → content ≡ Some x
+
+-- what is asked takes no more steps than that, where it is `maintain`
+abbrev pub StepsOf : Asked → Tree → DefinitionOrRefusal → List (List ℕ) → ℕ → ℕ → Type 0
+StepsOf (Maintain name) t d ls i j = StepsBehind (opening t d) ls i j
+StepsOf asked t d ls i j = Unit {0}

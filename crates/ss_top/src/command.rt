@@ -9,26 +9,22 @@ ghost use Rattle.course.specs.declared.status.Verdict.TheVariants.{Usage};
 ghost use Rattle.effects.specs.Blame.{Blames};
 ghost use Rattle.ss_print.specs.Printing.{prints_usage};
 ghost use Rattle.ss_top.specs.Commands.{asked_by, uses_store, only_reads, reads_input, counts, can_end};
-ghost use Rattle.ss_top.specs.Limits.{StepsOf};
-ghost use Rattle.ss_top.specs.Stages.{DefinitionOrRefusal};
-ghost use Rattle.ss_top.specs.Course.{RanBy, RanSome, Took, status_of, IsWholeInput};
+ghost use Rattle.ss_top.specs.Runs.{StepsOf};
+ghost use Rattle.view_stages.specs.Stages.{DefinitionOrRefusal};
+ghost use Rattle.run_course.specs.Course.{RanBy, RanSome, Took, status_of, IsWholeInput};
 ghost use Rattle.ss_top.specs.Runs.{IsAsked, course_of, Told};
-ghost use Rattle.ss_top.specs.Steps.{IdleRun};
+ghost use Rattle.run_course.specs.Idle.{IdleRun};
 
-use crate::apply::apply;
 use crate::asked::Command;
-use crate::check::check;
-use crate::load::load;
-use crate::maintain::maintain;
-use crate::show::show;
-use crate::verify::verify;
 use course::{Halt, Verdict};
 use effects::Stop;
 use outside::{Folders, Sink, Source};
+use plain_commands::{apply, check, load, show, verify};
 use ss_print::print_usage;
 use ss_text::Steps;
 use std::alloc::Global;
 use std::sync::ledger::Ledger;
+use view_answers::maintain;
 
 // Prints which words are asked for.
 #[tactic(auto, using(effects::proofs::BlameLemmas::sink_no_read))]
@@ -48,7 +44,7 @@ fn usage<F: Folders, K: Sink>(
 }
 
 // Does what a command asks for.
-#[tactic(auto, using(crate::proofs::RunLemmas::ran_some, crate::proofs::RunLemmas::stopped_some, crate::proofs::RunLemmas::stop_can_check, crate::proofs::RunLemmas::stop_can_show, crate::proofs::RunLemmas::stop_can_load, crate::proofs::RunLemmas::stop_can_refuse, crate::proofs::RunLemmas::idle_other))]
+#[tactic(auto, using(run_course::proofs::RunLemmas::ran_some, run_course::proofs::RunLemmas::stopped_some, run_course::proofs::RunLemmas::stop_can_check, run_course::proofs::RunLemmas::stop_can_show, run_course::proofs::RunLemmas::stop_can_load, run_course::proofs::RunLemmas::stop_can_refuse, run_course::proofs::RunLemmas::idle_other))]
 pub(crate) fn run_command<F: Folders, S: Source, K: Sink, L: Ledger>(
     alloc: Global,
     command: Command,

@@ -4,24 +4,9 @@
 //! input, or a front of it where a call fails or memory runs out. It knows nothing of real folders or of standard streams.
 #![tactic(auto)]
 
-mod accepted;
-mod apply;
 mod asked;
-mod check;
 mod command;
-mod definition;
-mod load;
-mod maintain;
-mod meant;
-mod opening;
-mod show;
-mod sources;
-mod status;
-mod tables;
 mod top;
-mod verify;
-mod view;
-mod word;
 
-pub use status::Status;
+pub use run_course::Status;
 pub use top::run;

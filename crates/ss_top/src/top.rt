@@ -7,16 +7,15 @@ ghost use Rattle.schema_model.specs.Catalogue.{CatalogueValue};
 ghost use Rattle.valuation_meaning.specs.Meaning.{meaning};
 ghost use Rattle.view_session.specs.Session.{SessionState, tables_of, lines_to};
 ghost use Rattle.ss_top.specs.Commands.{asked_of, uses_store, only_reads, reads_input, counts, can_end};
-ghost use Rattle.ss_top.specs.Course.{Cause};
+ghost use Rattle.run_course.specs.Course.{Cause};
 ghost use Rattle.ss_top.specs.Runs.{IsDefined};
-ghost use Rattle.ss_top.specs.Promises.{Takes};
+ghost use Rattle.upkeep_law.specs.Promises.{Takes};
 ghost use Rattle.ss_top.specs.Clauses.{DoesCourse, IsComplete, Checks, Shows, Maintains, StopsAtSync, Verifies, TellsDifference, Applies, AppliesNothing, Loads, ReadsWhole, KeepsAll, KeepsOthers, LeavesBetween, TakesLittle, TakesSteps};
 
-use crate::Status;
 use crate::asked::command_of;
 use crate::command::run_command;
-use crate::status::status_of_ending;
 use outside::{Folders, Sink, Source};
+use run_course::{Status, status_of_ending};
 use ss_text::{Steps, Text};
 use std::alloc::Global;
 use std::sync::ledger::Ledger;
@@ -32,7 +31,7 @@ use std::sync::ledger::Ledger;
 /// and deletes outside groups, `maintain` takes no more of them than the sum, over the changes that the catalogue does
 /// not refuse, of four for each combination of flat rows that the changed row is part of and four for each such flat
 /// row.
-#[tactic(auto, using(crate::proofs::RunLemmas::by_status))]
+#[tactic(auto, using(run_course::proofs::RunLemmas::by_status))]
 pub fn run<F: Folders, S: Source, K: Sink, L: Ledger>(
     alloc: Global,
     words: &[Text],

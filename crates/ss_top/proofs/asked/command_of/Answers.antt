@@ -1,9 +1,9 @@
 use Rattle.std.proofs.Common.{◌∙◌, sym, arith}
-use Rattle.ss_top.proofs.RunLemmas.{two_words, three_words}
+use Rattle.ss_top.proofs.WordLemmas.{two_words, three_words}
 use Rattle.ss_top.proofs.asked.command_of.Goals as goal
 
 pub returns-in-len2 : goal.returns-in-len2
-returns-in-len2 g c = c.named.ensures ∙ sym (two_words c.args.words.now c.word-item.result c.name-item.result (omega arith) c.word-item.is c.name-item.is (sym c.table_label_legal.ensures ∙ c.if-table_label_legal.true))
+returns-in-len2 c = c.named.ensures ∙ sym (two_words c.args.words.now c.word-item.result c.name-item.result (omega arith) c.word-item.is c.name-item.is (sym c.table_label_legal.ensures ∙ c.if-table_label_legal.true))
 
 pub returns-in-len3 : goal.returns-in-len3
-returns-in-len3 g c = c.counted.ensures ∙ sym (three_words c.args.words.now c.word-item-then-words-lt4.result c.changes-item.result c.seed-item.result (omega arith) c.word-item-then-words-lt4.is c.changes-item.is c.seed-item.is)
+returns-in-len3 c = c.counted.ensures ∙ sym (three_words c.args.words.now c.word-item-then-words-lt4.result c.changes-item.result c.seed-item.result (omega arith) c.word-item-then-words-lt4.is c.changes-item.is c.seed-item.is)

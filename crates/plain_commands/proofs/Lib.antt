@@ -1,0 +1,9 @@
+pub mod AppliedLemmas
+pub mod ApplyLemmas
+pub mod CheckedLemmas
+pub mod LoadedLemmas
+pub mod RefusedLemmas
+pub mod ShownLemmas
+pub mod StopLemmas
+pub mod VerifyLemmas
+pub mod WithinLemmas

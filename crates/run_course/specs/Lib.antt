@@ -1,0 +1,4 @@
+pub mod Course
+pub mod Exit
+pub mod Idle
+pub mod Statuses

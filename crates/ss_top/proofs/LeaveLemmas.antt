@@ -1,0 +1,102 @@
+-- What a run left is between what is there before one of its stages and what is there behind it.
+use Rattle.std.proofs.Common.{◌≡◌, ℕ, List, ◌∷◌, ◌++◌, Option, None, Some, refl, ap, ◌∙◌}
+use Rattle.std.specs.Prelude.{Result, Ok, Err}
+use Rattle.tab_lines.specs.Lines.{lines_of, whole_lines}
+use Rattle.outside.specs.Tree.{Tree}
+use Rattle.effects.specs.Effects.{Effect, World, Stored, Contents, contents, Partly}
+use Rattle.valuation_meaning.specs.Meaning.{shape_of}
+use Rattle.view_folder.specs.Held.{held}
+use Rattle.course.specs.declared.status.Verdict.{Verdict}
+use Rattle.course.specs.declared.status.Halt.{Halt}
+use Rattle.course.specs.declared.status.Halt.TheVariants as halt
+use Rattle.schema_model.proofs.ReadyLemmas.{same_some}
+use Rattle.view_apply.specs.Applying as applying
+use Rattle.run_course.specs.Course.{RanBy, RanSome, GaveOut, HeldUp}
+use Rattle.run_course.proofs.ToldLemmas.{told_tree, contents_told}
+use Rattle.run_course.proofs.TakenLemmas.{taken_lines}
+use Rattle.run_course.proofs.FrontLemmas.{partly_whole, partly_front, lines_front}
+use Rattle.view_stages.specs.Stages.{DefinitionOrRefusal, loaded_or_refused}
+use Rattle.view_stages.specs.Opening.{opening}
+use Rattle.view_stages.specs.Opened.{folder_of}
+use Rattle.view_stages.proofs.StoppedLemmas.{Stopped, printed}
+use Rattle.view_answers.specs.Answers.{step, finish}
+use Rattle.plain_commands.specs.Applies.{apply_opening}
+use Rattle.plain_commands.proofs.StopLemmas.{show_over, check_definition, verify_over, apply_over}
+use Rattle.upkeep_law.proofs.StopLemmas.{maintain_over}
+use Rattle.ss_top.specs.Commands.{Asked, Check, Show, Maintain, Verify, Apply, Load, Other}
+use Rattle.ss_top.specs.Runs.{course_of}
+use Rattle.ss_top.specs.Between.{stages_of, IsLeftBetween}
+
+-- the run of each command
+module _ (s : Stored) (old new : Contents) (told : old.stored ≡ Some s) (lines : List (List ℕ)) where
+  abbrev t : Tree
+  t = s.tree
+
+  course_stops : (a : Asked) (d : DefinitionOrRefusal) → Partly ((course_of a t d).whole lines).effects old new → Stopped (stages_of a t d lines) t new
+  course_stops (Check name) d h = check_definition s old new told lines d h
+  course_stops (Show name) (Err fields) h = printed s old new told _ h
+  course_stops (Show name) (Ok a) h = show_over s old new told lines a (loaded_or_refused t) h
+  course_stops (Maintain name) (Err fields) h = printed s old new told _ h
+  course_stops (Maintain name) (Ok a) h = maintain_over s old new told lines a (loaded_or_refused t) refl h
+  course_stops (Verify name) (Err fields) h = printed s old new told _ h
+  course_stops (Verify name) (Ok a) h = verify_over s old new told lines a (loaded_or_refused t) h
+  course_stops (Apply name) (Err fields) h = printed s old new told _ h
+  course_stops (Apply name) (Ok a) h = apply_over s old new told lines a (held (shape_of a.query) t (folder_of a)) h
+  course_stops (Load changes seed) d h = printed s old new told _ h
+  course_stops Other d h = printed s old new told _ h
+
+course_front : (a : Asked) (t : Tree) (d : DefinitionOrRefusal) (xs more : List (List ℕ)) (fs : List Effect) → (course_of a t d).so_far xs ≡ Some fs → (rest : List Effect) × (((course_of a t d).whole (xs ++ more)).effects ≡ fs ++ rest)
+course_front (Check name) t d xs more fs e = absurd (cc e)
+course_front (Show name) t d xs more fs e = absurd (cc e)
+course_front (Maintain name) t d xs more fs e = lines_front step finish (opening t d) xs more fs e
+course_front (Verify name) t d xs more fs e = absurd (cc e)
+course_front (Apply name) t d xs more fs e = lines_front applying.step applying.finish (apply_opening t d) xs more fs e
+course_front (Load changes seed) t d xs more fs e = absurd (cc e)
+course_front Other t d xs more fs e = absurd (cc e)
+
+-- so each run did a front of its course, however it ended
+module _ (a : Asked) (t : Tree) (d : DefinitionOrRefusal) (old new : World) where
+  abbrev Fronts : List (List ℕ) → Type 0
+  Fronts lines = Partly ((course_of a t d).whole lines).effects (contents old) (contents new)
+
+  some_front : (r : Result Verdict Halt) → (h : RanSome (course_of a t d) old new r) → Fronts h.lines
+  some_front (Ok v) h = partly_whole ((course_of a t d).whole h.lines).effects (contents old) (contents new) h.ran.0
+  some_front (Err x) h = h.ran
+
+  module _ (bytes : List ℕ) (rest : Option (List ℕ)) where
+    gave_out : GaveOut (course_of a t d) bytes rest old new → Fronts (lines_of bytes)
+    gave_out g =
+        let first = taken_lines bytes g.taken g.left g.split in
+        let front = course_front a t d (whole_lines g.taken) first.0 g.effects g.meant in
+        partly_front g.effects front.0 ((course_of a t d).whole (lines_of bytes)).effects (contents old) (contents new) (ap (λ (ls : List (List ℕ)). ((course_of a t d).whole ls).effects) first.1 ∙ front.1) g.done
+
+    held_up : HeldUp (course_of a t d) bytes old new → Fronts (lines_of bytes)
+    held_up g =
+        let front = course_front a t d g.answered (g.line ∷ g.more) g.effects g.meant in
+        partly_front g.effects front.0 ((course_of a t d).whole (lines_of bytes)).effects (contents old) (contents new) (ap (λ (ls : List (List ℕ)). ((course_of a t d).whole ls).effects) g.are ∙ front.1) g.done
+
+    told_front : (r : Result Verdict Halt) → RanBy (course_of a t d) bytes rest old new r → Fronts (lines_of bytes)
+    told_front (Ok v) h = partly_whole ((course_of a t d).whole (lines_of bytes)).effects (contents old) (contents new) h.0
+    told_front (Err halt.InputFault) h = gave_out h
+    told_front (Err halt.TooLong) h = gave_out h.0
+    told_front (Err halt.DiskFault) h = held_up h
+    told_front (Err (halt.Stopped e)) h = h
+
+  module _ (told : old.store.tree ≡ Some t) where
+    abbrev at_first : Stored
+    at_first = record { tree = t; writes = old.store.writes }
+
+    first_told : (contents old).stored ≡ Some at_first
+    first_told = ap (λ (c : Contents). c.stored) (contents_told old t told)
+
+    left : (input : Option (List ℕ)) (lines : List (List ℕ)) → ((bytes : List ℕ) → input ≡ Some bytes → lines ≡ lines_of bytes) → Fronts lines → IsLeftBetween a t d input new
+    unfolding contents
+    left input lines all front =
+        let h = course_stops at_first (contents old) (contents new) first_told lines a d front in
+        record { lines = lines; all = all; tree = h.stored.tree; told = (told_tree new.store.tree new.store.writes h.stored h.told).0; stops = h.stops }
+
+pub did_leave : (a : Asked) (t : Tree) (d : DefinitionOrRefusal) (input rest : Option (List ℕ)) (old new : World) (r : Result Verdict Halt) → old.store.tree ≡ Some t → RanSome (course_of a t d) old new r
+    → ((bytes : List ℕ) → input ≡ Some bytes → RanBy (course_of a t d) bytes rest old new r) → IsLeftBetween a t d input new
+did_leave a t d None rest old new r told some ran = left a t d old new told None some.lines (λ bytes none. absurd (cc none)) (some_front a t d old new r some)
+did_leave a t d (Some bytes) rest old new r told some ran =
+    left a t d old new told (Some bytes) (lines_of bytes) (λ bs e. ap lines_of (same_some bytes bs e)) (told_front a t d old new bytes rest r (ran bytes refl))

@@ -1,0 +1,7 @@
+pub mod GroupLemmas
+pub mod KeptLemmas
+pub mod MaintainedLemmas
+pub mod RefusedLemmas
+pub mod StopLemmas
+pub mod TakeLemmas
+pub mod WithinLemmas

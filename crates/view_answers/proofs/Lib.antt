@@ -1,0 +1,6 @@
+pub mod AnswerCases
+pub mod AnswerLemmas
+pub mod LimitLemmas
+pub mod MaintainLemmas
+pub mod OpeningLemmas
+pub mod ViewLemmas

@@ -1,0 +1,9 @@
+pub mod Between
+pub mod Open
+pub mod Opened
+pub mod Opening
+pub mod Places
+pub mod Records
+pub mod Stages
+pub mod Steps
+pub mod Syncs
