@@ -1,0 +1,5 @@
+pub mod Arrivals
+pub mod Kept
+pub mod Numbered
+pub mod Replies
+pub mod Turns
