@@ -1,0 +1,7 @@
+mod WorkedRows
+pub mod SaysLemmas
+pub mod MovedLemmas
+pub mod LinesLemmas
+pub mod ScriptLemmas
+pub mod StandsLemmas
+pub mod LawLemmas

@@ -1,0 +1,4 @@
+pub mod Stands
+pub mod Records
+pub mod Lifted
+pub mod Laws
