@@ -1,4 +1,5 @@
 pub mod Appends
+mod Gathering
 pub mod GroupLemmas
 pub mod Images
 pub mod Moments

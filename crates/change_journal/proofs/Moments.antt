@@ -41,7 +41,3 @@ none_more groups image h = record { front = []; rest = []; are = refl; hold = h 
 pub at_most_one : (groups : List Group) (group : Group) (image : List ℕ) → IsBeforeOrAfter groups group image → HasFront groups (group ∷ []) image
 at_most_one groups group image (inl h) = record { front = []; rest = group ∷ []; are = refl; hold = h ∙ ap Ok (sym (append-nil groups)) }
 at_most_one groups group image (inr h) = record { front = group ∷ []; rest = []; are = refl; hold = h }
-
--- two calls, the second of which leaves what is told
-
--- and no call

@@ -105,7 +105,7 @@ take_one_more n front rest other b len same =
     ap (λ (xs : List ℕ). take (n + 1) xs) (sym (append_assoc front (b ∷ []) rest)) ∙ take_at (front ++ b ∷ []) rest (n + 1) (omega (arith, length-append front (b ∷ []))) in
     sym (take-append-drop (n + 1) other) ∙ ap (λ (xs : List ℕ). xs ++ drop (n + 1) other) (same ∙ begins) ∙ append_assoc front (b ∷ []) (drop (n + 1) other)
 
-with_groups_end : (groups : List Group) (end : ℕ) → with_groups groups (Ok (record { groups = []; end = end })) ≡ Ok (record { groups = groups; end = end })
+pub with_groups_end : (groups : List Group) (end : ℕ) → with_groups groups (Ok (record { groups = []; end = end })) ≡ Ok (record { groups = groups; end = end })
 with_groups_end [] end = refl
 with_groups_end (group ∷ groups) end = rw (with_groups_end groups end) refl
 

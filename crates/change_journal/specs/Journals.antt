@@ -1,5 +1,5 @@
 -- What a journal promises of its disk.
-use Rattle.std.specs.Prelude.{◌≡◌, ◌⊎◌, ℕ, ◌+◌, true, List, [], ◌∷◌, ◌++◌, length, Option, None, Some, Result, Ok, Err, ⊤}
+use Rattle.std.specs.Prelude.{◌≡◌, ◌⊎◌, ℕ, ◌+◌, ◌^◌, ◌||◌, nat_le, Bool, true, List, [], ◌∷◌, ◌++◌, length, Option, None, Some, Result, Ok, Err, ⊤}
 use Rattle.disk.specs.Disk.{Content, IsImage, MayLeave, BrokeOff}
 use Rattle.change_journal.specs.States.{JournalState}
 use Rattle.change_journal.specs.Spelled.{Group, group_text}
@@ -31,6 +31,11 @@ IsEntryOf group bytes = (sized : List ℕ) × (bytes ≡ sized ++ 0 ∷ []) × I
 -- where what is written for a group ends, its closing byte among it
 abbrev pub written_end : ℕ → Group → ℕ
 written_end end group = end + 6 + length (group_text group)
+
+-- whether a journal that ends at a place has no room for a group: what is written would end at 2^62 or later, or the length
+-- of the text takes more than four bytes
+abbrev pub is_full : ℕ → Group → Bool
+is_full end group = nat_le (2 ^ 62) (written_end end group) || nat_le (2 ^ 32) (length (group_text group))
 
 -- the journal after it was asked to add a group
 abbrev pub after_append : {A : Type 0} → Result A JournalFault → Group → JournalState → JournalState

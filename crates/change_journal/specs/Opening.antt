@@ -1,9 +1,9 @@
 -- How a journal is read, entry by entry.
-use Rattle.std.specs.Prelude.{◌≡◌, ℕ, ◌+◌, ◌<◌, ◌≤◌, ◌==◌, false, List, [], ◌∷◌, length, take, drop, Option, None, Some, option_map, Result, Ok, Err, ⊤, if◌then◌else◌}
+use Rattle.std.specs.Prelude.{◌≡◌, ℕ, ◌+◌, ◌<◌, ◌≤◌, ◌==◌, false, List, [], ◌∷◌, ◌++◌, length, take, drop, Option, None, Some, option_map, Result, Ok, Err, ⊤, if◌then◌else◌}
 use Rattle.disk.specs.Disk.{Content}
 use Rattle.change_journal.specs.States.{WindowState}
 use Rattle.change_journal.specs.Spelled.{Group, group_of}
-use Rattle.change_journal.specs.Entries.{Reading, number_of, with_group, read_from}
+use Rattle.change_journal.specs.Entries.{Reading, number_of, with_group, with_groups, read_from, read_journal}
 use Rattle.change_journal.specs.declared.mark.Mark.{Mark}
 use Rattle.change_journal.specs.declared.mark.Mark.TheVariants as mark
 use Rattle.change_journal.specs.declared.entries.NextEntry.{NextEntry}
@@ -37,11 +37,27 @@ mark_of (b ∷ bytes) = if b == 0 then mark.End else mark_behind bytes
 -- what was read next, of what was to be read, and what is to be read after it
 abbrev pub IsNextOf : Result Reading ℕ → Result Reading ℕ → Result NextEntry JournalFault → Type 0
 IsNextOf read later (Ok (Entry group)) = read ≡ with_group group.items later
-IsNextOf read later (Ok (End journal)) = (read ≡ Ok (record { groups = []; end = journal.end })) × (journal.is_shut ≡ false)
+IsNextOf read later (Ok (End journal)) = read ≡ Ok (record { groups = []; end = journal.end })
 IsNextOf read later (Err (fault.BadJournal at)) = read ≡ Err at
 IsNextOf read later (Err other) = read ≡ later
 
--- an entry leads on, and all else leaves the place
+-- an entry leads on, and all else leaves the place; at the end the journal is open
 abbrev pub GoesOn : WindowState → WindowState → Result NextEntry JournalFault → Type 0
 GoesOn old new (Ok (Entry group)) = (old.place < new.place) × (new.place ≤ new.size)
-GoesOn old new other = new.place ≡ old.place
+GoesOn old new (Ok (End journal)) = (new.place ≡ old.place) × (journal.is_shut ≡ false)
+GoesOn old new (Err e) = new.place ≡ old.place
+
+-- what the disk holds says this as a journal
+abbrev pub Says : Result Reading ℕ → Option Content → Type 0
+Says read content = (held : Content) → content ≡ Some held → read_journal held.bytes ≡ read
+
+-- these groups stand before the place of a reader
+abbrev pub HasRead : List Group → WindowState → Option Content → Type 0
+HasRead groups s content = (held : Content) → content ≡ Some held → read_journal held.bytes ≡ with_groups groups (read_at s.place held.bytes)
+
+-- what a reader that had read these groups knows now: one group more, or all that the journal says
+abbrev pub ReadsOn : List Group → WindowState → Option Content → Result NextEntry JournalFault → Type 0
+ReadsOn groups s content (Ok (Entry group)) = HasRead (groups ++ group.items ∷ []) s content
+ReadsOn groups s content (Ok (End journal)) = Says (Ok (record { groups = groups; end = journal.end })) content
+ReadsOn groups s content (Err (fault.BadJournal at)) = Says (Err at) content
+ReadsOn groups s content (Err other) = HasRead groups s content

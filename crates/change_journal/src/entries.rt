@@ -1,9 +1,10 @@
 //! The entries of a journal, one after another.
-ghost use Rattle.std.specs.Prelude.{◌≡◌, ◌⊎◌, ◌+◌, ◌<◌, ◌≤◌, [], Some, length, IfOk, IfErr, IsErrOf, OnErr};
+ghost use Rattle.std.specs.Prelude.{◌≡◌, ◌⊎◌, ◌+◌, ◌<◌, ◌≤◌, List, [], Some, length, IfOk, IfErr, IsErrOf, OnErr};
 ghost use Rattle.outside.specs.Counts.{Rose};
 ghost use Rattle.disk.specs.Disk.{Content};
 ghost use Rattle.disk.specs.Moments.{Elapses};
-ghost use Rattle.change_journal.specs.Opening.{IsReading, IsNextOf, GoesOn, read_at};
+ghost use Rattle.change_journal.specs.Spelled.{Group};
+ghost use Rattle.change_journal.specs.Opening.{IsReading, IsNextOf, GoesOn, HasRead, ReadsOn, read_at};
 
 use crate::mark::Mark;
 use crate::reading::read_group;
@@ -41,7 +42,7 @@ impl Entries {
     /// A reader at the first byte of a disk.
     pub(crate) fn of<D: Disk>(alloc: Global, disk: &mut D) -> Result<Entries, JournalFault>
         ensures reading { IfOk result (λ entries. IsReading entries ((D.state disk.new).content)) }
-        ensures place { IfOk result (λ entries. entries.place ≡ 0) }
+        ensures read { IfOk result (λ entries. HasRead [] entries ((D.state disk.new).content)) }
         ensures content { (D.state disk.new).content ≡ (D.state disk.old).content }
         ensures time { Elapses (D.state disk.old) (D.state disk.new) (D.left_since disk.old) (D.left_since disk.new) }
         ensures only { IfErr result (λ e. e ≡ JournalFault.DiskFault) }
@@ -58,7 +59,7 @@ impl Entries {
     /// stands where it stood.
     pub fn next<D: Disk>(&mut self, alloc: Global, disk: &mut D) -> Result<NextEntry, JournalFault>
         requires { IsReading self.old ((D.state disk.old).content) }
-        ensures next { (held : Content) → (D.state disk.old).content ≡ Some held → IsNextOf (read_at self.old.place held.bytes) (read_at self.new.place held.bytes) result }
+        ensures read { (groups : List Group) → HasRead groups self.old ((D.state disk.old).content) → ReadsOn groups self.new ((D.state disk.new).content) result }
         ensures reading { IsReading self.new ((D.state disk.new).content) }
         ensures goes_on { GoesOn self.old self.new result }
         ensures size { self.new.size ≡ self.old.size }
@@ -68,24 +69,44 @@ impl Entries {
         ensures failed { IsErrOf result JournalFault.DiskFault → Rose ((D.state disk.old).faults) ((D.state disk.new).faults) }
         ensures steady { (D.state disk.old).faults ≤ (D.state disk.new).faults }
     {
-        let at = self.window.place();
-        let left = self.window.left();
-        self.window.fill(alloc, disk, left.min(5))?;
-        match Mark::of(self.window.ahead()) {
-            Mark::End => Ok(NextEntry::End(Journal::ended_at(at))),
-            Mark::Nothing => Err(JournalFault::BadJournal { at }),
-            Mark::Sized(n) => {
-                if left < 5 + n {
-                    return Err(JournalFault::BadJournal { at });
+        read_next(alloc, &mut self.window, disk)
+    }
+}
+
+// The entry or the end that stands at the place of a window.
+fn read_next<D: Disk>(
+    alloc: Global,
+    window: &mut Window,
+    disk: &mut D,
+) -> Result<NextEntry, JournalFault>
+    requires { IsReading window.old ((D.state disk.old).content) }
+    ensures next { (held : Content) → (D.state disk.old).content ≡ Some held → IsNextOf (read_at window.old.place held.bytes) (read_at window.new.place held.bytes) result }
+    ensures reading { IsReading window.new ((D.state disk.new).content) }
+    ensures goes_on { GoesOn window.old window.new result }
+    ensures size { window.new.size ≡ window.old.size }
+    ensures content { (D.state disk.new).content ≡ (D.state disk.old).content }
+    ensures time { Elapses (D.state disk.old) (D.state disk.new) (D.left_since disk.old) (D.left_since disk.new) }
+    ensures no_other { ¬ (IsErrOf result JournalFault.Full) × ¬ (IsErrOf result JournalFault.Shut) }
+    ensures failed { IsErrOf result JournalFault.DiskFault → Rose ((D.state disk.old).faults) ((D.state disk.new).faults) }
+    ensures steady { (D.state disk.old).faults ≤ (D.state disk.new).faults }
+{
+    let at = window.place();
+    let left = window.left();
+    window.fill(alloc, disk, left.min(5))?;
+    match Mark::of(window.ahead()) {
+        Mark::End => Ok(NextEntry::End(Journal::ended_at(at))),
+        Mark::Nothing => Err(JournalFault::BadJournal { at }),
+        Mark::Sized(n) => {
+            if left < 5 + n {
+                return Err(JournalFault::BadJournal { at });
+            }
+            window.fill(alloc, disk, 5 + n)?;
+            match read_group(alloc, &window.ahead()[5..5 + n as usize])? {
+                Some(group) => {
+                    window.pass(5 + n);
+                    Ok(NextEntry::Entry(group))
                 }
-                self.window.fill(alloc, disk, 5 + n)?;
-                match read_group(alloc, &self.window.ahead()[5..5 + n as usize])? {
-                    Some(group) => {
-                        self.window.pass(5 + n);
-                        Ok(NextEntry::Entry(group))
-                    }
-                    None => Err(JournalFault::BadJournal { at }),
-                }
+                None => Err(JournalFault::BadJournal { at }),
             }
         }
     }

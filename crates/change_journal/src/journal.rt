@@ -1,23 +1,25 @@
 //! A journal of groups of changes on a disk.
-ghost use Rattle.std.specs.Prelude.{◌≡◌, ◌↔◌, Some, ◌+◌, ◌<◌, ◌≤◌, ◌^◌, ◌∷◌, ◌++◌, ℕ, [], List, true, false, length, IfOk, IfErr, OnOk, OnErr, IsErrOf, option_map};
+ghost use Rattle.std.specs.Prelude.{◌≡◌, ◌↔◌, Some, ◌+◌, ◌<◌, ◌≤◌, ◌^◌, ◌∷◌, ◌++◌, ◌||◌, nat_le, ℕ, [], List, true, false, length, IfOk, IfErr, OnOk, OnErr, IsErrOf, option_map};
 ghost use Rattle.outside.specs.Counts.{Rose};
 ghost use Rattle.disk.specs.Disk.{Content, MayLeave, overwritten, stable};
 ghost use Rattle.disk.specs.Moments.{Elapses, LeavesOnly};
-ghost use Rattle.change_journal.specs.Spelled.{Group, group_text, IsSpellable};
-ghost use Rattle.change_journal.specs.Opening.{IsReading};
-ghost use Rattle.change_journal.specs.Journals.{IsOpenAt, AllHave, Has, HasFront, IsBeforeOrAfter, MayHaveWritten, IsEntryOf, doubted, written_end, after_append};
+ghost use Rattle.change_journal.specs.Spelled.{Group, IsSpellable};
+ghost use Rattle.change_journal.specs.Opening.{IsReading, HasRead};
+ghost use Rattle.change_journal.specs.Journals.{IsOpenAt, AllHave, Has, HasFront, IsBeforeOrAfter, MayHaveWritten, IsEntryOf, doubted, is_full, after_append};
 
 use crate::JournalFault;
 use crate::entries::Entries;
-use crate::text::entry_of;
+use crate::text::{entry_of, text_of};
 use disk::Disk;
 use outside::{Failed, StoreFault};
 use schema_model::Change;
 use std::alloc::Global;
 use std::marker::Model;
 
-// The greatest size of a journal, less one.
+// A journal ends before this place, and the text of a group has fewer bytes than that.
 const MOST: u64 = 1 << 62;
+
+const MOST_TEXT: u64 = 1 << 32;
 
 /// A journal, which contracts see as the place of the byte 0 at its end and whether it is shut.
 #[derive(Drop)]
@@ -49,7 +51,7 @@ impl Journal {
     /// nothing.
     pub fn open<D: Disk>(alloc: Global, disk: &mut D) -> Result<Entries, JournalFault>
         ensures reading { IfOk result (λ entries. IsReading entries ((D.state disk.new).content)) }
-        ensures place { IfOk result (λ entries. entries.place ≡ 0) }
+        ensures read { IfOk result (λ entries. HasRead [] entries ((D.state disk.new).content)) }
         ensures content { (D.state disk.new).content ≡ (D.state disk.old).content }
         ensures time { Elapses (D.state disk.old) (D.state disk.new) (D.left_since disk.old) (D.left_since disk.new) }
         ensures only { IfErr result (λ e. e ≡ JournalFault.DiskFault) }
@@ -67,7 +69,6 @@ impl Journal {
         group: &[Change],
     ) -> Result<(), JournalFault>
         requires spellable { IsSpellable group.now }
-        requires short { length (group_text group.now) < 2 ^ 32 }
 
         // The disk is the one that was opened.
         requires opened { self.old.is_shut ≡ false → IsOpenAt self.old.end ((D.state disk.old).content) }
@@ -84,9 +85,9 @@ impl Journal {
 
         // It gives up only where it must.
         ensures shut { IsErrOf result JournalFault.Shut ↔ (self.old.is_shut ≡ true) }
-        ensures full { IsErrOf result JournalFault.Full → 2 ^ 62 ≤ written_end self.old.end group.now }
-        ensures room { OnOk result (written_end self.old.end group.now < 2 ^ 62) }
-        ensures room_fault { IsErrOf result JournalFault.DiskFault → written_end self.old.end group.now < 2 ^ 62 }
+        ensures full { IsErrOf result JournalFault.Full → is_full self.old.end group.now ≡ true }
+        ensures room { OnOk result (is_full self.old.end group.now ≡ false) }
+        ensures room_fault { IsErrOf result JournalFault.DiskFault → is_full self.old.end group.now ≡ false }
         ensures idle_shut { IsErrOf result JournalFault.Shut → disk.new ≡ disk.old }
         ensures idle_full { IsErrOf result JournalFault.Full → disk.new ≡ disk.old }
         ensures not_bad { (at : ℕ) → ¬ (IsErrOf result (JournalFault.BadJournal at)) }
@@ -96,12 +97,15 @@ impl Journal {
         if self.is_shut {
             return Err(JournalFault::Shut);
         }
-        let Ok(entry) = entry_of(alloc, group) else {
+        let Ok(text) = text_of(alloc, group) else {
             return Err(JournalFault::NoMemory);
         };
-        if self.end >= MOST - 1 - entry.len() as u64 {
+        if is_full(self.end, text.len() as u64) {
             return Err(JournalFault::Full);
         }
+        let Ok(entry) = entry_of(alloc, text.as_slice()) else {
+            return Err(JournalFault::NoMemory);
+        };
         match put_entry(alloc, disk, self.end, entry.as_slice()) {
             Ok(()) => {
                 self.end += entry.len() as u64;
@@ -114,6 +118,13 @@ impl Journal {
             Err(StoreFault::NoMemory) => Err(JournalFault::NoMemory),
         }
     }
+}
+
+// Whether a journal that ends at a place has no room for a text of so many bytes.
+fn is_full(end: u64, len: u64) -> bool
+    ensures { result ≡ (nat_le (2 ^ 62) (end + 6 + len) || nat_le (2 ^ 32) len) }
+{
+    len >= MOST_TEXT || end >= MOST - 6 - len
 }
 
 // Writes an entry behind the byte at the end of a journal, and then opens it.

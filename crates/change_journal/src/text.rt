@@ -1,6 +1,6 @@
 //! Groups of changes as text.
-ghost use Rattle.std.specs.Prelude.{◌≡◌, ◌+◌, ◌<◌, ◌^◌, ◌∷◌, [], ℕ, length, IfOk};
-ghost use Rattle.change_journal.specs.Spelled.{spelled, group_text, IsSpellable};
+ghost use Rattle.std.specs.Prelude.{◌≡◌, ◌+◌, ◌<◌, ◌^◌, ◌∷◌, [], ℕ, Some, length, IfOk};
+ghost use Rattle.change_journal.specs.Spelled.{Group, spelled, group_text, group_of};
 ghost use Rattle.change_journal.specs.Entries.{number_of};
 ghost use Rattle.change_journal.specs.Journals.{IsEntryOf};
 
@@ -10,16 +10,14 @@ use std::alloc::Global;
 use tab_lines::write_line;
 
 /// What is written behind the first byte of an entry: the length of the text of a group, high byte first, the text, and a byte 0.
-pub(crate) fn entry_of(alloc: Global, group: &[Change]) -> Result<Vec<u8>, NoMemory>
-    requires spellable { IsSpellable group.now }
-    requires short { length (group_text group.now) < 2 ^ 32 }
-    ensures entry { IfOk result (λ entry. IsEntryOf group.now entry.items) }
-    ensures len { IfOk result (λ entry. length entry.items ≡ 5 + length (group_text group.now)) }
+pub(crate) fn entry_of(alloc: Global, text: &[u8]) -> Result<Vec<u8>, NoMemory>
+    requires { length text.now < 2 ^ 32 }
+    ensures entry { IfOk result (λ entry. (group : Group) → group_of text.now ≡ Some group → IsEntryOf group entry.items) }
+    ensures len { IfOk result (λ entry. length entry.items ≡ 5 + length text.now) }
 {
-    let text = text_of(alloc, group)?;
     let mut entry = Vec::new(alloc);
     entry.extend_from_slice(&bytes_of(text.len()))?;
-    entry.extend_from_slice(text.as_slice())?;
+    entry.extend_from_slice(text)?;
     entry.push(0)?;
     Ok(entry)
 }
@@ -39,9 +37,9 @@ fn bytes_of(n: usize) -> [u8; 4]
     ]
 }
 
-// The lines of the changes, with LFs between them.
+/// The text of a group: the lines of its changes, with LFs between them.
 #[tactic(auto, using(crate::proofs::Spellings::group_begins, std::proofs::lemmas::Grind::common_steps))]
-fn text_of(alloc: Global, group: &[Change]) -> Result<Vec<u8>, NoMemory>
+pub(crate) fn text_of(alloc: Global, group: &[Change]) -> Result<Vec<u8>, NoMemory>
     ensures { IfOk result (λ text. text.items ≡ group_text group.now) }
 {
     let mut text = Vec::new(alloc);

@@ -1,6 +1,7 @@
 -- What a run keeps, line after line.
 use Rattle.std.proofs.Common.{◌≡◌, ◌≢◌, ◌<◌, ◌≤◌, ◌⊎◌, ℕ, true, false, List, [], ◌∷◌, ◌++◌, length, Option, None, Some, inl, inr, refl, sym, ap, ◌∙◌, subst, append_assoc, append-nil, arith}
 use Rattle.std.specs.Prelude.{Result, Ok, Err}
+use Rattle.outside.specs.Counts.{Rose}
 use Rattle.effects.specs.Effects.{Effect, World, Contents, contents, performed}
 use Rattle.effects.specs.declared.stop.Stop.{Stop}
 use Rattle.effects.specs.declared.stop.Stop.TheVariants as stop
@@ -367,7 +368,7 @@ module _ {A D : Type 0} (step : A → List ℕ → Reply A) (note : A → List �
 -- the disk is blamed of a whole run where it is of a line
 pub disk_stops : (i j k : ℕ) (e : LineStop) → i ≤ j → LineBlamesDisk {A = Option Verdict} j k (Err e) → BlamesDisk {A = Verdict} i k (Err (halt_of_line e))
 disk_stops i j k (line_stop.Stopped e) le b = record { later = omega (arith, le, b.later); because = tt }
-disk_stops i j k line_stop.DiskFault le b = record { later = omega (arith, le, b.later); because = omega (arith, le, b.because) }
+disk_stops i j k line_stop.DiskFault le b = record { later = omega (arith, le, b.later); because = let rose : Rose j k = b.because in omega (arith, le, rose) }
 
 pub disk_ends : (i j k : ℕ) (v : Verdict) (r : Result (Option Verdict) LineStop) → i ≤ j → LineBlamesDisk j k r → BlamesDisk {A = Verdict} i k (Ok v)
 disk_ends i j k v r le b = record { later = omega (arith, le, b.later); because = tt }
@@ -384,4 +385,4 @@ keeps_nothing es old new old_world new_world (Err e) = record { fronts = record 
 
 -- and no run is held up
 pub never_held_up : (old new : NoDisk) (r : Result Verdict Halt) → BlamesDisk (no_log.faults old) (no_log.faults new) r → r ≢ Err halt.DiskFault
-never_held_up old new r b is = let c : 0 < 0 = subst (λ (x : Result Verdict Halt). DiskCause x 0 0) is b.because in omega (arith, c)
+never_held_up old new r b is = let c : Rose 0 0 = subst (λ (x : Result Verdict Halt). DiskCause x 0 0) is b.because in omega (arith, c)

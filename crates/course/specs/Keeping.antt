@@ -1,5 +1,6 @@
 -- What a run keeps of what it accepts before it answers, and what a crash leaves of that.
-use Rattle.std.specs.Prelude.{◌≡◌, ◌≤◌, ◌<◌, ◌⊎◌, ℕ, List, [], ◌∷◌, ◌++◌, Option, Some, None, Result, Ok, Err}
+use Rattle.std.specs.Prelude.{◌≡◌, ◌≤◌, ◌⊎◌, ℕ, List, [], ◌∷◌, ◌++◌, Option, Some, None, Result, Ok, Err}
+use Rattle.outside.specs.Counts.{Rose}
 use Rattle.effects.specs.Effects.{Effect, World, contents, performed}
 use Rattle.tab_lines.specs.Lines.{lines_of, whole_lines}
 use Rattle.course.specs.declared.status.Verdict.{Verdict}
@@ -99,13 +100,13 @@ pub record KeptOver {A D : Type 0} (step : A → List ℕ → Reply A) (note : A
   pub fronts : LeavesFronts log es (noted step note (answered ++ under_way) (Continues [] start)) old new
   pub kept : KeptAtEnd step note log start es input rest answered under_way effects state new old_world new_world r
 
--- the disk is blamed where it failed
+-- the disk is blamed where its count of failed calls rose
 abbrev pub DiskCause : {A : Type 0} → Result A Halt → ℕ → ℕ → Type 0
-DiskCause (Err halt.DiskFault) i j = i < j
+DiskCause (Err halt.DiskFault) i j = Rose i j
 DiskCause r i j = Unit {0}
 
 abbrev pub LineDiskCause : {A : Type 0} → Result A LineStop → ℕ → ℕ → Type 0
-LineDiskCause (Err line_stop.DiskFault) i j = i < j
+LineDiskCause (Err line_stop.DiskFault) i j = Rose i j
 LineDiskCause r i j = Unit {0}
 
 -- how often the disk had failed before and after, and that it did where a run was held up by it

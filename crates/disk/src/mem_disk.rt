@@ -1,6 +1,9 @@
 //! A disk in memory.
-ghost use Rattle.std.specs.Prelude.{◌≡◌, ◌<◌, ◌+◌, length, vec_len, vec_capacity, [], ◌∷◌, ◌++◌, All, if◌then◌else◌, IfOk, OnOk, OnErr, ◌≤◌};
-ghost use Rattle.disk.specs.Disk.{IsImage, overwritten, is_in_doubt, is_clear, filled};
+ghost use Rattle.std.specs.Prelude.{◌≡◌, ◌<◌, ◌+◌, ◌^◌, ◌↔◌, true, false, Some, length, take, drop, vec_len, vec_capacity, [], ◌∷◌, ◌++◌, All, if◌then◌else◌, option_map, IsOk, IsErr, IfOk, OnOk, OnErr, IsErrOf, ◌≤◌};
+ghost use Rattle.outside.specs.Counts.{Rose};
+ghost use Rattle.outside.specs.Calls.{faults_of, next_call, next_fails, CountedUnlessNoMemory};
+ghost use Rattle.disk.specs.Disk.{Content, IsImage, MayBreakOff, with_written, with_synced, overwritten, is_in_doubt, is_clear, filled};
+ghost use Rattle.disk.specs.Moments.{Elapses};
 ghost use Rattle.disk.specs.MemDisks.{content_of};
 
 use crate::numbered::NumberedCalls;
@@ -107,17 +110,47 @@ impl Disk for MemDisk {
 
     ghost only_now = { told_only_now };
 
-    fn size(&mut self) -> Result<u64, Failed> {
+    fn size(&mut self) -> Result<u64, Failed>
+        ensures told { IfOk result (λ n. (held : Content) → Some (content_of self.old) ≡ Some held → n ≡ length held.bytes) }
+        ensures same { self.new ≡ self.old }
+        ensures time { Elapses (state_of self.old) (state_of self.new) (HasLeft self.old) (HasLeft self.new) }
+
+        // What is particular to it: no such call fails.
+        ensures never { IsOk result }
+    {
         Ok(self.bytes().len() as u64)
     }
 
-    fn read_at(&mut self, at: u64, into: &mut [u8]) -> Result<(), Failed> {
+    fn read_at(&mut self, at: u64, into: &mut [u8]) -> Result<(), Failed>
+        requires { (held : Content) → Some (content_of self.old) ≡ Some held → at + length into.old ≤ length held.bytes }
+        ensures told { OnOk result ((held : Content) → Some (content_of self.old) ≡ Some held → into.new ≡ take (length into.old) (drop at held.bytes)) }
+        ensures same { self.new ≡ self.old }
+        ensures time { Elapses (state_of self.old) (state_of self.new) (HasLeft self.old) (HasLeft self.new) }
+
+        // What is particular to it: no such call fails.
+        ensures never { IsOk result }
+    {
         let from = at as usize;
         into.copy_from_slice(&self.bytes()[from..from + into.len()]);
         Ok(())
     }
 
-    fn write_at(&mut self, alloc: Global, at: u64, bytes: &[u8]) -> Result<(), StoreFault> {
+    fn write_at(&mut self, alloc: Global, at: u64, bytes: &[u8]) -> Result<(), StoreFault>
+        requires within { (held : Content) → Some (content_of self.old) ≡ Some held → at ≤ length held.bytes }
+        requires fits { at + length bytes.now < 2 ^ 62 }
+        ensures ok { OnOk result (Some (content_of self.new) ≡ option_map (with_written at bytes.now) (Some (content_of self.old))) }
+        ensures broke_off { IsErrOf result StoreFault.Failed → MayBreakOff at (length bytes.now) (Some (content_of self.old)) (Some (content_of self.new)) }
+        ensures no_memory { IsErrOf result StoreFault.NoMemory → self.new ≡ self.old }
+        ensures time { Elapses (state_of self.old) (state_of self.new) (HasLeft self.old) (HasLeft self.new) }
+        ensures failed { IsErrOf result StoreFault.Failed → Rose (faults_of self.old.calls) (faults_of self.new.calls) }
+        ensures steady { faults_of self.old.calls ≤ faults_of self.new.calls }
+
+        // What is particular to it: it fails as the numbers tell, and then leaves what a read gives.
+        ensures fails { IsErrOf result StoreFault.Failed → next_fails self.old.calls ≡ true }
+        ensures done { OnOk result (next_fails self.old.calls ≡ false) }
+        ensures numbered { CountedUnlessNoMemory result self.old.calls self.new.calls }
+        ensures reads { IsErrOf result StoreFault.Failed → (content_of self.new).bytes ≡ (content_of self.old).bytes }
+    {
         let len = bytes.len() as u64;
         let next = overwritten(alloc, self.bytes(), at as usize, bytes)?;
         let bytes = Text::of(alloc, bytes)?;
@@ -151,7 +184,17 @@ impl Disk for MemDisk {
         }
     }
 
-    fn sync(&mut self) -> Result<(), Failed> {
+    fn sync(&mut self) -> Result<(), Failed>
+        ensures ok { OnOk result (Some (content_of self.new) ≡ option_map with_synced (Some (content_of self.old))) }
+        ensures err { OnErr result (Some (content_of self.new) ≡ Some (content_of self.old)) }
+        ensures time { Elapses (state_of self.old) (state_of self.new) (HasLeft self.old) (HasLeft self.new) }
+        ensures failed { OnErr result (Rose (faults_of self.old.calls) (faults_of self.new.calls)) }
+        ensures steady { faults_of self.old.calls ≤ faults_of self.new.calls }
+
+        // What is particular to it: it fails as the numbers tell.
+        ensures fails { IsErr result ↔ (next_fails self.old.calls ≡ true) }
+        ensures numbered { self.new.calls ≡ next_call self.old.calls }
+    {
         self.calls.count()?;
         if !self.written.is_empty() {
             self.stable_len = self.bytes().len() as u64;

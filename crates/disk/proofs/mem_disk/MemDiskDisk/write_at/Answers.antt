@@ -76,3 +76,11 @@ returns-in-Err-clause-time c =
     let step = Tore c.args.at (length c.args.bytes.now) in
     elapses_step c.args.self.now _ (ap (λ (s : MemDiskState). s.first) c.self.view_is) step
     (c.put_in_doubt-in-Err.ensures.steps ∙ ap (λ (xs : List Step). xs ++ step ∷ []) c.in_ok-make_room.ensures.steps ∙ ap (λ (s : MemDiskState). s.steps ++ step ∷ []) c.self.view_is)
+
+pub returns-in-Err-clause-reads : goal.returns-in-Err-clause-reads
+returns-in-Err-clause-reads c =
+    let step = Tore c.args.at (length c.args.bytes.now) in
+    let items = c.put_in_doubt-in-Err.ensures.steps ∙ ap (λ (xs : List Step). xs ++ step ∷ []) c.in_ok-make_room.ensures.steps in
+    let e = pushed c.self.inside.first c.self.inside.steps.items c.put_in_doubt-in-Err.new.steps.items step items in
+    let was : after_steps (stable c.self.inside.first) c.self.inside.steps.items ≡ content_of c.args.self.now = ap content_of c.self.view_is in
+    λ _. ap (λ (h : Content). h.bytes) (e ∙ ap (λ (h : Content). after_step h step) was)
