@@ -41,7 +41,8 @@ fn open<F: Folders, K: Sink>(
     output: &mut K,
     name: &Text,
 ) -> Result<Folder, Stop>
-    ensures opens { (t : Tree) (d : DefinitionOrRefusal) → (F.state store.old).tree ≡ Some t → IsDefinition name.now (definition_bytes t name.now) d → FolderOpens (apply_opening t d) (world_of (F.state store.old) (K.state output.old)) (world_of (F.state store.new) (K.state output.new)) result }
+    ensures opens { (t : Tree) (d : DefinitionOrRefusal) → (F.state store.old).tree ≡ Some t → IsDefinition name.now (definition_bytes t name.now) d
+        → FolderOpens (apply_opening t d) (world_of (F.state store.old) (K.state output.old)) (world_of (F.state store.new) (K.state output.new)) result }
     ensures refused { IfOk result IsFolderRefusal }
     ensures idle { IdleUnread result (world_of (F.state store.old) (K.state output.old)) (world_of (F.state store.new) (K.state output.new)) }
     ensures blames { Blames (world_of (F.state store.old) (K.state output.old)) (world_of (F.state store.new) (K.state output.new)) result }
@@ -66,7 +67,9 @@ fn open_tables<F: Folders, K: Sink>(
     output: &mut K,
     definition: Definition,
 ) -> Result<Folder, Stop>
-    ensures opens { (t : Tree) → (F.state store.old).tree ≡ Some t → FolderOpens (opening (query_of definition.view.value).view_db (shape_of (query_of definition.view.value)) t) (world_of (F.state store.old) (K.state output.old)) (world_of (F.state store.new) (K.state output.new)) result }
+    ensures opens { (t : Tree) → (F.state store.old).tree ≡ Some t
+        → FolderOpens (opening (query_of definition.view.value).view_db (shape_of (query_of definition.view.value)) t)
+        (world_of (F.state store.old) (K.state output.old)) (world_of (F.state store.new) (K.state output.new)) result }
     ensures refused { IfOk result IsFolderRefusal }
     ensures idle { IdleUnread result (world_of (F.state store.old) (K.state output.old)) (world_of (F.state store.new) (K.state output.new)) }
     ensures blames { Blames (world_of (F.state store.old) (K.state output.old)) (world_of (F.state store.new) (K.state output.new)) result }
@@ -90,10 +93,16 @@ pub fn apply<F: Folders, S: Source, K: Sink, L: Ledger>(
     name: &Text,
     steps: &mut Steps<L>,
 ) -> Result<Verdict, Halt>
-    ensures ran { (t : Tree) (bytes : List ℕ) (d : DefinitionOrRefusal) → (F.state store.old).tree ≡ Some t → S.rest input.old ≡ Some bytes → IsDefinition name.now (definition_bytes t name.now) d → RanBy (by_lines step finish (apply_opening t d)) bytes (S.rest input.new) (world_of (F.state store.old) (K.state output.old)) (world_of (F.state store.new) (K.state output.new)) result }
+    ensures ran { (t : Tree) (bytes : List ℕ) (d : DefinitionOrRefusal) → (F.state store.old).tree ≡ Some t → S.rest input.old ≡ Some bytes
+        → IsDefinition name.now (definition_bytes t name.now) d
+        → RanBy (by_lines step finish (apply_opening t d)) bytes (S.rest input.new) (world_of (F.state store.old) (K.state output.old)) (world_of (F.state store.new) (K.state output.new)) result }
     ensures can { can_apply (status_of result) ≡ true }
-    ensures some { (t : Tree) (d : DefinitionOrRefusal) → (F.state store.old).tree ≡ Some t → IsDefinition name.now (definition_bytes t name.now) d → RanSome (by_lines step finish (apply_opening t d)) (world_of (F.state store.old) (K.state output.old)) (world_of (F.state store.new) (K.state output.new)) result }
-    ensures took { (t : Tree) (bytes : List ℕ) (d : DefinitionOrRefusal) → (F.state store.old).tree ≡ Some t → S.rest input.old ≡ Some bytes → IsDefinition name.now (definition_bytes t name.now) d → OnErr result (Took (by_lines step finish (apply_opening t d)) bytes (S.rest input.new) (world_of (F.state store.old) (K.state output.old)) (world_of (F.state store.new) (K.state output.new))) }
+    ensures some { (t : Tree) (d : DefinitionOrRefusal) → (F.state store.old).tree ≡ Some t → IsDefinition name.now (definition_bytes t name.now) d
+        → RanSome (by_lines step finish (apply_opening t d)) (world_of (F.state store.old) (K.state output.old)) (world_of (F.state store.new) (K.state output.new)) result }
+    ensures took { (t : Tree) (bytes : List ℕ) (d : DefinitionOrRefusal) → (F.state store.old).tree ≡ Some t → S.rest input.old ≡ Some bytes
+        → IsDefinition name.now (definition_bytes t name.now) d
+        → OnErr result
+        (Took (by_lines step finish (apply_opening t d)) bytes (S.rest input.new) (world_of (F.state store.old) (K.state output.old)) (world_of (F.state store.new) (K.state output.new))) }
     ensures idle { IdleRun result (world_of (F.state store.old) (K.state output.old)) (world_of (F.state store.new) (K.state output.new)) }
     ensures whole { (bytes : List ℕ) → S.rest input.old ≡ Some bytes → IsWholeInput bytes (S.rest input.new) result }
     ensures blames { BlamesRun (S.faults input.old) (S.faults input.new) (world_of (F.state store.old) (K.state output.old)) (world_of (F.state store.new) (K.state output.new)) result }

@@ -29,7 +29,8 @@ pub fn check<F: Folders, K: Sink>(
     output: &mut K,
     name: &Text,
 ) -> Result<Verdict, Stop>
-    ensures ended { (t : Tree) (d : DefinitionOrRefusal) → (F.state store.old).tree ≡ Some t → IsDefinition name.now (definition_bytes t name.now) d → Ended (checked d) (world_of (F.state store.old) (K.state output.old)) (world_of (F.state store.new) (K.state output.new)) result }
+    ensures ended { (t : Tree) (d : DefinitionOrRefusal) → (F.state store.old).tree ≡ Some t → IsDefinition name.now (definition_bytes t name.now) d
+        → Ended (checked d) (world_of (F.state store.old) (K.state output.old)) (world_of (F.state store.new) (K.state output.new)) result }
     ensures can { IfOk result (λ v. can_check (verdict_status v) ≡ true) }
     ensures idle { IdleUnread result (world_of (F.state store.old) (K.state output.old)) (world_of (F.state store.new) (K.state output.new)) }
     ensures only_read { OnlyRead (F.state store.old) (F.state store.new) }

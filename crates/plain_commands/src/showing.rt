@@ -29,7 +29,8 @@ pub fn show<F: Folders, K: Sink>(
     output: &mut K,
     name: &Text,
 ) -> Result<Verdict, Stop>
-    ensures ended { (t : Tree) (d : DefinitionOrRefusal) → (F.state store.old).tree ≡ Some t → IsDefinition name.now (definition_bytes t name.now) d → Ended (ending done_at_once (opening t d)) (world_of (F.state store.old) (K.state output.old)) (world_of (F.state store.new) (K.state output.new)) result }
+    ensures ended { (t : Tree) (d : DefinitionOrRefusal) → (F.state store.old).tree ≡ Some t → IsDefinition name.now (definition_bytes t name.now) d
+        → Ended (ending done_at_once (opening t d)) (world_of (F.state store.old) (K.state output.old)) (world_of (F.state store.new) (K.state output.new)) result }
     ensures can { IfOk result (λ v. can_show (verdict_status v) ≡ true) }
     ensures idle { IdleUnread result (world_of (F.state store.old) (K.state output.old)) (world_of (F.state store.new) (K.state output.new)) }
     ensures blames { Blames (world_of (F.state store.old) (K.state output.old)) (world_of (F.state store.new) (K.state output.new)) result }
@@ -56,7 +57,9 @@ fn fill_folder<F: Folders, K: Sink>(
     files: &[File],
 ) -> Result<(), Stop>
     requires { AreViewFiles files.now }
-    ensures does { (t : Tree) → (F.state store.old).tree ≡ Some t → Does (opening_effects (view_folder view_db.now) files.now (files_of t (view_folder view_db.now))) (world_of (F.state store.old) (K.state output.old)) (world_of (F.state store.new) (K.state output.new)) result }
+    ensures does { (t : Tree) → (F.state store.old).tree ≡ Some t
+        → Does (opening_effects (view_folder view_db.now) files.now (files_of t (view_folder view_db.now))) (world_of (F.state store.old) (K.state output.old))
+        (world_of (F.state store.new) (K.state output.new)) result }
     ensures idle { IdleUnread result (world_of (F.state store.old) (K.state output.old)) (world_of (F.state store.new) (K.state output.new)) }
     ensures blames { Blames (world_of (F.state store.old) (K.state output.old)) (world_of (F.state store.new) (K.state output.new)) result }
 {

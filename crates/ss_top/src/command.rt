@@ -53,14 +53,21 @@ pub(crate) fn run_command<F: Folders, S: Source, K: Sink, L: Ledger>(
     output: &mut K,
     steps: &mut Steps<L>,
 ) -> Result<Verdict, Halt>
-    ensures ran { (t : Tree) (bytes : List ℕ) (d : DefinitionOrRefusal) → Told (uses_store (asked_by command.entry)) (F.state store.old).tree t → Told (reads_input (asked_by command.entry)) (S.rest input.old) bytes → IsAsked (asked_by command.entry) t d → RanBy (course_of (asked_by command.entry) t d) bytes (S.rest input.new) (world_of (F.state store.old) (K.state output.old)) (world_of (F.state store.new) (K.state output.new)) result }
+    ensures ran { (t : Tree) (bytes : List ℕ) (d : DefinitionOrRefusal) → Told (uses_store (asked_by command.entry)) (F.state store.old).tree t
+        → Told (reads_input (asked_by command.entry)) (S.rest input.old) bytes → IsAsked (asked_by command.entry) t d
+        → RanBy (course_of (asked_by command.entry) t d) bytes (S.rest input.new) (world_of (F.state store.old) (K.state output.old)) (world_of (F.state store.new) (K.state output.new)) result }
     ensures blames { BlamesRun (S.faults input.old) (S.faults input.new) (world_of (F.state store.old) (K.state output.old)) (world_of (F.state store.new) (K.state output.new)) result }
     ensures rises { steps.old ≤ steps.new }
     ensures steps { counts (asked_by command.entry) ≡ false → steps.new ≡ steps.old }
-    ensures within { (t : Tree) (bytes : List ℕ) (d : DefinitionOrRefusal) → Told (uses_store (asked_by command.entry)) (F.state store.old).tree t → Told (reads_input (asked_by command.entry)) (S.rest input.old) bytes → IsAsked (asked_by command.entry) t d → result ≢ Err (Halt.Stopped Stop.NoMemory) → StepsOf (asked_by command.entry) t d (lines_of bytes) steps.old steps.new }
+    ensures within { (t : Tree) (bytes : List ℕ) (d : DefinitionOrRefusal) → Told (uses_store (asked_by command.entry)) (F.state store.old).tree t
+        → Told (reads_input (asked_by command.entry)) (S.rest input.old) bytes → IsAsked (asked_by command.entry) t d
+        → result ≢ Err (Halt.Stopped Stop.NoMemory) → StepsOf (asked_by command.entry) t d (lines_of bytes) steps.old steps.new }
     ensures can { can_end (asked_by command.entry) (status_of result) ≡ true }
-    ensures some { (t : Tree) (d : DefinitionOrRefusal) → Told (uses_store (asked_by command.entry)) (F.state store.old).tree t → IsAsked (asked_by command.entry) t d → RanSome (course_of (asked_by command.entry) t d) (world_of (F.state store.old) (K.state output.old)) (world_of (F.state store.new) (K.state output.new)) result }
-    ensures took { (t : Tree) (bytes : List ℕ) (d : DefinitionOrRefusal) → Told (uses_store (asked_by command.entry)) (F.state store.old).tree t → reads_input (asked_by command.entry) ≡ true → S.rest input.old ≡ Some bytes → IsAsked (asked_by command.entry) t d → OnErr result (Took (course_of (asked_by command.entry) t d) bytes (S.rest input.new) (world_of (F.state store.old) (K.state output.old)) (world_of (F.state store.new) (K.state output.new))) }
+    ensures some { (t : Tree) (d : DefinitionOrRefusal) → Told (uses_store (asked_by command.entry)) (F.state store.old).tree t → IsAsked (asked_by command.entry) t d
+        → RanSome (course_of (asked_by command.entry) t d) (world_of (F.state store.old) (K.state output.old)) (world_of (F.state store.new) (K.state output.new)) result }
+    ensures took { (t : Tree) (bytes : List ℕ) (d : DefinitionOrRefusal) → Told (uses_store (asked_by command.entry)) (F.state store.old).tree t
+        → reads_input (asked_by command.entry) ≡ true → S.rest input.old ≡ Some bytes → IsAsked (asked_by command.entry) t d
+        → OnErr result (Took (course_of (asked_by command.entry) t d) bytes (S.rest input.new) (world_of (F.state store.old) (K.state output.old)) (world_of (F.state store.new) (K.state output.new))) }
     ensures idle { IdleRun result (world_of (F.state store.old) (K.state output.old)) (world_of (F.state store.new) (K.state output.new)) }
     ensures whole { (bytes : List ℕ) → reads_input (asked_by command.entry) ≡ true → S.rest input.old ≡ Some bytes → IsWholeInput bytes (S.rest input.new) result }
     ensures only_read { only_reads (asked_by command.entry) ≡ true → OnlyRead (F.state store.old) (F.state store.new) }

@@ -31,15 +31,22 @@ pub fn maintain<F: Folders, S: Source, K: Sink, L: Ledger>(
     name: &Text,
     steps: &mut Steps<L>,
 ) -> Result<Verdict, Halt>
-    ensures ran { (t : Tree) (bytes : List ℕ) (d : DefinitionOrRefusal) → (F.state store.old).tree ≡ Some t → S.rest input.old ≡ Some bytes → IsDefinition name.now (definition_bytes t name.now) d → RanBy (by_lines step finish (opening t d)) bytes (S.rest input.new) (world_of (F.state store.old) (K.state output.old)) (world_of (F.state store.new) (K.state output.new)) result }
+    ensures ran { (t : Tree) (bytes : List ℕ) (d : DefinitionOrRefusal) → (F.state store.old).tree ≡ Some t → S.rest input.old ≡ Some bytes
+        → IsDefinition name.now (definition_bytes t name.now) d
+        → RanBy (by_lines step finish (opening t d)) bytes (S.rest input.new) (world_of (F.state store.old) (K.state output.old)) (world_of (F.state store.new) (K.state output.new)) result }
     ensures can { can_maintain (status_of result) ≡ true }
-    ensures some { (t : Tree) (d : DefinitionOrRefusal) → (F.state store.old).tree ≡ Some t → IsDefinition name.now (definition_bytes t name.now) d → RanSome (by_lines step finish (opening t d)) (world_of (F.state store.old) (K.state output.old)) (world_of (F.state store.new) (K.state output.new)) result }
-    ensures took { (t : Tree) (bytes : List ℕ) (d : DefinitionOrRefusal) → (F.state store.old).tree ≡ Some t → S.rest input.old ≡ Some bytes → IsDefinition name.now (definition_bytes t name.now) d → OnErr result (Took (by_lines step finish (opening t d)) bytes (S.rest input.new) (world_of (F.state store.old) (K.state output.old)) (world_of (F.state store.new) (K.state output.new))) }
+    ensures some { (t : Tree) (d : DefinitionOrRefusal) → (F.state store.old).tree ≡ Some t → IsDefinition name.now (definition_bytes t name.now) d
+        → RanSome (by_lines step finish (opening t d)) (world_of (F.state store.old) (K.state output.old)) (world_of (F.state store.new) (K.state output.new)) result }
+    ensures took { (t : Tree) (bytes : List ℕ) (d : DefinitionOrRefusal) → (F.state store.old).tree ≡ Some t → S.rest input.old ≡ Some bytes
+        → IsDefinition name.now (definition_bytes t name.now) d
+        → OnErr result (Took (by_lines step finish (opening t d)) bytes (S.rest input.new) (world_of (F.state store.old) (K.state output.old)) (world_of (F.state store.new) (K.state output.new))) }
     ensures idle { IdleRun result (world_of (F.state store.old) (K.state output.old)) (world_of (F.state store.new) (K.state output.new)) }
     ensures whole { (bytes : List ℕ) → S.rest input.old ≡ Some bytes → IsWholeInput bytes (S.rest input.new) result }
     ensures blames { BlamesRun (S.faults input.old) (S.faults input.new) (world_of (F.state store.old) (K.state output.old)) (world_of (F.state store.new) (K.state output.new)) result }
     ensures rises { steps.old ≤ steps.new }
-    ensures within { (t : Tree) (bytes : List ℕ) (d : DefinitionOrRefusal) → (F.state store.old).tree ≡ Some t → S.rest input.old ≡ Some bytes → IsDefinition name.now (definition_bytes t name.now) d → result ≢ Err (Halt.Stopped Stop.NoMemory) → StepsBehind (opening t d) (lines_of bytes) steps.old steps.new }
+    ensures within { (t : Tree) (bytes : List ℕ) (d : DefinitionOrRefusal) → (F.state store.old).tree ≡ Some t → S.rest input.old ≡ Some bytes
+        → IsDefinition name.now (definition_bytes t name.now) d → result ≢ Err (Halt.Stopped Stop.NoMemory)
+        → StepsBehind (opening t d) (lines_of bytes) steps.old steps.new }
 {
     match open(alloc, store, output, name, steps)? {
         Opened::Open(mut view) => {

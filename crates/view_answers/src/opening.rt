@@ -45,7 +45,8 @@ pub(crate) fn open<F: Folders, K: Sink, L: Ledger>(
     name: &Text,
     steps: &mut Steps<L>,
 ) -> Result<Opened, Stop>
-    ensures opens { (t : Tree) (d : DefinitionOrRefusal) → (F.state store.old).tree ≡ Some t → IsDefinition name.now (definition_bytes t name.now) d → Opens (opening t d) (world_of (F.state store.old) (K.state output.old)) (world_of (F.state store.new) (K.state output.new)) result }
+    ensures opens { (t : Tree) (d : DefinitionOrRefusal) → (F.state store.old).tree ≡ Some t → IsDefinition name.now (definition_bytes t name.now) d
+        → Opens (opening t d) (world_of (F.state store.old) (K.state output.old)) (world_of (F.state store.new) (K.state output.new)) result }
     ensures refused { IfOk result IsRefusal }
     ensures idle { IdleUnread result (world_of (F.state store.old) (K.state output.old)) (world_of (F.state store.new) (K.state output.new)) }
     ensures blames { Blames (world_of (F.state store.old) (K.state output.old)) (world_of (F.state store.new) (K.state output.new)) result }
@@ -73,7 +74,8 @@ fn open_view<F: Folders, K: Sink, L: Ledger>(
     definition: Definition,
     steps: &mut Steps<L>,
 ) -> Result<Opened, Stop>
-    ensures opens { (t : Tree) → (F.state store.old).tree ≡ Some t → Opens (with_catalogue t (query_of definition.view.value) (loaded_or_refused t)) (world_of (F.state store.old) (K.state output.old)) (world_of (F.state store.new) (K.state output.new)) result }
+    ensures opens { (t : Tree) → (F.state store.old).tree ≡ Some t
+        → Opens (with_catalogue t (query_of definition.view.value) (loaded_or_refused t)) (world_of (F.state store.old) (K.state output.old)) (world_of (F.state store.new) (K.state output.new)) result }
     ensures refused { IfOk result IsRefusal }
     ensures idle { IdleUnread result (world_of (F.state store.old) (K.state output.old)) (world_of (F.state store.new) (K.state output.new)) }
     ensures blames { Blames (world_of (F.state store.old) (K.state output.old)) (world_of (F.state store.new) (K.state output.new)) result }
@@ -102,7 +104,9 @@ fn open_session<F: Folders, K: Sink, L: Ledger>(
     catalogue: Catalogue,
     steps: &mut Steps<L>,
 ) -> Result<Opened, Stop>
-    ensures opens { (t : Tree) → (F.state store.old).tree ≡ Some t → Opens (with_view t (query_of definition.view.value) catalogue.databases (refusal_of catalogue.databases (query_of definition.view.value))) (world_of (F.state store.old) (K.state output.old)) (world_of (F.state store.new) (K.state output.new)) result }
+    ensures opens { (t : Tree) → (F.state store.old).tree ≡ Some t
+        → Opens (with_view t (query_of definition.view.value) catalogue.databases (refusal_of catalogue.databases (query_of definition.view.value)))
+        (world_of (F.state store.old) (K.state output.old)) (world_of (F.state store.new) (K.state output.new)) result }
     ensures refused { IfOk result IsRefusal }
     ensures idle { IdleUnread result (world_of (F.state store.old) (K.state output.old)) (world_of (F.state store.new) (K.state output.new)) }
     ensures blames { Blames (world_of (F.state store.old) (K.state output.old)) (world_of (F.state store.new) (K.state output.new)) result }

@@ -134,7 +134,10 @@ impl OpenView {
         store: &mut F,
         output: &mut K,
     ) -> Result<(), Stop>
-        ensures does { (t : Tree) → (F.state store.old).tree ≡ Some t → Does (opening_effects (view_folder self.now.session.query.view_db) (files_of_view self.now.session.catalogue self.now.session.query) (files_of t (view_folder self.now.session.query.view_db))) (world_of (F.state store.old) (K.state output.old)) (world_of (F.state store.new) (K.state output.new)) result }
+        ensures does { (t : Tree) → (F.state store.old).tree ≡ Some t
+            → Does
+            (opening_effects (view_folder self.now.session.query.view_db) (files_of_view self.now.session.catalogue self.now.session.query) (files_of t (view_folder self.now.session.query.view_db)))
+            (world_of (F.state store.old) (K.state output.old)) (world_of (F.state store.new) (K.state output.new)) result }
         ensures idle { IdleUnread result (world_of (F.state store.old) (K.state output.old)) (world_of (F.state store.new) (K.state output.new)) }
         ensures blames { Blames (world_of (F.state store.old) (K.state output.old)) (world_of (F.state store.new) (K.state output.new)) result }
     {

@@ -34,7 +34,8 @@ pub fn open_folder<F: Folders, K: Sink>(
     shape: Shape,
 ) -> Result<OpenedFolder, Stop>
     requires { shape.constants ≢ [] }
-    ensures opens { (t : Tree) → (F.state store.old).tree ≡ Some t → Opens (opening view_db shape t) (world_of (F.state store.old) (K.state output.old)) (world_of (F.state store.new) (K.state output.new)) result }
+    ensures opens { (t : Tree) → (F.state store.old).tree ≡ Some t
+        → Opens (opening view_db shape t) (world_of (F.state store.old) (K.state output.old)) (world_of (F.state store.new) (K.state output.new)) result }
     ensures only_read { OnlyRead (F.state store.old) (F.state store.new) }
     ensures unprinted { IsErrOf result Stop.ReadFault → K.state output.new ≡ K.state output.old }
     ensures blames { Blames (world_of (F.state store.old) (K.state output.old)) (world_of (F.state store.new) (K.state output.new)) result }

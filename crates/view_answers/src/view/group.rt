@@ -152,7 +152,8 @@ impl OpenView {
         steps: &mut Steps<L>,
     ) -> Result<(), Stop>
         requires { is_some self.old.session.held ≡ true }
-        ensures does { (s : _) → Does (by_group self.old (refusal_of (working self.old.session) self.old.session.query)).effects (world_of s (K.state output.old)) (world_of s (K.state output.new)) result }
+        ensures does { (s : _)
+            → Does (by_group self.old (refusal_of (working self.old.session) self.old.session.query)).effects (world_of s (K.state output.old)) (world_of s (K.state output.new)) result }
         ensures view { OnOk result (self.new ≡ (by_group self.old (refusal_of (working self.old.session) self.old.session.query)).view) }
         ensures blames { SinkBlames (K.state output.old) (K.state output.new) result }
         ensures rises { steps.old ≤ steps.new }
