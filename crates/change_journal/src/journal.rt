@@ -138,7 +138,8 @@ fn put_entry<D: Disk>(alloc: Global, disk: &mut D, end: u64, entry: &[u8]) -> Re
         → LeavesOnly (D.state disk.old) (D.state disk.new) (D.left_since disk.old) (D.left_since disk.new) (IsBeforeOrAfter groups group) }
     ensures still { (groups : List Group) → IsErrOf result StoreFault.NoMemory → AllHave groups ((D.state disk.old).content)
         → LeavesOnly (D.state disk.old) (D.state disk.new) (D.left_since disk.old) (D.left_since disk.new) (Has groups) }
-    ensures acknowledged { (group : Group) (groups : List Group) → IsEntryOf group entry.now → OnOk result (AllHave groups ((D.state disk.old).content) → AllHave (groups ++ group ∷ []) ((D.state disk.new).content)) }
+    ensures acknowledged { (group : Group) (groups : List Group) → IsEntryOf group entry.now
+        → OnOk result (AllHave groups ((D.state disk.old).content) → AllHave (groups ++ group ∷ []) ((D.state disk.new).content)) }
     ensures no_memory { (groups : List Group) → IsErrOf result StoreFault.NoMemory → AllHave groups ((D.state disk.old).content) → AllHave groups ((D.state disk.new).content) }
     ensures failed { IsErrOf result StoreFault.Failed → Rose ((D.state disk.old).faults) ((D.state disk.new).faults) }
     ensures steady { (D.state disk.old).faults ≤ (D.state disk.new).faults }
