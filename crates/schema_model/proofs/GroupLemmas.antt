@@ -14,12 +14,14 @@ use Rattle.schema_model.specs.Refusals.{fault, group_fault}
 use Rattle.schema_model.specs.Sound.{IsSound, IsDatabase}
 use Rattle.schema_model.specs.ListedRows.{IsNext}
 use Rattle.schema_model.specs.States.{RelationState, DatabaseState, no_relation_state, plain_relation, plain_database, plain_databases, relation_state_at}
-use Rattle.schema_model.specs.Edits.{relation_edited, FitsDatabase, FitsWaiting, waiting_left, waits_in, rows_after}
-use Rattle.schema_model.specs.Groups.{is_of_row, named, all_named, all_waits, waits_at, row_edited, rows_edited, IsRowEdit}
+use Rattle.schema_model.specs.Edits.{relation_edited, FitsDatabase, FitsWaiting, FitsOwn, waiting_left, waits_in, own_left, own_in, rows_after}
+use Rattle.schema_model.specs.Groups.{is_of_row, named, all_named, all_waits, waits_at, all_own, own_at, KeepsOwn, AreOwn, row_edited, rows_edited, IsRowEdit}
 use Rattle.schema_model.specs.declared.change.Change.{Change}
 use Rattle.schema_model.specs.declared.change.Change.TheVariants.{Insert, Delete, AddAttribute, DropAttribute, RenameAttribute, CreateRelation, DropRelation, RenameRelation, CreateDatabase, DropDatabase, RenameDatabase}
 use Rattle.schema_model.specs.declared.refusal.Refusal.{Refusal}
 use Rattle.schema_model.specs.declared.edit.RelationEdit.{RelationEdit}
+use Rattle.schema_model.specs.declared.edit.RelationEdit.TheVariants.{Add, Take, Sheet, Header}
+use Rattle.schema_model.specs.declared.edit.RowEdit.{RowEdit}
 use Rattle.schema_model.specs.declared.edit.DatabaseEdit.TheVariants as inner
 use Rattle.schema_model.proofs.Seen.{at_seen, put_seen}
 use Rattle.schema_model.proofs.ChangeLemmas.{changed_there}
@@ -195,7 +197,38 @@ module _ (c : CatalogueValue) (db rel : Text) (i j : ℕ) (at : IsPlaceOf databa
     };
   }
 
--- the rows that wait, of a database that was read and put back
+-- rows that are their own stay so, where those of one relation become so
+keeps_there : (f : Bool → Bool) → f true ≡ true → (own : List Bool) (j k : ℕ) → IsTrue (slice_index_or own k false) → IsTrue (slice_index_or (at_place j f own) k false)
+keeps_there f h [] j k e = e
+keeps_there f h (o ∷ own) zero zero e = ap f e ∙ h
+keeps_there f h (o ∷ own) zero (suc k) e = e
+keeps_there f h (o ∷ own) (suc j) zero e = e
+keeps_there f h (o ∷ own) (suc j) (suc k) e = keeps_there f h own j k e
+
+keeps_at : (f : Bool → Bool) → f true ≡ true → (own : List (List Bool)) (i j : ℕ) → KeepsOwn own (at_place i (at_place j f) own)
+keeps_at f h [] i j db rel e = e
+keeps_at f h (here ∷ own) zero j zero rel e = keeps_there f h here j rel e
+keeps_at f h (here ∷ own) zero j (suc db) rel e = e
+keeps_at f h (here ∷ own) (suc i) j zero rel e = e
+keeps_at f h (here ∷ own) (suc i) j (suc db) rel e = keeps_at f h own i j db rel e
+
+edit_keeps : (edit : RelationEdit) → own_left edit true ≡ true
+edit_keeps (Add row) = refl
+edit_keeps (Take row) = refl
+edit_keeps (Sheet attributes rows) = refl
+edit_keeps (Header attributes) = refl
+
+still_fits : (edit : RelationEdit) (own later : Bool) → (IsTrue own → IsTrue later) → FitsOwn edit own → FitsOwn edit later
+still_fits (Add row) own later keeps h = tt
+still_fits (Take row) own later keeps h = keeps h
+still_fits (Sheet attributes rows) own later keeps h = tt
+still_fits (Header attributes) own later keeps h = tt
+
+pub still_own : (es : List RowEdit) (own later : List (List Bool)) → KeepsOwn own later → AreOwn es own → AreOwn es later
+still_own [] own later keeps h = tt
+still_own (e ∷ es) own later keeps h = (still_fits e.edit (own_at e.db e.rel own) (own_at e.db e.rel later) (keeps e.db e.rel) h.0, still_own es own later keeps h.1)
+
+-- the rows that wait and those that are their own, of a database that was read and put back
 module _ (ds : List DatabaseState) (i : ℕ) (shown new : DatabaseState) (lt : i < length ds) (is : shown ≡ slice_index_or ds i shown) where
   waits_are : slice_index_or (all_waits ds) i [] ≡ waits_in shown
   waits_are = at_seen waits_in ds i shown [] lt ∙ ap waits_in (sym is)
@@ -219,13 +252,32 @@ module _ (ds : List DatabaseState) (i : ℕ) (shown new : DatabaseState) (lt : i
       let here : database_at i (plain_databases ds) ≡ plain_database shown = at_seen plain_database ds i shown (database_value [] []) lt ∙ ap plain_database (sym is) in
       omega (arith, within, ap (λ (d : DatabaseValue). length d.relations) here, length-map shown.relations plain_relation)
 
+  own_is : slice_index_or (all_own ds) i [] ≡ own_in shown
+  own_is = at_seen own_in ds i shown [] lt ∙ ap own_in (sym is)
+
+  pub own_put : (j : ℕ) → j < length shown.relations → own_in new ≡ at_place j (λ own. true) (own_in shown) → IsTrue (own_at i j (all_own (slice_set ds i new))) × KeepsOwn (all_own ds) (all_own (slice_set ds i new))
+  own_put j within e =
+      let f : Bool → Bool = λ own. true in
+      let own = all_own ds in
+      let put : all_own (slice_set ds i new) ≡ at_place i (at_place j f) own = put_seen own_in (at_place j f) ds i shown new lt is e in
+      let db_lt : i < length own = omega (arith, lt, length-map ds own_in) in
+      let rel_lt : j < length (slice_index_or own i []) = omega (arith, within, length-map shown.relations (λ (r : RelationState). r.own), ap length own_is) in (
+        ap (own_at i j) put ∙ ap (λ (x : List Bool). slice_index_or x j false) (read_changed own i [] (at_place j f) db_lt) ∙ read_changed (slice_index_or own i []) j false f rel_lt,
+        subst (KeepsOwn own) (sym put) (keeps_at f refl own i j),
+      )
+
+  pub own_stays : (j : ℕ) (edit : RelationEdit) → own_in new ≡ at_place j (own_left edit) (own_in shown) → KeepsOwn (all_own ds) (all_own (slice_set ds i new))
+  own_stays j edit e = subst (KeepsOwn (all_own ds)) (sym (put_seen own_in (at_place j (own_left edit)) ds i shown new lt is e)) (keeps_at (own_left edit) (edit_keeps edit) (all_own ds) i j)
+
   -- what an edit there asks
-  pub edit_fits : (j : ℕ) (edit : RelationEdit) → j < length (database_at i (plain_databases ds)).relations → FitsWaiting edit (waits_at i j (all_waits ds)) → FitsDatabase (inner.At j edit) shown
-  edit_fits j edit within fits =
+  pub edit_fits : (j : ℕ) (edit : RelationEdit) → j < length (database_at i (plain_databases ds)).relations → FitsWaiting edit (waits_at i j (all_waits ds)) → FitsOwn edit (own_at i j (all_own ds)) → FitsDatabase (inner.At j edit) shown
+  edit_fits j edit within fits owns =
       let rel_lt = within_shown j within in
       let waits : waits_at i j (all_waits ds) ≡ (relation_state_at j shown).waiting
       = ap (λ (x : List (List Row)). slice_index_or x j []) waits_are ∙ at_seen (λ (r : RelationState). r.waiting) shown.relations j no_relation_state [] rel_lt in
-      (rel_lt, subst (FitsWaiting edit) waits fits)
+      let own : own_at i j (all_own ds) ≡ (relation_state_at j shown).own
+      = ap (λ (x : List Bool). slice_index_or x j false) own_is ∙ at_seen (λ (r : RelationState). r.own) shown.relations j no_relation_state false rel_lt in
+      (rel_lt, (subst (FitsWaiting edit) waits fits, subst (FitsOwn edit) own owns))
 
   pub waits_left : (j : ℕ) (edit : RelationEdit) → waits_in new ≡ at_place j (waiting_left edit) (waits_in shown) → all_waits (slice_set ds i new) ≡ at_place i (at_place j (waiting_left edit)) (all_waits ds)
   waits_left j edit e = put_seen waits_in (at_place j (waiting_left edit)) ds i shown new lt is e

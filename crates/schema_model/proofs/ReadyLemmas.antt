@@ -165,7 +165,7 @@ module _ (ds : List DatabaseState) (db rel : Text) (i j : ℕ) (shown new : Data
   pub attribute_renamed : (room : ℕ) (name to : Text) (r : RelationState) (attributes : Row) → IsPlaceOf relation_name rel (plain_database shown).relations j → slice_index_or shown.relations j r ≡ r
       → attributes ≡ slice_set r.attributes (position_or_len (text_eq name) r.attributes) to → Makes ds room (RenameAttribute db rel name to) (outer.At i (inner.At j (Header attributes)))
   attribute_renamed room name to r attributes rel_at r_is is =
-      let made = relation_changed room (Header attributes) (renamed_attribute name to) r rel_at r_is (ap (λ (names : Row). relation_value r.name names (plain_relation r).rows) is) tt in
+      let made = relation_changed room (Header attributes) (renamed_attribute name to) r rel_at r_is (ap (λ (names : Row). relation_value r.name names (plain_relation r).rows) is) (tt, tt) in
       record { fits = made.fits; makes = made.makes }
 
   pub attribute_dropped : (room : ℕ) (name : Text) (place : ℕ) (r : RelationState) (edit : RelationEdit) → IsPlaceOf relation_name rel (plain_database shown).relations j → slice_index_or shown.relations j r ≡ r

@@ -1,5 +1,5 @@
 -- An edit is a change whose places are found and whose memory is taken: what it makes, and what it asks.
-use Rattle.std.specs.Prelude.{ℕ, ◌≡◌, ◌<◌, ◌≤◌, ◌+◌, ◌-◌, ⊤, List, [], ◌∷◌, length, map, drop, insert, remove, slice_index_or}
+use Rattle.std.specs.Prelude.{ℕ, ◌≡◌, ◌<◌, ◌≤◌, ◌+◌, ◌-◌, ⊤, Bool, true, IsTrue, List, [], ◌∷◌, length, map, drop, insert, remove, slice_index_or}
 use Rattle.std.specs.Option.{option_map_or}
 use Rattle.ss_text.specs.Texts.{Text, Row}
 use Rattle.ss_text.specs.Places.{at_place}
@@ -30,8 +30,15 @@ FitsWaiting (Take row) waiting = ⊤
 FitsWaiting (Sheet attributes rows) waiting = ⊤
 FitsWaiting (Header attributes) waiting = ⊤
 
+-- a row is taken only out of rows that are the relation's own
+abbrev pub FitsOwn : RelationEdit → Bool → Type 0
+FitsOwn (Add row) own = ⊤
+FitsOwn (Take row) own = IsTrue own
+FitsOwn (Sheet attributes rows) own = ⊤
+FitsOwn (Header attributes) own = ⊤
+
 abbrev pub FitsRelation : RelationEdit → RelationState → Type 0
-FitsRelation edit r = FitsWaiting edit r.waiting
+FitsRelation edit r = FitsWaiting edit r.waiting × FitsOwn edit r.own
 
 -- the rows that wait behind it
 abbrev pub waiting_left : RelationEdit → List Row → List Row
@@ -39,6 +46,13 @@ waiting_left (Add row) waiting = drop 1 waiting
 waiting_left (Take row) waiting = waiting
 waiting_left (Sheet attributes rows) waiting = []
 waiting_left (Header attributes) waiting = waiting
+
+-- and whether its rows are its own then
+abbrev pub own_left : RelationEdit → Bool → Bool
+own_left (Add row) own = own
+own_left (Take row) own = own
+own_left (Sheet attributes rows) own = true
+own_left (Header attributes) own = own
 
 -- a database: one relation edited, one more, one less, one at the place of another name
 abbrev pub renamed_at : ℕ → ℕ → Text → List RelationValue → List RelationValue
@@ -63,6 +77,14 @@ waits_in d = map (λ (r : RelationState). r.waiting) d.relations
 abbrev pub LeavesWaiting : DatabaseEdit → DatabaseState → DatabaseState → Type 0
 LeavesWaiting (inner.At rel edit) old new = waits_in new ≡ at_place rel (waiting_left edit) (waits_in old)
 LeavesWaiting edit old new = ⊤
+
+-- whose rows are their own, and whose are after an edit of a relation
+abbrev pub own_in : DatabaseState → List Bool
+own_in d = map (λ (r : RelationState). r.own) d.relations
+
+abbrev pub LeavesOwn : DatabaseEdit → DatabaseState → DatabaseState → Type 0
+LeavesOwn (inner.At rel edit) old new = own_in new ≡ at_place rel (own_left edit) (own_in old)
+LeavesOwn edit old new = ⊤
 
 -- and a catalogue
 abbrev pub database_renamed_at : ℕ → ℕ → Text → CatalogueValue → CatalogueValue

@@ -1,5 +1,6 @@
 -- Changes that are made together, and how they wait.
-use Rattle.std.specs.Prelude.{ℕ, ◌≡◌, ◌<◌, ◌+◌, ◌-◌, ⊤, Bool, true, false, None, List, [], ◌∷◌, length, map, reverse, slice_index_or}
+use Rattle.std.specs.Prelude.{ℕ, ◌≡◌, ◌<◌, ◌+◌, ◌-◌, ⊤, Bool, true, false, IsTrue, None, List, [], ◌∷◌, length, map, reverse, slice_index_or}
+use Rattle.std.specs.List.{AllByRecursion}
 use Rattle.ss_text.specs.Texts.{Text, Row}
 use Rattle.ss_text.specs.Places.{at_place}
 use Rattle.schema_model.specs.Catalogue.{DatabaseValue, CatalogueValue, relation_names, database_at, row_count, with_relation_at}
@@ -7,7 +8,7 @@ use Rattle.schema_model.specs.Changes.{after, after_all}
 use Rattle.schema_model.specs.Refusals.{fault}
 use Rattle.schema_model.specs.Sound.{IsSound, IsCounted}
 use Rattle.schema_model.specs.States.{DatabaseState, plain_databases}
-use Rattle.schema_model.specs.Edits.{relation_edited, FitsWaiting, waiting_left, waits_in}
+use Rattle.schema_model.specs.Edits.{relation_edited, FitsWaiting, FitsOwn, waiting_left, waits_in, own_in}
 use Rattle.schema_model.specs.declared.change.Change.{Change}
 use Rattle.schema_model.specs.declared.change.Change.TheVariants.{Insert, Delete}
 use Rattle.schema_model.specs.declared.edit.RelationEdit.{RelationEdit}
@@ -35,6 +36,16 @@ all_waits ds = map waits_in ds
 
 abbrev pub waits_at : ℕ → ℕ → List (List (List Row)) → List Row
 waits_at db rel waits = slice_index_or (slice_index_or waits db []) rel []
+
+-- whose rows are their own, by the same places; and that those stay so
+abbrev pub all_own : List DatabaseState → List (List Bool)
+all_own ds = map own_in ds
+
+abbrev pub own_at : ℕ → ℕ → List (List Bool) → Bool
+own_at db rel own = slice_index_or (slice_index_or own db []) rel false
+
+abbrev pub KeepsOwn : List (List Bool) → List (List Bool) → Type 0
+KeepsOwn own later = (db rel : ℕ) → IsTrue (own_at db rel own) → IsTrue (own_at db rel later)
 
 -- the catalogue, the rows that wait and the number of rows after an edit
 abbrev pub row_edited : RowEdit → CatalogueValue → CatalogueValue
@@ -73,11 +84,19 @@ abbrev pub AreWaiting : List RowEdit → List (List (List Row)) → Type 0
 AreWaiting [] waits = ⊤
 AreWaiting (e ∷ es) waits = FitsWaiting e.edit (waits_at e.db e.rel waits) × AreWaiting es (all_left e waits)
 
+-- edits of which each finds rows that are the relation's own, where it takes one out
+abbrev pub FindsOwn : List (List Bool) → RowEdit → Type 0
+FindsOwn own e = FitsOwn e.edit (own_at e.db e.rel own)
+
+abbrev pub AreOwn : List RowEdit → List (List Bool) → Type 0
+AreOwn es own = AllByRecursion (FindsOwn own) es
+
 -- edits, the last of a list first, that make these changes
 pub record AreReady (ds : List DatabaseState) (changes : List Change) (edits : List RowEdit) : Type 0 where
   pub edits_are : AreRowEdits (reverse edits) (plain_databases ds)
   pub makes : all_edited (reverse edits) (plain_databases ds) ≡ after_all (plain_databases ds) changes
   pub waits : AreWaiting (reverse edits) (all_waits ds)
+  pub own : AreOwn (reverse edits) (all_own ds)
 
 -- databases in which changes were made, of which this is left
 abbrev pub IsMade : CatalogueValue → GroupEdit → Type 0

@@ -2,6 +2,7 @@ pub mod Catalogue
 pub mod Placed
 pub mod ListedRows
 pub mod RowsKept
+pub mod HeldRows
 pub mod States
 pub mod Changes
 pub mod Refusals

@@ -1,16 +1,17 @@
 -- What a catalogue, a database and a relation are beside their plain lists: where rows stand, what was made ready, and for how much more there is room.
-use Rattle.std.specs.Prelude.{ℕ, List, [], map, slice_index_or, Option, Some, None}
+use Rattle.std.specs.Prelude.{ℕ, Bool, false, List, [], map, slice_index_or, Option, Some, None}
 use Rattle.ss_text.specs.Texts.{Text, Row}
 use Rattle.schema_model.specs.declared.change.Change.{Change}
 use Rattle.schema_model.specs.Catalogue.{RelationValue, DatabaseValue, CatalogueValue, relation_value, database_value}
 use Rattle.schema_model.specs.Placed.{Placed, placed_rows}
 
--- its rows in order, each behind its place; and the rows that were made ready to be added, the first to be added first
+-- its rows in order, each behind its place; the rows that were made ready to be added, the first to be added first; and whether its rows are its own
 pub record RelationState : Type 0 where
   pub name : Text
   pub attributes : Row
   pub placed : Placed
   pub waiting : List Row
+  pub own : Bool
 
 -- its relations, and for how many more there is room
 pub record DatabaseState : Type 0 where
@@ -46,7 +47,7 @@ all_ready_for changes c = record { databases = c; waiting = None; group = Some c
 
 -- the relation and the database at a place; nothing is said of a place that is not there
 abbrev pub no_relation_state : RelationState
-no_relation_state = record { name = []; attributes = []; placed = []; waiting = [] }
+no_relation_state = record { name = []; attributes = []; placed = []; waiting = []; own = false }
 
 abbrev pub relation_state_at : ℕ → DatabaseState → RelationState
 relation_state_at i d = slice_index_or d.relations i no_relation_state

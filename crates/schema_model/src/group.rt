@@ -7,7 +7,7 @@ ghost use Rattle.schema_model.specs.Sound.{IsSound, IsCounted};
 ghost use Rattle.schema_model.specs.Refusals.{fault, group_fault};
 ghost use Rattle.schema_model.specs.States.{plain_databases};
 ghost use Rattle.schema_model.specs.Edits.{FitsWaiting};
-ghost use Rattle.schema_model.specs.Groups.{is_of_row, all_named, all_waits, waits_at, row_edited, all_left, rows_edited, IsRowEdit, MakesRow, AreRowEdits, all_edited, AreWaiting, AreReady};
+ghost use Rattle.schema_model.specs.Groups.{is_of_row, all_named, all_waits, waits_at, row_edited, all_left, rows_edited, IsRowEdit, MakesRow, AreRowEdits, all_edited, AreWaiting, AreReady, all_own, KeepsOwn, FindsOwn, AreOwn};
 ghost use Rattle.schema_model.specs.declared.change.Change.TheVariants as change_is;
 ghost use Rattle.schema_model.specs.Limits.{most_rows};
 
@@ -15,6 +15,7 @@ use crate::edit::{DatabaseEdit, RelationEdit, RowEdit};
 use crate::ready::place_of;
 use crate::{Change, Database};
 use ss_text::{NoMemory, Row, Text};
+use std::alloc::Global;
 use std::snapshot::Snapshot;
 
 /// Whether a change puts a row last or takes one out.
@@ -119,6 +120,7 @@ fn row_ready(databases: &mut Vec<Database>, change: &Change) -> Result<RowEdit, 
     ensures same { plain_databases databases.new.items ≡ plain_databases databases.old.items }
     ensures makes { IfOk result (λ e. MakesRow (plain_databases databases.old.items) change.now e) }
     ensures waits { IfOk result (λ e. FitsWaiting e.edit (waits_at e.db e.rel (all_waits databases.new.items)) × (all_left e (all_waits databases.new.items) ≡ all_waits databases.old.items)) }
+    ensures own { IfOk result (λ e. FindsOwn (all_own databases.new.items) e × KeepsOwn (all_own databases.old.items) (all_own databases.new.items)) }
 {
     match change {
         Change::Insert { db, rel, row } => insert_ready(databases, db, rel, row),
@@ -138,6 +140,7 @@ fn insert_ready(
     ensures same { plain_databases databases.new.items ≡ plain_databases databases.old.items }
     ensures makes { IfOk result (λ e. MakesRow (plain_databases databases.old.items) (change_is.Insert db.now rel.now row.now) e) }
     ensures waits { IfOk result (λ e. FitsWaiting e.edit (waits_at e.db e.rel (all_waits databases.new.items)) × (all_left e (all_waits databases.new.items) ≡ all_waits databases.old.items)) }
+    ensures own { IfOk result (λ e. FindsOwn (all_own databases.new.items) e × KeepsOwn (all_own databases.old.items) (all_own databases.new.items)) }
 {
     let Some((db, rel)) = places(databases, db, rel) else {
         unreachable!()
@@ -154,20 +157,24 @@ fn insert_ready(
 }
 
 fn delete_ready(
-    databases: &Vec<Database>,
+    databases: &mut Vec<Database>,
     db: &Text,
     rel: &Text,
     row: &Row,
 ) -> Result<RowEdit, NoMemory>
-    requires sound { IsSound (plain_databases databases.now.items) }
-    requires later { (later : CatalogueValue) × (all_named (plain_databases databases.now.items) ≡ all_named later) × (fault later (change_is.Delete db.now rel.now row.now) ≡ None) }
-    ensures makes { IfOk result (λ e. MakesRow (plain_databases databases.now.items) (change_is.Delete db.now rel.now row.now) e) }
-    ensures waits { IfOk result (λ e. FitsWaiting e.edit (waits_at e.db e.rel (all_waits databases.now.items)) × (all_left e (all_waits databases.now.items) ≡ all_waits databases.now.items)) }
+    requires sound { IsSound (plain_databases databases.old.items) }
+    requires later { (later : CatalogueValue) × (all_named (plain_databases databases.old.items) ≡ all_named later) × (fault later (change_is.Delete db.now rel.now row.now) ≡ None) }
+    ensures same { plain_databases databases.new.items ≡ plain_databases databases.old.items }
+    ensures makes { IfOk result (λ e. MakesRow (plain_databases databases.old.items) (change_is.Delete db.now rel.now row.now) e) }
+    ensures waits { IfOk result (λ e. FitsWaiting e.edit (waits_at e.db e.rel (all_waits databases.new.items)) × (all_left e (all_waits databases.new.items) ≡ all_waits databases.old.items)) }
+    ensures own { IfOk result (λ e. FindsOwn (all_own databases.new.items) e × KeepsOwn (all_own databases.old.items) (all_own databases.new.items)) }
 {
     let Some((db, rel)) = places(databases, db, rel) else {
         unreachable!()
     };
     let row = row.copy()?;
+    let database = &mut databases[db];
+    database.own_rows(rel)?;
     Ok(RowEdit {
         db,
         rel,
@@ -181,6 +188,7 @@ pub(crate) fn make_rows(databases: &mut Vec<Database>, rows: usize, edits: Vec<R
     requires counted { IsCounted (plain_databases databases.old.items) rows }
     requires edits { AreRowEdits (reverse edits.items) (plain_databases databases.old.items) }
     requires waits { AreWaiting (reverse edits.items) (all_waits databases.old.items) }
+    requires own { AreOwn (reverse edits.items) (all_own databases.old.items) }
     ensures made { plain_databases databases.new.items ≡ all_edited (reverse edits.items) (plain_databases databases.old.items) }
     ensures counted { IsCounted (plain_databases databases.new.items) result }
 {
@@ -191,6 +199,52 @@ pub(crate) fn make_rows(databases: &mut Vec<Database>, rows: usize, edits: Vec<R
         make_row(databases, edit);
     }
     count
+}
+
+/// The places of the relations that edits of rows change.
+pub(crate) fn touched(alloc: Global, edits: &[RowEdit]) -> Result<Vec<(usize, usize)>, NoMemory> {
+    let mut places = Vec::with_capacity(alloc, edits.len())?;
+    for edit in edits {
+        places.push((edit.db, edit.rel))?;
+    }
+    Ok(places)
+}
+
+/// Lets copies share the rows of the relations at these places again. This takes no memory.
+pub(crate) fn settle_at(databases: &mut Vec<Database>, places: &[(usize, usize)])
+    ensures { plain_databases databases.new.items ≡ plain_databases databases.old.items }
+{
+    for (db, rel) in places {
+        settle_one(databases, *db, *rel);
+    }
+}
+
+fn settle_one(databases: &mut Vec<Database>, db: usize, rel: usize)
+    ensures { plain_databases databases.new.items ≡ plain_databases databases.old.items }
+{
+    if db < databases.len() {
+        let database = &mut databases[db];
+        database.settle(rel);
+    }
+}
+
+/// Lets copies share the rows of all relations again. This takes no memory.
+pub(crate) fn settle_all(databases: &mut Vec<Database>)
+    ensures { plain_databases databases.new.items ≡ plain_databases databases.old.items }
+{
+    let count = databases.len();
+    for db in 0..count {
+        settle_database(databases, db);
+    }
+}
+
+fn settle_database(databases: &mut Vec<Database>, db: usize)
+    ensures { plain_databases databases.new.items ≡ plain_databases databases.old.items }
+{
+    if db < databases.len() {
+        let database = &mut databases[db];
+        database.settle_all();
+    }
 }
 
 fn rows_edited(edit: &RelationEdit, rows: usize) -> usize
@@ -207,8 +261,10 @@ fn rows_edited(edit: &RelationEdit, rows: usize) -> usize
 fn make_row(databases: &mut Vec<Database>, edit: RowEdit)
     requires edit { IsRowEdit (plain_databases databases.old.items) edit }
     requires waits { FitsWaiting edit.edit (waits_at edit.db edit.rel (all_waits databases.old.items)) }
+    requires own { FindsOwn (all_own databases.old.items) edit }
     ensures made { plain_databases databases.new.items ≡ row_edited edit (plain_databases databases.old.items) }
     ensures left { all_waits databases.new.items ≡ all_left edit (all_waits databases.old.items) }
+    ensures own { KeepsOwn (all_own databases.old.items) (all_own databases.new.items) }
 {
     let RowEdit { db, rel, edit } = edit;
     let database = &mut databases[db];

@@ -138,7 +138,7 @@ impl Listed {
 
     /// No row waits from now on.
     pub(crate) fn forget(&mut self)
-        ensures { self.new.rows ≡ self.old.rows }
+        ensures { self.new ≡ listed_rows self.old.rows [] }
     {
         self.waiting.clear();
     }

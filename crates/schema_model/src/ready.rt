@@ -210,12 +210,12 @@ fn create_relation_ready(
     };
     let name = rel.copy()?;
     let attributes = attributes.copy()?;
+    let relation = Relation::new(alloc, name, attributes)?;
     let database = &mut databases[db];
     let Err(place) = database.place_of(rel) else {
         unreachable!()
     };
     database.reserve()?;
-    let relation = Relation::new(alloc, name, attributes);
     let edit = DatabaseEdit::Put { place, relation };
     Ok(CatalogueEdit::At { db, edit })
 }

@@ -138,7 +138,8 @@ impl Rows {
     /// Lets no row wait.
     #[tactic(auto, using(crate::proofs::NumberedLemmas::rows_numbered))]
     pub(crate) fn forget(&mut self, alloc: Global) -> Result<(), NoMemory>
-        ensures { placed_rows (placed_in self.new) ≡ placed_rows (placed_in self.old) }
+        ensures rows { placed_rows (placed_in self.new) ≡ placed_rows (placed_in self.old) }
+        ensures ok { OnOk result (waiting_in self.new ≡ []) }
     {
         match self {
             Rows::Listed(listed) => {

@@ -34,6 +34,7 @@ pub(crate) fn delete_ready(
         unreachable!()
     };
     database.link_rows(rel)?;
+    database.own_rows(rel)?;
     let edit = DatabaseEdit::At {
         rel,
         edit: RelationEdit::Take { row },

@@ -8,7 +8,7 @@ use Rattle.schema_model.specs.declared.edit.RelationEdit.TheVariants.{Add}
 use Rattle.schema_model.proofs.Seen.{kept_seen}
 use Rattle.schema_model.proofs.ReadyLemmas.{within_seen}
 use Rattle.schema_model.proofs.ChangeLemmas.{insert_asks}
-use Rattle.schema_model.proofs.GroupLemmas.{not_missing, row_makes, row_counted, waits_put, within_shown}
+use Rattle.schema_model.proofs.GroupLemmas.{not_missing, row_makes, row_counted, waits_put, own_put, within_shown}
 use Rattle.schema_model.proofs.group.insert_ready.Goals as goal
 
 pub unreachable-requires : goal.unreachable-requires
@@ -48,3 +48,12 @@ returns-clause-waits c =
     waits_put ds c.in-Some.db c.index_mut-database.result.now c.wait_row.new.self lt c.index_mut-database.ensures.value c.in-Some.rel c.of-asked.result.value c.in_ok-row.row
     (within_shown ds c.in-Some.db c.index_mut-database.result.now c.wait_row.new.self lt c.index_mut-database.ensures.value c.in-Some.rel c.in-Some.ensures.1.within)
     c.in_ok-wait_row.ensures.ok c.of-asked.ensures
+
+pub returns-clause-own : goal.returns-clause-own
+returns-clause-own c =
+    let ds = c.args.databases.now.items in
+    let lt = within_seen ds c.in-Some.db c.in-Some.ensures.0.within in
+    let shown = c.index_mut-database.result.now in
+    let is = c.index_mut-database.ensures.value in
+    let within = within_shown ds c.in-Some.db shown c.wait_row.new.self lt is c.in-Some.rel c.in-Some.ensures.1.within in
+    (tt, (own_put ds c.in-Some.db shown c.wait_row.new.self lt is c.in-Some.rel within c.in_ok-wait_row.ensures.own).1)

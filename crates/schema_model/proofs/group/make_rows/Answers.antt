@@ -2,9 +2,9 @@ use Rattle.std.proofs.Common.{◌≡◌, ◌∷◌, ◌∙◌, [], List, reverse
 use Rattle.schema_model.specs.Catalogue.{row_count}
 use Rattle.schema_model.specs.Sound.{IsSound}
 use Rattle.schema_model.specs.States.{plain_databases}
-use Rattle.schema_model.specs.Groups.{all_waits, rows_edited, AreRowEdits, all_edited, AreWaiting}
+use Rattle.schema_model.specs.Groups.{all_waits, rows_edited, AreRowEdits, all_edited, AreWaiting, all_own, AreOwn}
 use Rattle.schema_model.specs.declared.edit.RowEdit.{RowEdit}
-use Rattle.schema_model.proofs.GroupLemmas.{reverse_last, none_left}
+use Rattle.schema_model.proofs.GroupLemmas.{reverse_last, none_left, still_own}
 use Rattle.schema_model.proofs.group.make_rows.Goals as goal
 
 pub make_row-requires-clause-edit : goal.make_row-requires-clause-edit
@@ -17,6 +17,11 @@ make_row-requires-clause-waits c =
     let next = ap reverse c.in-Some.ensures.items ∙ reverse_last c.pop.new.self.items c.in-Some.edit in
     (subst (λ (es : List RowEdit). AreWaiting es (all_waits c.loop-edit.databases.items)) next c.loop-edit.invariant.waits).0
 
+pub make_row-requires-clause-own : goal.make_row-requires-clause-own
+make_row-requires-clause-own c =
+    let next = ap reverse c.in-Some.ensures.items ∙ reverse_last c.pop.new.self.items c.in-Some.edit in
+    (subst (λ (es : List RowEdit). AreOwn es (all_own c.loop-edit.databases.items)) next c.loop-edit.invariant.own).0
+
 pub loop-edit-preserved : goal.loop-edit-preserved
 loop-edit-preserved c =
     let e = c.in-Some.edit in
@@ -25,9 +30,11 @@ loop-edit-preserved c =
     let next = ap reverse c.in-Some.ensures.items ∙ reverse_last left e in
     let edits = subst (λ (es : List RowEdit). AreRowEdits es (plain_databases ds)) next c.loop-edit.invariant.edits in
     let waits = subst (λ (es : List RowEdit). AreWaiting es (all_waits ds)) next c.loop-edit.invariant.waits in
+    let own = subst (λ (es : List RowEdit). AreOwn es (all_own ds)) next c.loop-edit.invariant.own in
     record {
       edits = subst (AreRowEdits (reverse left)) (sym c.make_row.ensures.made) edits.1;
       waits = subst (AreWaiting (reverse left)) (sym c.make_row.ensures.left) waits.1;
+      own = still_own (reverse left) (all_own ds) (all_own c.make_row.new.databases.items) c.make_row.ensures.own own.1;
       same = ap (all_edited (reverse left)) c.make_row.ensures.made ∙ sym (ap (λ (es : List RowEdit). all_edited es (plain_databases ds)) next) ∙ c.loop-edit.invariant.same;
       counted = record {
         sound = subst IsSound (sym c.make_row.ensures.made) edits.0.counted.sound;

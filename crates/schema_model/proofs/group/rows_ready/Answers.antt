@@ -4,10 +4,10 @@ use Rattle.schema_model.specs.Changes.{after, after_all}
 use Rattle.schema_model.specs.Refusals.{group_fault}
 use Rattle.schema_model.specs.Catalogue.{CatalogueValue}
 use Rattle.schema_model.specs.States.{plain_databases}
-use Rattle.schema_model.specs.Groups.{is_of_row, all_named, all_waits, AreRowEdits, all_edited, AreWaiting}
+use Rattle.schema_model.specs.Groups.{is_of_row, all_named, all_waits, AreRowEdits, all_edited, AreWaiting, all_own, AreOwn}
 use Rattle.schema_model.specs.declared.edit.RowEdit.{RowEdit}
 use Rattle.schema_model.proofs.SoundAfter.{sound_after_all}
-use Rattle.schema_model.proofs.GroupLemmas.{all_last, fault_last, after_last, names_after_all, formed_rows, reverse_last, none_left}
+use Rattle.schema_model.proofs.GroupLemmas.{all_last, fault_last, after_last, names_after_all, formed_rows, reverse_last, none_left, still_own}
 use Rattle.schema_model.proofs.group.rows_ready.Goals as goal
 
 pub row_ready-requires-clause-row : goal.row_ready-requires-clause-row
@@ -41,6 +41,7 @@ loop-change-preserved c =
     let edits = reverse c.loop-change.edits.items in
     let next : reverse c.push.new.self.items ≡ e ∷ edits = ap reverse c.in_ok-push.ensures.items ∙ reverse_last c.loop-change.edits.items e in
     let waits = c.in_ok-row_ready.ensures.waits in
+    let own = c.in_ok-row_ready.ensures.own in
     record {
       same = c.row_ready.ensures.same ∙ c.loop-change.invariant.same;
       rows = rows.0;
@@ -48,6 +49,8 @@ loop-change-preserved c =
       edits = subst (λ (es : List RowEdit). AreRowEdits es before) (sym next) (c.in_ok-row_ready.ensures.makes.edits before names sound accepted.1, subst (AreRowEdits edits) step c.loop-change.invariant.edits);
       makes = ap (λ (es : List RowEdit). all_edited es before) next ∙ ap (all_edited edits) (sym step) ∙ c.loop-change.invariant.makes;
       waits = subst (λ (es : List RowEdit). AreWaiting es (all_waits c.row_ready.new.databases.items)) (sym next) (waits.0, subst (AreWaiting edits) (sym waits.1) c.loop-change.invariant.waits);
+      own = subst (λ (es : List RowEdit). AreOwn es (all_own c.row_ready.new.databases.items)) (sym next)
+          (own.0, still_own edits (all_own c.loop-change.databases.items) (all_own c.row_ready.new.databases.items) own.1 c.loop-change.invariant.own);
     }
 
 pub returns-clause-ready : goal.returns-clause-ready
@@ -60,4 +63,5 @@ returns-clause-ready c =
       edits_are = subst (AreRowEdits edits) (start ∙ sym c.loop-change.invariant.same) c.loop-change.invariant.edits;
       makes = ap (all_edited edits) (c.loop-change.invariant.same ∙ sym start) ∙ c.loop-change.invariant.makes ∙ ap (λ (d : CatalogueValue). after_all d c.args.changes.now) (sym c.loop-change.invariant.same);
       waits = c.loop-change.invariant.waits;
+      own = c.loop-change.invariant.own;
     }

@@ -31,4 +31,4 @@ returns c =
     let attributes : c.in_ok-attributes.attributes ≡ r.attributes ++ c.args.name.now ∷ [] = c.in_ok-attributes.ensures ∙ ap (λ (names : Row). names ++ c.args.name.now ∷ []) (c.cells.ensures ∙ c.attributes.ensures.attributes) in
     let rows : c.in_ok-rows.rows.items ≡ map (λ (row : Row). row ++ c.args.fill.now ∷ []) (plain_relation r).rows = c.in_ok-rows.ensures ∙ ap (map (λ (row : Bor Row). row.now ++ c.args.fill.now ∷ [])) c.deref.ensures.value ∙ mapped_rows (λ (row : Row). row ++ c.args.fill.now ∷ []) c.in_ok-kept.kept.items (plain_relation r).rows c.in_ok-kept.ensures in
     attribute_added ds c.args.db.now c.args.rel.now c.in-Ok.db c.in-Ok-place_of.rel c.index.result.now c.index.result.now c.requires.sound c.in-Ok.ensures.found is _ c.args.name.now c.args.fill.now r
-    (Sheet c.in_ok-attributes.attributes c.in_ok-rows.rows) c.in-Ok-place_of.ensures.found r_is (rw (attributes, rows) refl) tt
+    (Sheet c.in_ok-attributes.attributes c.in_ok-rows.rows) c.in-Ok-place_of.ensures.found r_is (rw (attributes, rows) refl) (tt, tt)

@@ -18,8 +18,8 @@ unreachable-requires-in_default-place_of c =
     relation_not_found c.args.databases.now.items c.args.db.now c.args.rel.now c.in-Ok.db 0 c.index_mut-database.result.now c.index_mut-database.result.now c.requires.sound c.in-Ok.ensures.found c.index_mut-database.ensures.value
     has.d has.database has.free c.in_default-place_of.ensures.there
 
-pub new-relation-requires : goal.new-relation-requires
-new-relation-requires c =
+pub new-requires : goal.new-requires
+new-requires c =
     let has = create_has (plain_databases c.args.databases.now.items) c.args.db.now c.args.rel.now c.args.attributes.now c.requires.accepted in
     subst IsHeader (sym c.in_ok-attributes.ensures) (header_of c.args.attributes.now c.requires.well_formed has.few has.once)
 
@@ -33,6 +33,6 @@ returns-clause-same c =
 
 pub returns-clause-makes : goal.returns-clause-makes
 returns-clause-makes c =
-    let is = c.new-relation.ensures ∙ ap (λ (name : Text). relation_value name c.in_ok-attributes.attributes []) c.in_ok-name.ensures ∙ ap (λ (names : Row). relation_value c.args.rel.now names []) c.in_ok-attributes.ensures in
+    let is = c.in_ok-relation.ensures ∙ ap (λ (name : Text). relation_value name c.in_ok-attributes.attributes []) c.in_ok-name.ensures ∙ ap (λ (names : Row). relation_value c.args.rel.now names []) c.in_ok-attributes.ensures in
     relation_created c.args.databases.now.items c.args.db.now c.args.rel.now c.in-Ok.db c.in-Err.place c.index_mut-database.result.now c.reserve.new.self c.requires.sound c.in-Ok.ensures.found c.index_mut-database.ensures.value
-    _ c.args.attributes.now c.new-relation.result c.reserve.ensures.value c.in_ok-reserve.ensures.ok c.in-Err.ensures.absent is
+    _ c.args.attributes.now c.in_ok-relation.relation c.reserve.ensures.value c.in_ok-reserve.ensures.ok c.in-Err.ensures.absent is

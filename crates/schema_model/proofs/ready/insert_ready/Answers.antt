@@ -32,4 +32,4 @@ returns-clause-makes c =
     let is = c.of-asked.ensures ∙ c.in_ok-row.ensures in
     let ready = alone_next c.of-asked.result.value _ (c.in_ok-reserve_row.ensures.ok ∙ ap (λ (row : Row). row ∷ []) (sym c.of-asked.ensures)) in
     inserted c.args.databases.now.items c.args.db.now c.args.rel.now c.in-Ok.db c.in-Ok-place_of.rel c.index_mut-database.result.now c.reserve_row.new.self c.requires.sound c.in-Ok.ensures.found c.index_mut-database.ensures.value
-    _ c.args.row.now (Add c.of-asked.result) (λ (r : RelationValue). ap (λ (row : Row). with_row row r) is) c.reserve_row.ensures.value c.in-Ok-place_of.ensures.found ready
+    _ c.args.row.now (Add c.of-asked.result) (λ (r : RelationValue). ap (λ (row : Row). with_row row r) is) c.reserve_row.ensures.value c.in-Ok-place_of.ensures.found (ready, tt)

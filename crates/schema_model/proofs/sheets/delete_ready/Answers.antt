@@ -1,4 +1,4 @@
-use Rattle.std.proofs.Common.{ap}
+use Rattle.std.proofs.Common.{◌∙◌, ap}
 use Rattle.ss_text.specs.Texts.{Row, text_eq}
 use Rattle.schema_model.specs.Catalogue.{RelationValue, DatabaseValue}
 use Rattle.schema_model.specs.Changes.{less_row}
@@ -23,11 +23,15 @@ pub returns-in_err-link_rows-clause-same : goal.returns-in_err-link_rows-clause-
 returns-in_err-link_rows-clause-same c =
     still_all c.args.databases.now.items c.args.db.now c.args.rel.now c.in-Ok.db 0 c.index_mut-database.result.now c.link_rows.new.self c.requires.sound c.in-Ok.ensures.found c.index_mut-database.ensures.value c.link_rows.ensures
 
+pub returns-in_err-own_rows-clause-same : goal.returns-in_err-own_rows-clause-same
+returns-in_err-own_rows-clause-same c =
+    still_all c.args.databases.now.items c.args.db.now c.args.rel.now c.in-Ok.db 0 c.index_mut-database.result.now c.own_rows.new.self c.requires.sound c.in-Ok.ensures.found c.index_mut-database.ensures.value (c.own_rows.ensures.value ∙ c.link_rows.ensures)
+
 pub returns-clause-same : goal.returns-clause-same
 returns-clause-same c =
-    still_all c.args.databases.now.items c.args.db.now c.args.rel.now c.in-Ok.db 0 c.index_mut-database.result.now c.link_rows.new.self c.requires.sound c.in-Ok.ensures.found c.index_mut-database.ensures.value c.link_rows.ensures
+    still_all c.args.databases.now.items c.args.db.now c.args.rel.now c.in-Ok.db 0 c.index_mut-database.result.now c.own_rows.new.self c.requires.sound c.in-Ok.ensures.found c.index_mut-database.ensures.value (c.own_rows.ensures.value ∙ c.link_rows.ensures)
 
 pub returns-clause-makes : goal.returns-clause-makes
 returns-clause-makes c =
-    deleted c.args.databases.now.items c.args.db.now c.args.rel.now c.in-Ok.db c.in-Ok-place_of.rel c.index_mut-database.result.now c.link_rows.new.self c.requires.sound c.in-Ok.ensures.found c.index_mut-database.ensures.value
-    _ c.args.row.now (Take c.in_ok-row.row) (λ (r : RelationValue). ap (λ (row : Row). less_row row r) c.in_ok-row.ensures) c.link_rows.ensures c.in-Ok-place_of.ensures.found tt
+    deleted c.args.databases.now.items c.args.db.now c.args.rel.now c.in-Ok.db c.in-Ok-place_of.rel c.index_mut-database.result.now c.own_rows.new.self c.requires.sound c.in-Ok.ensures.found c.index_mut-database.ensures.value
+    _ c.args.row.now (Take c.in_ok-row.row) (λ (r : RelationValue). ap (λ (row : Row). less_row row r) c.in_ok-row.ensures) (c.own_rows.ensures.value ∙ c.link_rows.ensures) c.in-Ok-place_of.ensures.found (tt, c.in_ok-own_rows.ensures.own)

@@ -43,4 +43,4 @@ returns c =
     let attributes : c.in_ok-attributes.attributes ≡ remove r.attributes c.in-Some.place = c.in_ok-attributes.ensures ∙ ap (λ (names : Row). remove names c.in-Some.place) (c.cells-2.ensures ∙ c.attributes-2.ensures.attributes) in
     let rows : c.in_ok-rows.rows.items ≡ map (λ (row : Row). remove row c.in-Some.place) (plain_relation r).rows = c.in_ok-rows.ensures ∙ ap (map (λ (row : Bor Row). remove row.now c.in-Some.place)) c.deref.ensures.value ∙ mapped_rows (λ (row : Row). remove row c.in-Some.place) c.in_ok-kept.kept.items (plain_relation r).rows c.in_ok-kept.ensures in
     attribute_dropped ds c.args.db.now c.args.rel.now c.in-Ok.db c.in-Ok-place_of.rel c.index-database.result.now c.index-database.result.now c.requires.sound c.in-Ok.ensures.found is _ c.args.name.now c.in-Some.place r
-    (Sheet c.in_ok-attributes.attributes c.in_ok-rows.rows) c.in-Ok-place_of.ensures.found c.relation_at-relation.ensures any first (rw (attributes, rows) refl) tt
+    (Sheet c.in_ok-attributes.attributes c.in_ok-rows.rows) c.in-Ok-place_of.ensures.found c.relation_at-relation.ensures any first (rw (attributes, rows) refl) (tt, tt)

@@ -7,21 +7,21 @@ use Rattle.schema_model.proofs.Seen.{inserted_seen, removed_seen}
 use Rattle.schema_model.proofs.EditLemmas.{database_sound, database_set, database_renamed}
 use Rattle.schema_model.proofs.catalogue.Catalogue.commit.Goals as goal
 
-pub edit-requires-clause-sound : goal.edit-requires-clause-sound
-edit-requires-clause-sound c =
+pub make-requires-clause-sound : goal.make-requires-clause-sound
+make-requires-clause-sound c =
     let held = rw (← c.in-Some.ensures.value, c.in-At.is) at c.self.invariant.1 in
     database_sound c.self.inside.databases.items c.in-At.db c.index_mut-database.result.now held.makes.fits.0 c.index_mut-database.ensures.value c.in-At.edit (subst IsSound (sym held.makes.makes) held.counted.sound).databases
 
 pub invariant_of-self : goal.invariant_of-self
 invariant_of-self c =
     let held = rw (← c.in-Some.ensures.value, c.in-At.is) at c.self.invariant.1 in
-    let is = database_set c.self.inside.databases.items c.in-At.db c.index_mut-database.result.now held.makes.fits.0 c.index_mut-database.ensures.value c.in-At.edit c.edit.new.self c.edit.ensures.value in
+    let is = database_set c.self.inside.databases.items c.in-At.db c.index_mut-database.result.now held.makes.fits.0 c.index_mut-database.ensures.value c.in-At.edit c.make.new.self c.make.ensures in
     (subst (λ (ds : CatalogueValue). IsCounted ds c.in-Some.waiting.rows) (sym (is ∙ held.makes.makes)) held.counted, rw c.take.ensures.after tt, tt)
 
 pub returns-in-At : goal.returns-in-At
 returns-in-At c =
     let held = rw (← c.in-Some.ensures.value, c.in-At.is) at c.self.invariant.1 in
-    let is = database_set c.self.inside.databases.items c.in-At.db c.index_mut-database.result.now held.makes.fits.0 c.index_mut-database.ensures.value c.in-At.edit c.edit.new.self c.edit.ensures.value in
+    let is = database_set c.self.inside.databases.items c.in-At.db c.index_mut-database.result.now held.makes.fits.0 c.index_mut-database.ensures.value c.in-At.edit c.make.new.self c.make.ensures in
     let asked = rw (← c.self.view_is, ← c.in-Some.ensures.value) at c.requires in
     let same : c.in-Some.waiting.of.value ≡ c.args.ready = cc in
     rw (← c.self.view_is, c.take.ensures.after) (ap settled (is ∙ held.makes.makes ∙ ap (after (plain_databases c.self.inside.databases.items)) same))

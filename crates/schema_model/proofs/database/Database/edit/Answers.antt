@@ -1,6 +1,6 @@
 use Rattle.std.proofs.Common.{◌∙◌, sym, ap, subst, map, List}
 use Rattle.schema_model.specs.Catalogue.{RelationValue, database_value}
-use Rattle.schema_model.specs.Edits.{waiting_left}
+use Rattle.schema_model.specs.Edits.{waiting_left, own_left}
 use Rattle.schema_model.specs.Sound.{IsDatabase}
 use Rattle.schema_model.specs.States.{RelationState, plain_relation}
 use Rattle.schema_model.proofs.Seen.{inserted_seen, removed_seen, put_seen}
@@ -60,3 +60,8 @@ pub returns-in-At-clause-waiting : goal.returns-in-At-clause-waiting
 returns-in-At-clause-waiting c =
     let asked = rw (← c.self.view_is, c.in-At.is) at c.requires in
     rw (← c.self.view_is, c.in-At.is) (put_seen (λ (r : RelationState). r.waiting) (waiting_left c.in-At.edit) c.self.inside.relations.items c.in-At.rel c.index_mut-relation.result.now c.edit.new.self asked.fits.0 c.index_mut-relation.ensures.value c.edit.ensures.waiting)
+
+pub returns-in-At-clause-own : goal.returns-in-At-clause-own
+returns-in-At-clause-own c =
+    let asked = rw (← c.self.view_is, c.in-At.is) at c.requires in
+    rw (← c.self.view_is, c.in-At.is) (put_seen (λ (r : RelationState). r.own) (own_left c.in-At.edit) c.self.inside.relations.items c.in-At.rel c.index_mut-relation.result.now c.edit.new.self asked.fits.0 c.index_mut-relation.ensures.value c.edit.ensures.own)

@@ -1,4 +1,4 @@
-use Rattle.std.proofs.Common.{◌∙◌, ◌∷◌, sym, ap, subst, List}
+use Rattle.std.proofs.Common.{Bool, true, ◌∙◌, ◌∷◌, sym, ap, subst, List}
 use Rattle.ss_text.specs.Texts.{Row}
 use Rattle.schema_model.specs.Catalogue.{RelationValue, database_value}
 use Rattle.schema_model.specs.Sound.{IsDatabase}
@@ -34,3 +34,8 @@ pub returns-clause-ok : goal.returns-clause-ok
 returns-clause-ok c =
     let there = rw (← c.self.view_is) at c.requires in
     rw (← c.self.view_is) (put_seen (λ (r : RelationState). r.waiting) (λ (waiting : List Row). c.args.row ∷ waiting) c.self.inside.relations.items c.args.rel c.index_mut-relation.result.now c.wait.new.self there c.index_mut-relation.ensures.value c.in_ok-wait.ensures.ok)
+
+pub returns-clause-own : goal.returns-clause-own
+returns-clause-own c =
+    let there = rw (← c.self.view_is) at c.requires in
+    rw (← c.self.view_is) (put_seen (λ (r : RelationState). r.own) (λ (own : Bool). true) c.self.inside.relations.items c.args.rel c.index_mut-relation.result.now c.wait.new.self there c.index_mut-relation.ensures.value c.in_ok-wait.ensures.own)

@@ -5,7 +5,7 @@ use Rattle.schema_model.specs.Sound.{IsRelation}
 use Rattle.schema_model.proofs.relation.Relation.edit.Goals as goal
 
 pub add-requires : goal.add-requires
-add-requires c = let asked = rw (← c.self.view_is, c.in-Add.is) at c.requires in asked.fits
+add-requires c = let asked = rw (← c.self.view_is, c.in-Add.is) at c.requires in asked.fits.0
 
 pub returns-in-Add-clause-value : goal.returns-in-Add-clause-value
 returns-in-Add-clause-value c = rw (← c.self.view_is, c.in-Add.is) (ap (relation_value c.self.inside.name c.self.inside.attributes) c.add.ensures.rows)

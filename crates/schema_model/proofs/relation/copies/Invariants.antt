@@ -1,6 +1,0 @@
-use Rattle.std.proofs.Common.{◌≡◌, map, take, Bor}
-use Rattle.ss_text.specs.Texts.{Row}
-use Rattle.schema_model.proofs.relation.copies.Given as goal
-
-abbrev pub invariant-loop-row : goal.invariant-loop-row
-invariant-loop-row l = l.copies.items ≡ map (λ (row : Bor Row). row.now) (take l.row-index l.rows)
