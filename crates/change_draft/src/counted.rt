@@ -1,9 +1,9 @@
 //! How often changes bring and take each row.
-ghost use Rattle.std.specs.Prelude.{◌≡◌, ◌+◌, ◌-◌, ◌<◌, ◌≤◌, ◌^◌, ◌++◌, ◌∷◌, [], List, None, Some, IfOk, IfErr, OnOk, OnErr, IsTrue, length, count_by, if◌then◌else◌, ◌&&◌, nat_le};
+ghost use Rattle.std.specs.Prelude.{◌≡◌, ◌+◌, ◌-◌, ◌<◌, ◌≤◌, ◌^◌, ◌++◌, ◌∷◌, [], List, None, OnOk, OnErr, IsTrue, length, count_by, if◌then◌else◌, ◌&&◌, nat_le};
 ghost use Rattle.counts.specs.Counted.{counted};
-ghost use Rattle.schema_model.specs.Catalogue.{relation_of, row_count};
+ghost use Rattle.ss_text.specs.Texts.{row_eq};
 ghost use Rattle.schema_model.specs.Changes.{after_all};
-ghost use Rattle.schema_model.specs.Refusals.{fault, group_fault, row_fault};
+ghost use Rattle.schema_model.specs.Refusals.{fault, group_fault};
 ghost use Rattle.schema_model.specs.States.{plain_relation};
 ghost use Rattle.schema_model.specs.declared.change.Change.{Change as Changes};
 ghost use Rattle.schema_model.specs.declared.change.Change.TheVariants as change_is;
@@ -11,12 +11,11 @@ ghost use Rattle.change_draft.specs.Named.{NamedRow, named, named_eq};
 ghost use Rattle.change_draft.specs.Counted.{is_of_rows, AreCounted};
 
 use crate::named::Named;
-use counts::count_of;
+use counts::{add_one, count_of};
 use indexmap::IndexMap;
 use schema_model::{Catalogue, Change, MOST_ROWS, Refusal, Relation, Which};
 use ss_text::{NoMemory, Row, Text};
 use std::alloc::Global;
-use std::hash::Hash;
 
 /// How often changes of rows bring and take each row that they name, and how many they bring and take in all.
 pub(crate) struct RowCounts {
@@ -94,7 +93,7 @@ impl RowCounts {
     fn judge_insert(&self, base: &Catalogue, db: &Text, rel: &Text, row: &Row) -> Option<Refusal>
         ensures { (gs : List Changes) → AreCounted self.now gs → group_fault base.now.databases gs ≡ None → result ≡ fault (after_all base.now.databases gs) (change_is.Insert db.now rel.now row.now) }
     {
-        match relation_for(base, db, rel, row) {
+        match base.relation_for(db, rel, row) {
             Err(refusal) => Some(refusal),
             Ok(_) if self.fills(MOST_ROWS - base.row_count()) => Some(Refusal::Limit {
                 which: Which::Rows,
@@ -106,11 +105,9 @@ impl RowCounts {
     fn judge_delete(&self, base: &Catalogue, db: &Text, rel: &Text, row: &Row) -> Option<Refusal>
         ensures { (gs : List Changes) → AreCounted self.now gs → group_fault base.now.databases gs ≡ None → result ≡ fault (after_all base.now.databases gs) (change_is.Delete db.now rel.now row.now) }
     {
-        match relation_for(base, db, rel, row) {
+        match base.relation_for(db, rel, row) {
             Err(refusal) => Some(refusal),
-            Ok(relation) if self.takes_all(db, rel, row, relation.copies_of(row)) => Some(
-                Refusal::NoRow,
-            ),
+            Ok(relation) if self.takes_all(relation, db, rel, row) => Some(Refusal::NoRow),
             Ok(_) => None,
         }
     }
@@ -122,14 +119,16 @@ impl RowCounts {
         self.come >= self.gone && self.come - self.gone >= room
     }
 
-    // Whether the changes take as many of such rows as there were, and as many as they bring.
-    fn takes_all(&self, db: &Text, rel: &Text, row: &Row, copies: usize) -> bool
-        ensures { result ≡ nat_le (copies + counted named_eq self.now.came (named db.now rel.now row.now)) (counted named_eq self.now.went (named db.now rel.now row.now)) }
+    // Whether the changes take as many of such rows as there are in the relation, and as many as they bring. No more rows
+    // are looked at than tell.
+    fn takes_all(&self, relation: &Relation, db: &Text, rel: &Text, row: &Row) -> bool
+        ensures { let n = named db.now rel.now row.now in
+            result ≡ nat_le (count_by (row_eq row.now) (plain_relation relation.now).rows + counted named_eq self.now.came n) (counted named_eq self.now.went n) }
     {
         let key = Named::lent(db, rel, row);
         let (came, went) = (count_of(&self.came, &key), count_of(&self.went, &key));
         drop(key);
-        went >= came && went - came >= copies as u128
+        went >= came && !relation.has_more(row, went - came)
     }
 }
 
@@ -147,38 +146,4 @@ fn once_more(
     let key = Named::owned(db, rel, row)?;
     add_one(counts, key)?;
     Ok(())
-}
-
-fn add_one<K: Eq + Hash + Drop>(counts: &mut IndexMap<K, u128>, key: K) -> Result<(), NoMemory>
-    requires { counted K.eq counts.old key + 1 < 2 ^ 128 }
-    ensures more { OnOk result ((q : K) → counted K.eq counts.new q ≡ counted K.eq counts.old q + (if K.eq key q then 1 else 0)) }
-    ensures same { OnErr result ((q : K) → counted K.eq counts.new q ≡ counted K.eq counts.old q) }
-{
-    let count = count_of(counts, &key);
-    counts.insert(key, count + 1)?;
-    Ok(())
-}
-
-// The relation that a row is for, where the row has as many texts as it has attributes.
-fn relation_for<'a>(
-    base: &'a Catalogue,
-    db: &Text,
-    rel: &Text,
-    row: &Row,
-) -> Result<&'a Relation, Refusal>
-    ensures found { IfOk result (λ r. relation_of base.now.databases db.now rel.now ≡ Some (plain_relation r.now)) }
-    ensures fits { IfOk result (λ r. row_fault base.now.databases db.now rel.now row.now ≡ None) }
-    ensures refused { IfErr result (λ e. row_fault base.now.databases db.now rel.now row.now ≡ Some e) }
-{
-    let Some(database) = base.database(db) else {
-        return Err(Refusal::NoDatabase);
-    };
-    let Some(relation) = database.relation(rel) else {
-        return Err(Refusal::NoRelation);
-    };
-    let (want, got) = (relation.attributes().cells().len(), row.cells().len());
-    if got != want {
-        return Err(Refusal::ArityDiffers { want, got });
-    }
-    Ok(relation)
 }

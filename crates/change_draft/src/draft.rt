@@ -6,7 +6,6 @@ ghost use Rattle.schema_model.specs.Refusals.{fault, group_fault};
 ghost use Rattle.change_draft.specs.Drafts.{StandsOver, empty, without_rows};
 ghost use Rattle.change_draft.specs.Counted.{AreCounted, is_of_rows};
 
-use crate::copied::copied;
 use crate::counted::{RowCounts, is_of_rows};
 use schema_model::{Catalogue, Change, Refusal};
 use ss_text::NoMemory;
@@ -76,6 +75,19 @@ impl Draft {
         match &self.kept {
             Kept::Counts(counts) => counts.judge(base, change),
             Kept::After(catalogue) => catalogue.judge(change),
+        }
+    }
+
+    /// Takes all memory that it needs to find the row of a delete without a walk of all rows: where the change is judged,
+    /// those of its relation are linked, once. A delete is judged after this call. The draft stays, and so do the databases
+    /// of the catalogue, for which no change waits from then on.
+    pub fn link(&mut self, base: &mut Catalogue, change: &Change) -> Result<(), NoMemory>
+        ensures draft { self.new ≡ self.old }
+        ensures base { base.new.databases ≡ base.old.databases }
+    {
+        match &mut self.kept {
+            Kept::Counts(_) => base.link(change),
+            Kept::After(catalogue) => catalogue.link(change),
         }
     }
 
@@ -183,7 +195,7 @@ fn hold_row(
     ensures counted { AreCounted counts.new changes.new.items }
     ensures same { OnErr result (changes.new.items ≡ changes.old.items) }
 {
-    let held = copied(change)?;
+    let held = change.copy()?;
     changes.reserve(1)?;
     counts.count(change)?;
     let Ok(()) = changes.push(held) else {
@@ -205,7 +217,7 @@ fn hold_in(
     ensures same { OnErr result (changes.new.items ≡ changes.old.items) }
     ensures same_catalogue { OnErr result (catalogue.new.databases ≡ catalogue.old.databases) }
 {
-    let held = copied(change)?;
+    let held = change.copy()?;
     let ready = catalogue.reserve(change)?;
     changes.push(held)?;
     catalogue.commit(ready);

@@ -5,7 +5,6 @@
 //! group of changes is for.
 #![tactic(auto)]
 
-mod copied;
 mod counted;
 mod draft;
 mod named;

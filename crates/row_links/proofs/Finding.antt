@@ -1,5 +1,5 @@
 -- What a walk along a chain finds.
-use Rattle.std.proofs.Common.{◌≡◌, ℕ, ◌<◌, ◌≤◌, List, [], ◌∷◌, ◌++◌, ◌⊎◌, inl, inr, Bool, true, false, cond, ◌&&◌, nat_eq, nat_lt, Option, Some, None, filter, length, slice_get, slice_index_or, bytes_eq, refl, sym, ap, ◌∙◌, subst, arith, Vec, length-append}
+use Rattle.std.proofs.Common.{◌≡◌, ℕ, ◌<◌, ◌≤◌, List, [], ◌∷◌, ◌++◌, Bool, true, false, cond, ◌&&◌, nat_eq, nat_lt, Option, Some, None, filter, length, slice_get, slice_index_or, bytes_eq, refl, sym, ap, ◌∙◌, subst, arith, Vec, length-append}
 use Rattle.std.specs.Global.{Global}
 use Rattle.std.specs.Option.{option_eq}
 use Rattle.std.specs.Cmp.Lexicographic.{pointwise_decides, bytes_decides}
@@ -9,7 +9,6 @@ use borrow.Author.Tests.{ltb-true}
 use Rattle.slab.specs.Slab.{Slab, slab_len}
 use Rattle.row_links.specs.declared.link.Link.{Link}
 use Rattle.row_links.specs.declared.chain.Chain.{Chain}
-use Rattle.row_links.specs.declared.chains.Chains.{Chains}
 use Rattle.row_links.specs.Links.{IsPath, IsOnce, first_or, after_at}
 use Rattle.row_links.specs.Chained.{Placed, IsChained, places, places_of}
 use Rattle.row_links.specs.AllChains.{marked, key_lists}
@@ -80,17 +79,13 @@ module _ (f : Row → ℕ) (m : ℕ) where
     | false ↦ omega arith
   ]
 
-  -- the first along a chain of a mark is the first of all, where those that pass have the mark
-  pub found_in : (rows : Slab Row) (links : List Link) (test : Row → Bool) (before from result : Option ℕ) (es : Placed) → ((mark : ℕ) (b : Option ℕ) (fs : Placed) → IsPath links mark b (places fs) None → from ≡ first_or (places fs) None → AreStored rows fs → length fs ≤ slab_len rows → result ≡ first_place (filter (λ e. test e.1) fs)) → ((row : Row) → test row ≡ true → f row ≡ m) → IsPath links m before (places_of m (marked f es)) None → from ≡ first_or (places_of m (marked f es)) None → AreStored rows es → length es ≤ slab_len rows → result ≡ first_place (filter (λ e. test e.1) es)
-  found_in rows links test before from result es seeks marks path at stored few =
-      seeks m before (filter of_mark es) (subst (λ (ps : List ℕ). IsPath links m before ps None) (places_are es) path) (at ∙ ap (λ (ps : List ℕ). first_or ps None) (places_are es)) (stored_filter rows es stored) (let l = few_pass es in omega arith)
-      ∙ ap first_place (filter_twice (λ (e : ℕ × Row). test e.1) of_mark es (λ e h. eq-eqb (f e.1) m (marks e.1 h)))
-
-  -- and so for how many there are
-  pub tallied_in : (rows : Slab Row) (links : List Link) (test : Row → Bool) (before from : Option ℕ) (result : ℕ) (es : Placed) → ((mark : ℕ) (b : Option ℕ) (fs : Placed) → IsPath links mark b (places fs) None → from ≡ first_or (places fs) None → AreStored rows fs → length fs ≤ slab_len rows → result ≡ length (filter (λ e. test e.1) fs)) → ((row : Row) → test row ≡ true → f row ≡ m) → IsPath links m before (places_of m (marked f es)) None → from ≡ first_or (places_of m (marked f es)) None → AreStored rows es → length es ≤ slab_len rows → result ≡ length (filter (λ e. test e.1) es)
-  tallied_in rows links test before from result es tallies marks path at stored few =
-      tallies m before (filter of_mark es) (subst (λ (ps : List ℕ). IsPath links m before ps None) (places_are es) path) (at ∙ ap (λ (ps : List ℕ). first_or ps None) (places_are es)) (stored_filter rows es stored) (let l = few_pass es in omega arith)
-      ∙ ap length (filter_twice (λ (e : ℕ × Row). test e.1) of_mark es (λ e h. eq-eqb (f e.1) m (marks e.1 h)))
+  -- what those that pass tell along a chain of a mark they tell of all, where those that pass have the mark
+  pub found_in : {X : Type 0} (tell : Placed → X) (rows : Slab Row) (links : List Link) (test : Row → Bool) (before from : Option ℕ) (result : X) (es : Placed)
+      → ((mark : ℕ) (b : Option ℕ) (fs : Placed) → IsPath links mark b (places fs) None → from ≡ first_or (places fs) None → AreStored rows fs → length fs ≤ slab_len rows → result ≡ tell (filter (λ e. test e.1) fs))
+      → ((row : Row) → test row ≡ true → f row ≡ m) → IsPath links m before (places_of m (marked f es)) None → from ≡ first_or (places_of m (marked f es)) None → AreStored rows es → length es ≤ slab_len rows → result ≡ tell (filter (λ e. test e.1) es)
+  found_in tell rows links test before from result es tells marks path at stored few =
+      tells m before (filter of_mark es) (subst (λ (ps : List ℕ). IsPath links m before ps None) (places_are es) path) (at ∙ ap (λ (ps : List ℕ). first_or ps None) (places_are es)) (stored_filter rows es stored) (let l = few_pass es in omega arith)
+      ∙ ap tell (filter_twice (λ (e : ℕ × Row). test e.1) of_mark es (λ e h. eq-eqb (f e.1) m (marks e.1 h)))
 
 -- the key with a number
 pub key_is : (keys : List (Vec ℕ Global)) (lists : List (List ℕ)) (i : ℕ) (key : Vec ℕ Global) → key_lists keys ≡ lists → i < length lists → key ≡ slice_index_or keys i key → slice_get lists i ≡ Some key.items
@@ -98,8 +93,6 @@ key_is keys lists i key e lt k = subst (λ (ks : List (List ℕ)). slice_get ks 
 
 pub key_in_range : (keys : List (Vec ℕ Global)) (lists : List (List ℕ)) (i : ℕ) → key_lists keys ≡ lists → i < length lists → i < length keys
 key_in_range keys lists i e lt = omega (arith, length-key_lists keys, ap length e)
-
--- with fewer chains than keys there is no row
 
 -- the walk behind a row of a chain
 pub found_beside : (rows : Slab Row) (chain : Chain) (f : Row → ℕ) (test : Row → Bool) (live : Placed) (place : ℕ) (row : Row) (from result : Option ℕ) → at_place place live ≡ Some row → IsOnce (places live) → AreStored rows live → slab_len rows ≡ length live → IsChained chain (marked f live) → from ≡ after_at chain.links.items place → ((r : Row) → test r ≡ true → f r ≡ f row) → ((mark : ℕ) (b : Option ℕ) (fs : Placed) → IsPath chain.links.items mark b (places fs) None → from ≡ first_or (places fs) None → AreStored rows fs → length fs ≤ slab_len rows → result ≡ first_place (filter (λ e. test e.1) fs)) → result ≡ first_place (filter (λ e. test e.1) (following place live))
@@ -111,7 +104,7 @@ found_beside rows chain f test live place row from result at once stored count c
     let link = link_in_path chain.links.items (f row) place _ _ own.path in
     let tail : following place live ≡ s.later = ap (following place) s.is_split ∙ following_split place row s.earlier s.later (subst (λ (es : Placed). IsOnce (places es)) s.is_split once) in
     let all : AreStored rows (s.earlier ++ (place, row) ∷ s.later) = subst (AreStored rows) s.is_split stored in
-    found_in f (f row) rows chain.links.items test (Some place) from result s.later seeks marks path.1
+    found_in f (f row) first_place rows chain.links.items test (Some place) from result s.later seeks marks path.1
     (from_is ∙ after_link chain.links.items place _ link)
     (stored_later rows s.earlier (place, row) s.later all) (omega (arith, count, ap length s.is_split, length-append s.earlier ((place, row) ∷ s.later)))
     ∙ ap (λ (es : Placed). first_place (filter (λ e. test e.1) es)) (sym tail)

@@ -1,9 +1,7 @@
 -- A place that a reader answers is a live row's.
-use Rattle.std.proofs.Common.{◌≡◌, ℕ, List, [], ◌∷◌, ◌++◌, append_assoc, Bool, true, false, cond, nat_eq, Some, IsSome, is_some, filter, length, ◌+◌, suc, refl, sym, ap, ◌∙◌, arith}
+use Rattle.std.proofs.Common.{◌≡◌, ℕ, List, [], ◌∷◌, Bool, true, false, cond, nat_eq, Some, IsSome, is_some, filter, length, ◌+◌, suc, refl, sym, ap, ◌∙◌, arith}
 use Rattle.std.proofs.lemmas.Bool.{eq-eqb}
-use Rattle.ss_text.specs.Texts.{Row}
-use Rattle.row_links.specs.Chained.{Placed}
-use Rattle.row_links.specs.Live.{LinkedRows, AddsFirst, rows_alone, first_place, following, at_place}
+use Rattle.row_links.specs.Live.{LinkedRows, AddsFirst, first_place, following, at_place}
 
 later_at : {X : Type 0} (p : ℕ) (x : ℕ × X) (xs : List (ℕ × X)) → IsSome (at_place p xs) → IsSome (at_place p (x ∷ xs))
 later_at p x xs there = elim (nat_eq x.0 p) as (λ b. IsSome (cond b (Some x.1) (at_place p xs))) [ true ↦ refl | false ↦ there ]

@@ -53,7 +53,8 @@ impl Chains {
         requires room { AllHaveRoom self.old (place + 1) 1 }
         requires chained { (live : Placed) × AllChained self.old (key_lists keys.now.items) live }
         requires count { length self.old.keyed.items ≤ length keys.now.items }
-        ensures chained { (live : Placed) → AllChained self.old (key_lists keys.now.items) live → IsAbsent place (places live) → IsOnce (places live) → AllChained self.new (key_lists keys.now.items) (live ++ (place, row.now) ∷ []) }
+        ensures chained { (live : Placed) → AllChained self.old (key_lists keys.now.items) live → IsAbsent place (places live) → IsOnce (places live)
+            → AllChained self.new (key_lists keys.now.items) (live ++ (place, row.now) ∷ []) }
         ensures room { (a b : ℕ) → AllHaveRoom self.old a (b + 1) → AllHaveRoom self.new a b }
         ensures count { length self.new.keyed.items ≡ length self.old.keyed.items }
     {
@@ -64,8 +65,10 @@ impl Chains {
 
     /// Takes the row at a place out of its chains.
     pub(crate) fn remove(&mut self, place: usize)
-        requires { (keys : List (List ℕ)) × (earlier : Placed) × (row : Row) × (later : Placed) × AllChained self.old keys (earlier ++ (place, row) ∷ later) × (length self.old.keyed.items ≤ length keys) }
-        ensures chained { (keys : List (List ℕ)) (earlier : Placed) (row : Row) (later : Placed) → AllChained self.old keys (earlier ++ (place, row) ∷ later) → IsOnce (places (earlier ++ (place, row) ∷ later)) → AllChained self.new keys (earlier ++ later) }
+        requires { (keys : List (List ℕ)) × (earlier : Placed) × (row : Row) × (later : Placed) × AllChained self.old keys (earlier ++ (place, row) ∷ later)
+            × (length self.old.keyed.items ≤ length keys) }
+        ensures chained { (keys : List (List ℕ)) (earlier : Placed) (row : Row) (later : Placed) → AllChained self.old keys (earlier ++ (place, row) ∷ later)
+            → IsOnce (places (earlier ++ (place, row) ∷ later)) → AllChained self.new keys (earlier ++ later) }
         ensures room { (a b : ℕ) → AllHaveRoom self.old a b → AllHaveRoom self.new a b }
         ensures count { length self.new.keyed.items ≡ length self.old.keyed.items }
     {

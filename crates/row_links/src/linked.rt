@@ -1,5 +1,5 @@
 //! Rows linked by index.
-ghost use Rattle.std.specs.Prelude.{◌≡◌, ◌<◌, ◌+◌, ℕ, List, [], ◌∷◌, ◌++◌, Option, None, Some, IsSome, IfOk, OnOk, OnErr, MatchOption, length, slice_index_or, is_some};
+ghost use Rattle.std.specs.Prelude.{◌≡◌, ◌<◌, ◌+◌, ℕ, List, [], ◌∷◌, ◌++◌, Option, None, Some, IsSome, IfOk, OnOk, OnErr, MatchOption, length, slice_index_or, is_some, nat_lt};
 ghost use Rattle.row_links.specs.Live.{LinkedRows, AddsFirst, rows_alone, first_place, following, at_place, rows_like, rows_with, rows_beside, rows_like_at, without_first, without_place};
 ghost use Rattle.std.specs.List.{list_any};
 ghost use Rattle.ss_text.specs.Texts.{Row, row_eq};
@@ -9,7 +9,7 @@ ghost use Rattle.row_links.specs.AllChains.{key_lists};
 
 use crate::chains::Chains;
 use crate::part::{Part, mark};
-use crate::seek::{after, seek, tally};
+use crate::seek::{after, has_more, seek};
 use slab::Slab;
 use ss_text::{NoMemory, Row, Steps};
 use std::alloc::Global;
@@ -131,12 +131,12 @@ impl Linked {
         )
     }
 
-    /// How many live rows equal a row.
-    pub fn count_like(&self, row: &Row) -> usize
-        ensures { result ≡ length (rows_like row.now self.now.live) }
+    /// Whether more than so many live rows equal a row. It looks at no more of them than tell.
+    pub fn has_more_like(&self, row: &Row, count: u128) -> bool
+        ensures { result ≡ nat_lt count (length (rows_like row.now self.now.live)) }
     {
         let from = self.chains.same.first(mark(Part::Whole, row));
-        tally(&self.rows, &self.chains.same.links, from, row)
+        has_more(&self.rows, &self.chains.same.links, from, row, count)
     }
 
     /// The place of the first live row with these cells at a key's positions.
@@ -205,7 +205,8 @@ impl Linked {
     ) -> Option<usize>
         requires place { IsSome (at_place place self.now.live) }
         requires key { MatchOption key (Unit {0}) (λ k. k < length self.now.keys) }
-        ensures next { MatchOption key (result ≡ first_place (following place self.now.live)) (λ k. (row : Row) → at_place place self.now.live ≡ Some row → result ≡ first_place (rows_beside (slice_index_or self.now.keys k []) row (following place self.now.live))) }
+        ensures next { MatchOption key (result ≡ first_place (following place self.now.live)) (λ k. (row : Row) → at_place place self.now.live ≡ Some row
+            → result ≡ first_place (rows_beside (slice_index_or self.now.keys k []) row (following place self.now.live))) }
         ensures step { steps.new ≡ steps.old + 1 }
     {
         steps.tick();

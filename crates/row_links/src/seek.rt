@@ -1,5 +1,5 @@
 //! The first place of a chain whose row has the cells that are sought.
-ghost use Rattle.std.specs.Prelude.{◌≡◌, ◌≤◌, ℕ, List, Option, None, Some, length, filter};
+ghost use Rattle.std.specs.Prelude.{◌≡◌, ◌≤◌, ℕ, List, Option, None, Some, length, filter, nat_lt};
 ghost use Rattle.ss_text.specs.Texts.{Row};
 ghost use Rattle.slab.specs.Slab.{get, slab_len};
 ghost use Rattle.row_links.specs.Links.{IsPath, first_or, after_at};
@@ -21,7 +21,8 @@ pub(crate) fn seek(
     sought_part: Part<'_>,
     sought: &Row,
 ) -> Option<usize>
-    ensures { (mark : ℕ) (before : Option ℕ) (es : Placed) → IsPath links.now.items mark before (places es) None → from ≡ first_or (places es) None → AreStored rows.now es → length es ≤ slab_len rows.now → result ≡ first_place (filter (λ e. same_cells (picked part.entry e.1) (picked sought_part.entry sought.now)) es) }
+    ensures { (mark : ℕ) (before : Option ℕ) (es : Placed) → IsPath links.now.items mark before (places es) None → from ≡ first_or (places es) None → AreStored rows.now es
+        → length es ≤ slab_len rows.now → result ≡ first_place (filter (λ e. same_cells (picked part.entry e.1) (picked sought_part.entry sought.now)) es) }
 {
     let mut at = from;
     for _turn in 0..rows.len() {
@@ -38,24 +39,34 @@ pub(crate) fn seek(
     None
 }
 
-/// How many places, from the given one along the links, have a row with the same cells.
-pub(crate) fn tally(rows: &Slab<Row>, links: &Vec<Link>, from: Option<usize>, sought: &Row) -> usize
-    ensures { (mark : ℕ) (before : Option ℕ) (es : Placed) → IsPath links.now.items mark before (places es) None → from ≡ first_or (places es) None → AreStored rows.now es → length es ≤ slab_len rows.now → result ≡ length (filter (λ e. same_cells (whole e.1) (whole sought.now)) es) }
+/// Whether more than so many places, from the given one along the links, have a row with the same cells.
+pub(crate) fn has_more(
+    rows: &Slab<Row>,
+    links: &Vec<Link>,
+    from: Option<usize>,
+    sought: &Row,
+    count: u128,
+) -> bool
+    ensures { (mark : ℕ) (before : Option ℕ) (es : Placed) → IsPath links.now.items mark before (places es) None → from ≡ first_or (places es) None → AreStored rows.now es
+        → length es ≤ slab_len rows.now → result ≡ nat_lt count (length (filter (λ e. same_cells (whole e.1) (whole sought.now)) es)) }
 {
-    let mut count = 0;
     let mut at = from;
+    let mut left = count;
     for _turn in 0..rows.len() {
         match at {
-            None => return count,
+            None => return false,
             Some(place) => {
                 at = after(links, place);
                 if fits(rows, place, Part::Whole, Part::Whole, sought) {
-                    count += 1;
+                    if left == 0 {
+                        return true;
+                    }
+                    left -= 1;
                 }
             }
         }
     }
-    count
+    false
 }
 
 // Whether the row at this place has the sought row's cells.

@@ -87,7 +87,13 @@ fn forget_rows(databases: &mut Vec<Database>, db: &Text, rel: &Text) -> Result<(
     Ok(())
 }
 
-fn link_rows(databases: &mut Vec<Database>, db: &Text, rel: &Text) -> Result<(), NoMemory>
+/// Links the rows of a relation, where it is there and no copy holds them, so that one is found and taken out without a
+/// walk of all: takes all memory that this needs.
+pub(crate) fn link_rows(
+    databases: &mut Vec<Database>,
+    db: &Text,
+    rel: &Text,
+) -> Result<(), NoMemory>
     requires { IsSound (plain_databases databases.old.items) }
     ensures { plain_databases databases.new.items ≡ plain_databases databases.old.items }
 {
@@ -101,7 +107,8 @@ fn link_rows(databases: &mut Vec<Database>, db: &Text, rel: &Text) -> Result<(),
 // The places of a database and of a relation in it.
 fn places(databases: &Vec<Database>, db: &Text, rel: &Text) -> Option<(usize, usize)>
     requires { IsSound (plain_databases databases.now.items) }
-    ensures { MatchOption result (relation_of (plain_databases databases.now.items) db.now rel.now ≡ None) (λ at. IsPlaceOf database_name db.now (plain_databases databases.now.items) at.0 × IsPlaceOf relation_name rel.now (database_at at.0 (plain_databases databases.now.items)).relations at.1) }
+    ensures { MatchOption result (relation_of (plain_databases databases.now.items) db.now rel.now ≡ None) (λ at. IsPlaceOf database_name db.now (plain_databases databases.now.items) at.0
+        × IsPlaceOf relation_name rel.now (database_at at.0 (plain_databases databases.now.items)).relations at.1) }
 {
     let Ok(db) = place_of(databases, db) else {
         return None;

@@ -127,7 +127,7 @@ impl Held {
         }
     }
 
-    /// Makes ready that a row is taken out, where no copy holds the rows: takes all memory that this needs.
+    /// Links the rows, where no copy holds them: takes all memory that this needs.
     pub(crate) fn link(&mut self, alloc: Global) -> Result<(), NoMemory>
         ensures { placed_rows (placed_held self.new) ≡ placed_rows (placed_held self.old) }
     {

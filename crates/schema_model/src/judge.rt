@@ -213,8 +213,9 @@ impl Catalogue {
         Ok(relation)
     }
 
-    // The relation that a row is for, where the row has as many texts as it has attributes.
-    fn relation_for(&self, db: &Text, rel: &Text, row: &Row) -> Result<&Relation, Refusal>
+    /// The relation that a row is for, where the row has as many texts as it has attributes; or the first refusal that an
+    /// insert of the row and a delete share.
+    pub fn relation_for(&self, db: &Text, rel: &Text, row: &Row) -> Result<&Relation, Refusal>
         ensures found { IfOk result (λ r. relation_of self.now.databases db.now rel.now ≡ Some (plain_relation r.now)) }
         ensures fits { IfOk result (λ r. row_fault self.now.databases db.now rel.now row.now ≡ None) }
         ensures refused { IfErr result (λ e. row_fault self.now.databases db.now rel.now row.now ≡ Some e) }

@@ -1,5 +1,5 @@
 //! Rows in a list, each at its number.
-ghost use Rattle.std.specs.Prelude.{◌≡◌, ◌∷◌, ◌++◌, [], IfOk, OnOk, OnErr, IsTrue, length, count_by, remove, vec_len, vec_capacity, ◌≤◌, ◌-◌, drop};
+ghost use Rattle.std.specs.Prelude.{◌≡◌, ◌∷◌, ◌++◌, [], IfOk, OnOk, OnErr, IsTrue, length, count_by, nat_lt, remove, vec_len, vec_capacity, ◌≤◌, ◌-◌, drop};
 ghost use Rattle.std.specs.List.{list_any, position, position_or_len};
 ghost use Rattle.ss_text.specs.Texts.{row_eq};
 ghost use Rattle.schema_model.specs.Placed.{placed_rows, first_place, after_place, row_at, is_place, numbered};
@@ -16,17 +16,11 @@ pub(crate) struct Listed {
     rows: Vec<Row>,
     // The first to be added is the last.
     waiting: Vec<Row>,
-    // Whether a row was to be taken out before.
-    taken: bool,
 }
 
 impl Drop for Listed {
     fn drop(self) {
-        let Listed {
-            rows,
-            waiting,
-            taken: _,
-        } = self;
+        let Listed { rows, waiting } = self;
         drop(rows);
         drop(waiting);
     }
@@ -52,7 +46,6 @@ impl Listed {
         Listed {
             rows,
             waiting: Vec::new(alloc),
-            taken: false,
         }
     }
 
@@ -98,11 +91,11 @@ impl Listed {
         self.rows.iter().any(|kept| row == kept)
     }
 
-    /// How many rows equal this one.
-    pub(crate) fn copies_of(&self, row: &Row) -> usize
-        ensures { result ≡ count_by (row_eq row.now) self.now.rows }
+    /// Whether more than so many rows equal this one.
+    pub(crate) fn has_more(&self, row: &Row, count: u128) -> bool
+        ensures { result ≡ nat_lt count (count_by (row_eq row.now) self.now.rows) }
     {
-        self.rows.iter().filter(|kept| row == *kept).count()
+        has_more(&self.rows, row, count)
     }
 
     /// Puts a row last.
@@ -163,15 +156,6 @@ impl Listed {
         take_first(&mut self.rows, row);
     }
 
-    /// Whether a row was to be taken out before; one is from now on.
-    pub(crate) fn taken_before(&mut self) -> bool
-        ensures { self.new ≡ self.old }
-    {
-        let before = self.taken;
-        self.taken = true;
-        before
-    }
-
     /// The same rows, linked. They are taken out of the list, but for want of memory.
     pub(crate) fn link(&mut self, alloc: Global) -> Result<Linked, NoMemory>
         ensures linked { IfOk result (λ linked. placed_rows linked.live ≡ self.old.rows) }
@@ -180,6 +164,22 @@ impl Listed {
         self.waiting.clear();
         Linked::of_rows(alloc, &mut self.rows)
     }
+}
+
+// Whether more than so many rows equal this one: those behind the first that tells are not looked at.
+fn has_more(rows: &[Row], row: &Row, count: u128) -> bool
+    ensures { result ≡ nat_lt count (count_by (row_eq row.now) rows.now) }
+{
+    let mut left = count;
+    for kept in rows {
+        if row == kept {
+            if left == 0 {
+                return true;
+            }
+            left -= 1;
+        }
+    }
+    false
 }
 
 // Takes the first row out that equals this one, if one does.

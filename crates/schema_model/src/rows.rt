@@ -1,5 +1,5 @@
-//! The rows of a relation: in a list, and linked once a second row is to be taken out.
-ghost use Rattle.std.specs.Prelude.{◌≡◌, ◌∷◌, ◌++◌, [], IfOk, OnOk, OnErr, IsTrue, length, count_by, drop, remove};
+//! The rows of a relation: in a list, and linked once a row is to be found by its cells.
+ghost use Rattle.std.specs.Prelude.{◌≡◌, ◌∷◌, ◌++◌, [], IfOk, OnOk, OnErr, IsTrue, length, count_by, nat_lt, drop, remove};
 ghost use Rattle.std.specs.List.{list_any, position_or_len};
 ghost use Rattle.ss_text.specs.Texts.{row_eq};
 ghost use Rattle.schema_model.specs.Placed.{ArePlaces, placed_rows, first_place, after_place, row_at, is_place};
@@ -88,14 +88,14 @@ impl Rows {
         }
     }
 
-    /// How many rows equal this one.
+    /// Whether more than so many rows equal this one.
     #[tactic(auto, using(crate::proofs::NumberedLemmas::rows_numbered, crate::proofs::LinkedLemmas::copies_linked))]
-    pub(crate) fn copies_of(&self, row: &Row) -> usize
-        ensures { result ≡ count_by (row_eq row.now) (placed_rows (placed_in self.now)) }
+    pub(crate) fn has_more(&self, row: &Row, count: u128) -> bool
+        ensures { result ≡ nat_lt count (count_by (row_eq row.now) (placed_rows (placed_in self.now))) }
     {
         match self {
-            Rows::Listed(listed) => listed.copies_of(row),
-            Rows::Linked(linked) => linked.count_like(row),
+            Rows::Listed(listed) => listed.has_more(row, count),
+            Rows::Linked(linked) => linked.has_more_like(row, count),
         }
     }
 
@@ -150,19 +150,14 @@ impl Rows {
         }
     }
 
-    /// Makes ready that a row is taken out: takes all memory that this needs. From the second such call on they are
-    /// linked.
+    /// Links them, where they are not linked yet, so that a row is found and taken out without a walk of all. No row
+    /// waits then. Where there is no memory they stay in the list.
     #[tactic(auto, using(crate::proofs::NumberedLemmas::rows_numbered))]
     pub(crate) fn link(&mut self, alloc: Global) -> Result<(), NoMemory>
         ensures { placed_rows (placed_in self.new) ≡ placed_rows (placed_in self.old) }
     {
         let linked = match self {
-            Rows::Listed(listed) => {
-                if !listed.taken_before() {
-                    return Ok(());
-                }
-                listed.link(alloc)?
-            }
+            Rows::Listed(listed) => listed.link(alloc)?,
             Rows::Linked(_) => return Ok(()),
         };
         *self = Rows::Linked(linked);

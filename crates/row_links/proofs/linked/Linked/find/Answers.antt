@@ -15,7 +15,7 @@ returns-clause-found c =
     let live = c.args.self.now.live in
     let row = c.args.row.now in
     let h : IsLinked (key_lists f.keys.items) f.rows f.chains f.waiting.items c.args.self.now.live = subst (λ (es : Placed). IsLinked (key_lists f.keys.items) f.rows f.chains f.waiting.items es) (ap (λ (v : LinkedRows). v.live) c.self.view_is) c.self.invariant in
-    found_in by_row c.mark.result f.rows f.chains.same.links.items (λ r. same_cells (whole r) (whole row)) None c.first-from.result c.seek.result live
+    found_in by_row c.mark.result first_place f.rows f.chains.same.links.items (λ r. same_cells (whole r) (whole row)) None c.first-from.result c.seek.result live
     c.seek.ensures
     (λ r e. same_mark (whole r) (whole row) e ∙ sym c.mark.ensures)
     (h.chained.same c.mark.result).path

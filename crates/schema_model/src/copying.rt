@@ -2,34 +2,36 @@
 ghost use Rattle.std.specs.Prelude.{◌≡◌, IfOk};
 ghost use Rattle.schema_model.specs.declared.change.Change.TheVariants as change_is;
 
-use schema_model::Change;
+use crate::Change;
 use ss_text::{NoMemory, Row, Text};
 
-// A copy of a change.
-pub(crate) fn copied(change: &Change) -> Result<Change, NoMemory>
-    ensures { IfOk result (λ copy. copy ≡ change.now) }
-{
-    match change {
-        Change::Insert { db, rel, row } => insert(db, rel, row),
-        Change::Delete { db, rel, row } => delete(db, rel, row),
-        Change::AddAttribute {
-            db,
-            rel,
-            name,
-            fill,
-        } => add_attribute(db, rel, name, fill),
-        Change::DropAttribute { db, rel, name } => drop_attribute(db, rel, name),
-        Change::RenameAttribute { db, rel, name, to } => rename_attribute(db, rel, name, to),
-        Change::CreateRelation {
-            db,
-            rel,
-            attributes,
-        } => create_relation(db, rel, attributes),
-        Change::DropRelation { db, rel } => drop_relation(db, rel),
-        Change::RenameRelation { db, rel, to } => rename_relation(db, rel, to),
-        Change::CreateDatabase { db } => create_database(db),
-        Change::DropDatabase { db } => drop_database(db),
-        Change::RenameDatabase { db, to } => rename_database(db, to),
+impl Change {
+    /// An equal change.
+    pub fn copy(&self) -> Result<Change, NoMemory>
+        ensures { IfOk result (λ copy. copy ≡ self.now) }
+    {
+        match self {
+            Change::Insert { db, rel, row } => insert(db, rel, row),
+            Change::Delete { db, rel, row } => delete(db, rel, row),
+            Change::AddAttribute {
+                db,
+                rel,
+                name,
+                fill,
+            } => add_attribute(db, rel, name, fill),
+            Change::DropAttribute { db, rel, name } => drop_attribute(db, rel, name),
+            Change::RenameAttribute { db, rel, name, to } => rename_attribute(db, rel, name, to),
+            Change::CreateRelation {
+                db,
+                rel,
+                attributes,
+            } => create_relation(db, rel, attributes),
+            Change::DropRelation { db, rel } => drop_relation(db, rel),
+            Change::RenameRelation { db, rel, to } => rename_relation(db, rel, to),
+            Change::CreateDatabase { db } => create_database(db),
+            Change::DropDatabase { db } => drop_database(db),
+            Change::RenameDatabase { db, to } => rename_database(db, to),
+        }
     }
 }
 
