@@ -1,5 +1,6 @@
 pub mod ShelfLemmas
 pub mod FirstLemmas
+pub mod FoundLemmas
 pub mod SameLemmas
 pub mod RoomLemmas
 pub mod ElementLemmas

@@ -1,15 +1,17 @@
 //! Rows that are sought by their keys.
-ghost use Rattle.std.specs.Prelude.{◌≡◌, ◌<◌, ◌≤◌, map, is_ok, IfOk, IfErr};
-ghost use Rattle.ss_text.specs.Texts.{row_cmp};
+ghost use Rattle.std.specs.Prelude.{◌≡◌, ◌<◌, ◌≤◌, map, is_ok, slice_index_or, IfOk, IfErr};
+ghost use Rattle.std.specs.Map.{lookup};
+ghost use Rattle.std.specs.Option.{option_copied};
+ghost use Rattle.ss_text.specs.Texts.{row_cmp, row_eq};
 ghost use Rattle.ss_text.specs.Keys.{IsPlaceOf, IsPlaceFor};
 ghost use Rattle.std.specs.List.Sorted.{IsStrictlySortedBy};
-ghost use Rattle.row_shelves.specs.Stocks.{stock_key, has_key};
+ghost use Rattle.row_shelves.specs.Stocks.{stock_key, rows_of, has_key};
 ghost use Rattle.row_shelves.specs.Shelves.{on_shelf, all_rows, first_key, AreShelves, place_of, IsOn, IsAt};
 
-use crate::RowShelf;
 use crate::sought::SoughtKey;
 use crate::spot::Spot;
-use ss_text::Row;
+use crate::{KeptRow, RowShelf};
+use ss_text::{Row, Text};
 
 // The shelf that begins with this key, or before which such a shelf would stand.
 fn shelf_of(shelves: &[RowShelf], key: &SoughtKey<'_>) -> Result<usize, usize>
@@ -68,4 +70,24 @@ pub(crate) fn has(shelves: &[RowShelf], key: &Row) -> bool
     ensures { result ≡ has_key key.now (all_rows shelves.now) }
 {
     find(shelves, key).is_ok()
+}
+
+// The row at a spot.
+fn row_at(shelves: &[RowShelf], spot: Spot) -> &KeptRow
+    requires { IsOn shelves.now spot }
+    ensures { slice_index_or (all_rows shelves.now) (place_of shelves.now spot) result.now ≡ result.now }
+{
+    let shelf = &shelves[spot.shelf];
+    &shelf.rows()[spot.place]
+}
+
+/// The cells of the row of a key, if there is one.
+pub(crate) fn cells_of<'s>(shelves: &'s [RowShelf], key: &Row) -> Option<&'s [Text]>
+    requires { AreShelves shelves.now }
+    ensures { option_copied result ≡ lookup (row_eq key.now) (rows_of (all_rows shelves.now)) }
+{
+    let Ok(spot) = find(shelves, key) else {
+        return None;
+    };
+    Some(row_at(shelves, spot).cells())
 }

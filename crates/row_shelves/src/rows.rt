@@ -1,6 +1,8 @@
 //! Rows by their keys, with memory for rows and cells to come.
 ghost use Rattle.std.specs.Prelude.{◌≡◌, ◌<◌, ◌≤◌, ◌∷◌, ◌++◌, ◌+◌, ◌-◌, [], map, not, false, length, filter, replicate, List, ℕ, IsTrue, OnOk, OnErr};
 ghost use Rattle.std.specs.List.{All, AllByRecursion};
+ghost use Rattle.std.specs.Map.{lookup};
+ghost use Rattle.std.specs.Option.{option_copied};
 ghost use Rattle.std.specs.Vec.{vec_len};
 ghost use Rattle.std.specs.List.Sorted.{IsStrictlySortedBy};
 ghost use Rattle.ss_text.specs.Texts.{Row as RowValue, row_eq, row_cmp};
@@ -16,7 +18,7 @@ ghost use Rattle.row_shelves.specs.Values.{rows_value, has_row_key};
 use crate::append::append;
 use crate::blank::Blank;
 use crate::columns::{insert_column, remove_column, widen};
-use crate::find::has;
+use crate::find::{cells_of, has};
 use crate::put::{put, set_key, take_key};
 use crate::{KeptRow, RowShelf};
 use ss_text::{NoMemory, Row, Text};
@@ -171,6 +173,13 @@ impl RowShelves {
         ensures { result ≡ has_row_key key.now self.now.rows }
     {
         has(&self.shelves, key)
+    }
+
+    /// The cells of the row of a key, if there is one. No rows are walked.
+    pub fn cells_of(&self, key: &Row) -> Option<&[Text]>
+        ensures { option_copied result ≡ lookup (row_eq key.now) self.now.rows }
+    {
+        cells_of(&self.shelves, key)
     }
 
     /// Its rows in ascending order, shelf by shelf.
