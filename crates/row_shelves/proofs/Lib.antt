@@ -7,3 +7,4 @@ pub mod ElementLemmas
 pub mod SeenLemmas
 pub mod ValueLemmas
 pub mod StockLemmas
+pub mod SupplyLemmas

@@ -1,5 +1,5 @@
 -- Shelves of which one changes.
-use Rattle.std.proofs.Common.{◌≡◌, ◌<◌, ◌≤◌, ◌∷◌, [], ℕ, Vec, List, refl, zero, suc, length, take, drop, get_or, set, arith}
+use Rattle.std.proofs.Common.{◌≡◌, ◌<◌, ◌∷◌, [], ℕ, Vec, List, refl, zero, suc, length, take, drop, set, arith}
 use Rattle.std.specs.Prelude.{insert, remove}
 use Rattle.std.specs.List.{AllByRecursion}
 use Rattle.row_shelves.specs.Stocks.{Stock}
@@ -28,15 +28,11 @@ all_without P [] (suc i) before behind = tt
 all_without P (x ∷ xs) zero before behind = behind
 all_without P (x ∷ xs) (suc i) before behind = (before.0, all_without P xs i before.1 behind)
 
--- a list of no elements, and one of some
+-- a list of no elements
 pub nothing : {X : Type 0} (xs : List X) (n : ℕ) → n ≡ length xs → n ≡ 0 → xs ≡ []
 nothing [] n e z = refl
 nothing (x ∷ xs) n e z = absurd (omega (arith, e, z))
 
-pub something : {X : Type 0} (xs : List X) (n : ℕ) → n ≡ length xs → (n ≡ 0 → ⊥) → 0 < length xs
-something [] n e z = absurd (z e)
-something (x ∷ xs) n e z = omega arith
-
 -- a shelf by its numbers
-pub is_shelf : {Z : Type 0} (s : Vec Stock Z) → 0 < s.len → 64 ≤ s.cap → s.len < s.cap → IsShelf s
+pub is_shelf : {Z : Type 0} (s : Vec Stock Z) → 0 < s.len → s.cap ≡ 64 → s.len < s.cap → IsShelf s
 is_shelf s some large room = record { some = omega (arith, some, s.ok.0); large = large; room = room }

@@ -1,6 +1,5 @@
 -- Shelves that are seen as others.
 use Rattle.std.proofs.Common.{◌≡◌, ◌<◌, ◌∷◌, ◌++◌, [], ℕ, Vec, List, refl, sym, ◌∙◌, ap, subst, zero, suc, length, map, take, get_or, set, arith, append-nil, append_assoc, ◌+◌, Global, Result, Ok, Err, IfOk, IfErr, is_ok}
-use Rattle.std.specs.Result.{OnErr}
 use Rattle.ss_text.proofs.KeyLemmas.{row_order, has_any, lacks_any, lacks_for}
 use Rattle.std.proofs.lemmas.List.{length-map, get_or-map, take-map}
 use Rattle.std.specs.List.{AllByRecursion}

@@ -1,5 +1,5 @@
 -- Shelves that are seen as others.
-use Rattle.std.proofs.Common.{◌≡◌, ◌<◌, ◌≤◌, ◌∷◌, ◌++◌, [], ℕ, Vec, List, refl, sym, ◌∙◌, ap, subst, length, map}
+use Rattle.std.proofs.Common.{◌≡◌, ◌<◌, ◌∷◌, ◌++◌, [], ℕ, Vec, List, refl, sym, ◌∙◌, ap, subst, length, map}
 use Rattle.std.specs.List.{AllByRecursion}
 use Rattle.std.proofs.lemmas.List.{length-map, map-append}
 use Rattle.ss_text.specs.Texts.{Row}
@@ -11,7 +11,7 @@ use Rattle.row_shelves.specs.Shelves.{joined, all_rows, AreShelves, IsShelf, see
 -- what a shelf is by its rows, their number and the room
 record IsSeen {A : Type 0} (t : List A × ℕ × ℕ) : Type 0 where
   some : 0 < length t.0
-  large : 64 ≤ t.2
+  large : t.2 ≡ 64
   room : t.1 < t.2
 
 still_seen : (g : Stock → Stock) (ts : List (List Stock × ℕ × ℕ)) → AllByRecursion IsSeen ts → AllByRecursion IsSeen (map (shelf_changed g) ts)

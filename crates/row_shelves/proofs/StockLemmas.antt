@@ -1,19 +1,18 @@
 -- Rows that keep their room while they come, go and change.
-use Rattle.std.proofs.Common.{◌≡◌, ◌<◌, ◌≤◌, ◌∷◌, ◌++◌, [], ℕ, Bool, true, false, List, sym, ◌∙◌, ap, subst, length, map, arith, cond}
+use Rattle.std.proofs.Common.{◌≡◌, ◌<◌, ◌≤◌, ◌∷◌, ◌++◌, [], ℕ, Bool, Vec, Global, true, false, List, sym, ◌∙◌, ap, subst, length, map, arith, cond}
 use Rattle.std.specs.Prelude.{filter, if◌then◌else◌}
 use Rattle.std.specs.List.{AllByRecursion}
 use Rattle.std.specs.Vec.{vec_capacity}
 use Rattle.std.specs.declared.cmp.Ordering.TheVariants.{Less, Equal, Greater}
 use Rattle.std.specs.List.Sorted.{IsStrictlySortedBy}
 use Rattle.std.proofs.lemmas.List.{map-append}
-use Rattle.ss_text.specs.Texts.{Row, row_cmp}
+use Rattle.ss_text.specs.Texts.{Text, Row, row_cmp}
 use Rattle.flow_law.specs.Tables.{key_of}
 use Rattle.row_shelves.proofs.SeenLemmas.{keys_of_rows}
 use Rattle.ss_text.specs.Ascending.{by_order, with_element}
 use Rattle.ss_text.specs.Places.{changed_where}
 use Rattle.row_shelves.specs.Stocks.{Stock, stock, stock_key, Has, HasSpace, row_of, rows_of, by_stock, changed}
-use Rattle.row_shelves.specs.Blanks.{IsBlank}
-use Rattle.row_shelves.specs.declared.blank.Blank.{Blank}
+use Rattle.row_shelves.specs.Blanks.{IsNewRow}
 
 pub all_with : (P : Stock → Type 0) (r : Stock) (rs : List Stock) → P r → AllByRecursion P rs → AllByRecursion P (with_element by_stock r rs)
 all_with P r [] p h = (p, tt)
@@ -38,12 +37,12 @@ pub spaces : (place n : ℕ) (rs : List Stock) → AllByRecursion (λ (r : Stock
 spaces place n [] within short room = tt
 spaces place n (s ∷ rs) within short room = (record { within = within.0; room = omega (arith, short.0, room.0) }, spaces place n rs within.1 short.1 room.1)
 
--- blanks whose room grows
-pub wider : (n : ℕ) (old new : Blank) → new.shelf ≡ old.shelf → new.cells.items ≡ old.cells.items → vec_capacity old.cells ≤ vec_capacity new.cells → IsBlank n old → IsBlank n new
-wider n old new shelf cells grows h = record { shelf = rw shelf h.shelf; cells = cells ∙ h.cells; room = omega (arith, h.room, grows) }
+-- cells to come whose room grows
+pub wider : (n : ℕ) (old new : Vec Text Global) → new.items ≡ old.items → vec_capacity old ≤ vec_capacity new → IsNewRow n old → IsNewRow n new
+wider n old new same grows h = record { none = same ∙ h.none; room = omega (arith, h.room, grows) }
 
-pub as_wide : (n m : ℕ) (old new : Blank) → new.shelf ≡ old.shelf → new.cells.items ≡ old.cells.items → m ≤ vec_capacity new.cells → IsBlank n old → IsBlank m new
-as_wide n m old new shelf cells room h = record { shelf = rw shelf h.shelf; cells = cells ∙ h.cells; room = room }
+pub as_wide : (n m : ℕ) (old new : Vec Text Global) → new.items ≡ old.items → m ≤ vec_capacity new → IsNewRow n old → IsNewRow m new
+as_wide n m old new same room h = record { none = same ∙ h.none; room = room }
 
 -- the last of some, and the others
 pub last_of : {X : Type 0} (P : X → Type 0) (xs : List X) (x : X) → AllByRecursion P (xs ++ x ∷ []) → P x

@@ -1,5 +1,5 @@
 -- Rows that stand on shelves, one shelf after another.
-use Rattle.std.specs.Prelude.{ℕ, Vec, ◌+◌, ◌<◌, ◌≤◌, List, [], ◌∷◌, ◌++◌, map, length, take, slice_index_or}
+use Rattle.std.specs.Prelude.{◌≡◌, ℕ, Vec, ◌+◌, ◌<◌, ◌≤◌, List, [], ◌∷◌, ◌++◌, map, length, take, slice_index_or}
 use Rattle.std.specs.List.{AllByRecursion}
 use Rattle.std.specs.List.Sorted.{IsStrictlySortedBy}
 use Rattle.std.specs.Vec.{vec_len, vec_capacity}
@@ -26,22 +26,23 @@ first_key s = stock_key (slice_index_or (on_shelf s) 0 (stock [] [] 0))
 -- a shelf with a row, which may be full
 pub record IsFilled {Z : Type 0} (s : Vec Stock Z) : Type 0 where
   pub some : 0 < length s.items
-  pub large : 64 ≤ vec_capacity s
+  pub large : vec_capacity s ≡ 64
 
 -- a shelf that takes a row more without memory, which may be empty
 pub record HasRoom {Z : Type 0} (s : Vec Stock Z) : Type 0 where
-  pub large : 64 ≤ vec_capacity s
+  pub large : vec_capacity s ≡ 64
   pub room : vec_len s < vec_capacity s
 
 -- a shelf with a row that takes one more
 pub record IsShelf {Z : Type 0} (s : Vec Stock Z) : Type 0 where
   pub some : 0 < length s.items
-  pub large : 64 ≤ vec_capacity s
+  pub large : vec_capacity s ≡ 64
   pub room : vec_len s < vec_capacity s
 
--- a shelf with many rows
+-- a shelf that is full
 pub record IsLong {Z : Type 0} (s : Vec Stock Z) : Type 0 where
   pub many : 64 ≤ vec_len s
+  pub large : vec_capacity s ≡ 64
 
 -- a shelf with room for more than one row
 pub record IsOpen {Z : Type 0} (s : Vec Stock Z) : Type 0 where

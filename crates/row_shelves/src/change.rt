@@ -1,11 +1,12 @@
 //! Changes at a spot, none of which takes memory.
-ghost use Rattle.std.specs.Prelude.{◌≡◌, ◌<◌, ◌≤◌, length, insert, remove, drop, take, suc};
+ghost use Rattle.std.specs.Prelude.{◌≡◌, ◌<◌, ◌≤◌, ◌+◌, length, insert, remove, drop, take, suc, option_to_list, IfSome};
 ghost use Rattle.std.specs.List.{AllByRecursion};
 ghost use Rattle.std.specs.Vec.{vec_len, vec_capacity};
 ghost use Rattle.ss_text.specs.Places.{at_place};
 ghost use Rattle.flow_law.specs.Lines.{with_cell_at};
 ghost use Rattle.row_shelves.specs.Stocks.{changed};
 ghost use Rattle.row_shelves.specs.Shelves.{all_rows, place_of, IsOn, IsAt, IsShelf, FilledAt, RoomAt, HasCellAt};
+ghost use Rattle.row_shelves.specs.Blanks.{IsNewShelf, surplus};
 
 use crate::spot::Spot;
 use crate::{KeptRow, RowShelf};
@@ -20,6 +21,7 @@ pub(crate) fn insert_at(shelves: &mut Vec<RowShelf>, spot: Spot, row: KeptRow)
     ensures before { AllByRecursion IsShelf (take spot.shelf shelves.new.items) }
     ensures here { FilledAt shelves.new.items spot.shelf }
     ensures behind { AllByRecursion IsShelf (drop (suc spot.shelf) shelves.new.items) }
+    ensures surplus { surplus shelves.new.items ≤ surplus shelves.old.items + 1 }
     ensures count { vec_len shelves.new ≡ vec_len shelves.old }
     ensures capacity { vec_capacity shelves.new ≡ vec_capacity shelves.old }
 {
@@ -35,6 +37,7 @@ fn take_row(shelves: &mut Vec<RowShelf>, spot: Spot)
     ensures before { AllByRecursion IsShelf (take spot.shelf shelves.new.items) }
     ensures here { RoomAt shelves.new.items spot.shelf }
     ensures behind { AllByRecursion IsShelf (drop (suc spot.shelf) shelves.new.items) }
+    ensures surplus { surplus shelves.new.items ≤ surplus shelves.old.items }
     ensures count { vec_len shelves.new ≡ vec_len shelves.old }
     ensures capacity { vec_capacity shelves.new ≡ vec_capacity shelves.old }
 {
@@ -43,33 +46,38 @@ fn take_row(shelves: &mut Vec<RowShelf>, spot: Spot)
 }
 
 // Takes a shelf away if it is empty.
-fn drop_empty(shelves: &mut Vec<RowShelf>, place: usize)
+fn take_empty(shelves: &mut Vec<RowShelf>, place: usize) -> Option<RowShelf>
     requires there { place < length shelves.old.items }
     requires before { AllByRecursion IsShelf (take place shelves.old.items) }
     requires here { RoomAt shelves.old.items place }
     requires behind { AllByRecursion IsShelf (drop (suc place) shelves.old.items) }
     ensures rows { all_rows shelves.new.items ≡ all_rows shelves.old.items }
     ensures shelves { AllByRecursion IsShelf shelves.new.items }
-    ensures count { vec_len shelves.new ≤ vec_len shelves.old }
+    ensures emptied { IfSome result IsNewShelf }
+    ensures surplus { surplus shelves.new.items ≤ surplus shelves.old.items }
+    ensures count { vec_len shelves.new + length (option_to_list result) ≡ vec_len shelves.old }
     ensures capacity { vec_capacity shelves.new ≡ vec_capacity shelves.old }
 {
     let count = shelves[place].len();
-    if count == 0 {
-        shelves.remove(place);
+    if count > 0 {
+        return None;
     }
+    Some(shelves.remove(place))
 }
 
-/// Takes the row at a spot out.
-pub(crate) fn remove_at(shelves: &mut Vec<RowShelf>, spot: Spot)
+/// Takes the row at a spot out, and answers its shelf where that gets empty.
+pub(crate) fn remove_at(shelves: &mut Vec<RowShelf>, spot: Spot) -> Option<RowShelf>
     requires on { IsOn shelves.old.items spot }
     requires shelves { AllByRecursion IsShelf shelves.old.items }
     ensures rows { all_rows shelves.new.items ≡ remove (all_rows shelves.old.items) (place_of shelves.old.items spot) }
     ensures shelves { AllByRecursion IsShelf shelves.new.items }
-    ensures count { vec_len shelves.new ≤ vec_len shelves.old }
+    ensures emptied { IfSome result IsNewShelf }
+    ensures surplus { surplus shelves.new.items ≤ surplus shelves.old.items }
+    ensures count { vec_len shelves.new + length (option_to_list result) ≡ vec_len shelves.old }
     ensures capacity { vec_capacity shelves.new ≡ vec_capacity shelves.old }
 {
     take_row(shelves, spot);
-    drop_empty(shelves, spot.shelf);
+    take_empty(shelves, spot.shelf)
 }
 
 /// Gives a cell of the row at a spot another value.
@@ -79,6 +87,7 @@ pub(crate) fn set_cell_at(shelves: &mut Vec<RowShelf>, spot: Spot, column: usize
     requires shelves { AllByRecursion IsShelf shelves.old.items }
     ensures rows { all_rows shelves.new.items ≡ at_place (place_of shelves.old.items spot) (changed (with_cell_at column value)) (all_rows shelves.old.items) }
     ensures shelves { AllByRecursion IsShelf shelves.new.items }
+    ensures surplus { surplus shelves.new.items ≡ surplus shelves.old.items }
     ensures count { vec_len shelves.new ≡ vec_len shelves.old }
     ensures capacity { vec_capacity shelves.new ≡ vec_capacity shelves.old }
 {

@@ -5,6 +5,7 @@ ghost use Rattle.std.specs.Vec.{vec_len, vec_capacity};
 ghost use Rattle.flow_law.specs.Lines.{with_empty_cell, without_cell};
 ghost use Rattle.row_shelves.specs.Stocks.{rows_of, changed, Has, HasSpace, HasCell};
 ghost use Rattle.row_shelves.specs.Shelves.{all_rows, AreShelves, seen_shelf, shelf_changed, same_shelf, on_shelf};
+ghost use Rattle.row_shelves.specs.Blanks.{surplus};
 
 use crate::RowShelf;
 use ss_text::NoMemory;
@@ -30,6 +31,7 @@ pub(crate) fn widen(shelves: &mut Vec<RowShelf>, bound: usize) -> Result<(), NoM
     ensures shelves { AreShelves shelves.new.items }
     ensures grows { (n : ℕ) → AllByRecursion (Has n) (all_rows shelves.old.items) → AllByRecursion (Has n) (all_rows shelves.new.items) }
     ensures room { OnOk result (AllByRecursion (Has bound) (all_rows shelves.new.items)) }
+    ensures surplus { surplus shelves.new.items ≡ surplus shelves.old.items }
     ensures count { vec_len shelves.new ≡ vec_len shelves.old }
     ensures capacity { vec_capacity shelves.new ≡ vec_capacity shelves.old }
 {
@@ -54,6 +56,7 @@ pub(crate) fn insert_column(shelves: &mut Vec<RowShelf>, place: usize)
     requires space { AllByRecursion (HasSpace place) (all_rows shelves.old.items) }
     ensures rows { all_rows shelves.new.items ≡ map (changed (with_empty_cell place)) (all_rows shelves.old.items) }
     ensures shelves { AreShelves shelves.new.items }
+    ensures surplus { surplus shelves.new.items ≡ surplus shelves.old.items }
     ensures count { vec_len shelves.new ≡ vec_len shelves.old }
     ensures capacity { vec_capacity shelves.new ≡ vec_capacity shelves.old }
 {
@@ -77,6 +80,7 @@ pub(crate) fn remove_column(shelves: &mut Vec<RowShelf>, place: usize)
     requires cells { AllByRecursion (HasCell place) (all_rows shelves.old.items) }
     ensures rows { all_rows shelves.new.items ≡ map (changed (without_cell place)) (all_rows shelves.old.items) }
     ensures shelves { AreShelves shelves.new.items }
+    ensures surplus { surplus shelves.new.items ≡ surplus shelves.old.items }
     ensures count { vec_len shelves.new ≡ vec_len shelves.old }
     ensures capacity { vec_capacity shelves.new ≡ vec_capacity shelves.old }
 {

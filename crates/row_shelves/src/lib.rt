@@ -5,10 +5,10 @@
 #![tactic(auto)]
 
 mod append;
-mod blank;
 mod cells;
 mod change;
 mod columns;
+mod coming;
 mod find;
 mod kept_row;
 mod put;

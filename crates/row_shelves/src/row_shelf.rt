@@ -22,8 +22,11 @@ use std::alloc::Global;
 use std::cmp::Ordering;
 use std::marker::Model;
 
-/// How many rows a shelf has room for at least.
+/// How many rows a shelf has room for.
 pub(crate) const FULL: usize = 64;
+
+/// How many rows each half has of a shelf that is cut in two.
+pub(crate) const HALF: usize = FULL / 2;
 
 /// Rows in order, and the front of the first one's key, by which the shelf is found. Where there is no row, the front is
 /// that of no key. Contracts see the vector of the rows.
@@ -142,6 +145,15 @@ impl RowShelf {
         if place == 0 {
             self.front = front_of_first(&self.rows);
         }
+    }
+
+    /// Takes all rows out.
+    pub(crate) fn clear(&mut self)
+        ensures items { self.new.items ≡ [] }
+        ensures capacity { vec_capacity self.new ≡ vec_capacity self.old }
+    {
+        self.rows.clear();
+        self.front = 0;
     }
 
     /// Gives a cell of the row at this place another value.

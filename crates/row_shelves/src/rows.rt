@@ -12,14 +12,14 @@ ghost use Rattle.flow_law.specs.Tables.{key_of};
 ghost use Rattle.flow_law.specs.Lines.{by_key, with_empty_cell, without_cell, with_cell_at};
 ghost use Rattle.row_shelves.specs.Stocks.{rows_of};
 ghost use Rattle.row_shelves.specs.Shelves.{all_rows};
-ghost use Rattle.row_shelves.specs.Blanks.{IsBlank};
+ghost use Rattle.row_shelves.specs.Blanks.{IsNewRow};
 ghost use Rattle.row_shelves.specs.Values.{rows_value, has_row_key};
 
 use crate::append::append;
-use crate::blank::Blank;
 use crate::columns::{insert_column, remove_column, widen};
+use crate::coming::{drop_unused, expect_shelf, take_back};
 use crate::find::{cells_of, has};
-use crate::put::{put, set_key, take_key};
+use crate::put::{clear, put, set_key, take_key};
 use crate::{KeptRow, RowShelf};
 use ss_text::{NoMemory, Row, Text};
 use std::alloc::Global;
@@ -30,7 +30,8 @@ use std::marker::Model;
 #[derive(Debug, Drop)]
 pub struct RowShelves {
     shelves: Vec<RowShelf>,
-    blanks: Vec<Blank>,
+    spare: Vec<RowShelf>,
+    cells: Vec<Vec<Text>>,
     bound: usize,
 }
 
@@ -43,9 +44,9 @@ impl Model for RowShelves {
 
     ghost Value = { RowsValue };
 
-    ghost view = { λ k. rows_value (rows_of (all_rows k.shelves.items)) (vec_len k.blanks) k.bound };
+    ghost view = { λ k. rows_value (rows_of (all_rows k.shelves.items)) (vec_len k.cells) k.bound };
 
-    ghost invariant = { λ k. IsStocked k.shelves k.blanks k.bound };
+    ghost invariant = { λ k. IsStocked k.shelves k.spare k.cells k.bound };
 }
 
 impl RowShelves {
@@ -55,7 +56,8 @@ impl RowShelves {
     {
         RowShelves {
             shelves: Vec::new(alloc),
-            blanks: Vec::new(alloc),
+            spare: Vec::new(alloc),
+            cells: Vec::new(alloc),
             bound: 0,
         }
     }
@@ -77,9 +79,10 @@ impl RowShelves {
         ensures ok { OnOk result (self.new ≡ rows_value self.old.rows (self.old.coming + 1) self.old.bound) }
         ensures err { OnErr result (self.new ≡ self.old) }
     {
-        self.shelves.reserve(self.blanks.len() + 1)?;
-        let blank = Blank::new(alloc, self.bound)?;
-        self.blanks.push(blank)?;
+        self.cells.reserve(1)?;
+        let cells = Vec::with_capacity(alloc, self.bound)?;
+        expect_shelf(alloc, &mut self.shelves, &mut self.spare, self.cells.len())?;
+        self.cells.push_reserved(cells);
         Ok(())
     }
 
@@ -90,7 +93,7 @@ impl RowShelves {
         ensures err { OnErr result (self.new ≡ self.old) }
     {
         widen(&mut self.shelves, bound)?;
-        widen_blanks(&mut self.blanks, bound)?;
+        widen_cells(&mut self.cells, bound)?;
         self.bound = bound;
         Ok(())
     }
@@ -102,15 +105,15 @@ impl RowShelves {
         requires room { columns ≤ self.old.bound }
         ensures { self.new ≡ rows_value (with_element by_key (key, replicate columns []) self.old.rows) (self.old.coming - 1) self.old.bound }
     {
-        let Some(blank) = self.blanks.pop() else {
+        let Some(cells) = self.cells.pop() else {
             unreachable!()
         };
-        let Blank { shelf, cells } = blank;
         put(
             &mut self.shelves,
             KeptRow::empty(key, cells, columns),
-            shelf,
+            &mut self.spare,
         );
+        drop_unused(&mut self.spare, self.cells.len());
     }
 
     /// Takes the row of a key out.
@@ -118,7 +121,8 @@ impl RowShelves {
         requires { IsTrue (has_row_key key.now self.old.rows) }
         ensures { self.new ≡ rows_value (filter (λ (r : RowValue × RowValue). not (row_eq key.now r.0)) self.old.rows) self.old.coming self.old.bound }
     {
-        take_key(&mut self.shelves, key);
+        let emptied = take_key(&mut self.shelves, key);
+        take_back(&self.shelves, &mut self.spare, emptied, self.cells.len());
     }
 
     /// Gives a cell of the row of a key another value. It takes no memory.
@@ -151,14 +155,16 @@ impl RowShelves {
     pub fn clear(&mut self)
         ensures { self.new ≡ rows_value [] self.old.coming self.old.bound }
     {
-        self.shelves.clear();
+        let emptied = clear(&mut self.shelves);
+        take_back(&self.shelves, &mut self.spare, emptied, self.cells.len());
     }
 
     /// Gives the memory for rows to come back.
     pub fn forget(&mut self)
         ensures { self.new ≡ rows_value self.old.rows 0 self.old.bound }
     {
-        self.blanks.clear();
+        self.cells.clear();
+        self.spare.clear();
     }
 
     /// For how many cells each row, and each that will come, has room.
@@ -191,13 +197,13 @@ impl RowShelves {
 }
 
 // Takes the memory for so many cells of each row that will come.
-fn widen_blanks(blanks: &mut Vec<Blank>, bound: usize) -> Result<(), NoMemory>
-    ensures grows { (n : ℕ) → All (IsBlank n) blanks.old.items → All (IsBlank n) blanks.new.items }
-    ensures room { (n : ℕ) → All (IsBlank n) blanks.old.items → OnOk result (All (IsBlank bound) blanks.new.items) }
-    ensures count { vec_len blanks.new ≡ vec_len blanks.old }
+fn widen_cells(coming: &mut Vec<Vec<Text>>, bound: usize) -> Result<(), NoMemory>
+    ensures grows { (n : ℕ) → All (IsNewRow n) coming.old.items → All (IsNewRow n) coming.new.items }
+    ensures room { (n : ℕ) → All (IsNewRow n) coming.old.items → OnOk result (All (IsNewRow bound) coming.new.items) }
+    ensures count { vec_len coming.new ≡ vec_len coming.old }
 {
-    for blank in blanks.iter_mut() {
-        blank.make_room(bound)?;
+    for cells in coming.iter_mut() {
+        cells.reserve(bound)?;
     }
     Ok(())
 }

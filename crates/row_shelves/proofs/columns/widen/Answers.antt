@@ -2,6 +2,7 @@ use Rattle.row_shelves.specs.Stocks.{Has}
 use Rattle.row_shelves.specs.Shelves.{on_shelf}
 use Rattle.row_shelves.proofs.ElementLemmas.{on_each, of_each}
 use Rattle.row_shelves.proofs.SeenLemmas.{same_rows, same_shelves}
+use Rattle.row_shelves.proofs.SupplyLemmas.{same_surplus}
 use Rattle.row_shelves.proofs.columns.widen.Goals as goal
 
 pub returns-in_err-widen_each-clause-rows : goal.returns-in_err-widen_each-clause-rows
@@ -24,3 +25,9 @@ returns-clause-grows c = λ n h. of_each on_shelf (Has n) c.widen_each.new.shelv
 
 pub returns-clause-room : goal.returns-clause-room
 returns-clause-room c = of_each on_shelf (Has c.args.bound) c.widen_each.new.shelves.items c.in_ok-widen_each.ensures.room
+
+pub returns-in_err-widen_each-clause-surplus : goal.returns-in_err-widen_each-clause-surplus
+returns-in_err-widen_each-clause-surplus c = same_surplus c.widen_each.new.shelves.items c.args.shelves.now.items c.widen_each.ensures.same
+
+pub returns-clause-surplus : goal.returns-clause-surplus
+returns-clause-surplus c = same_surplus c.widen_each.new.shelves.items c.args.shelves.now.items c.widen_each.ensures.same

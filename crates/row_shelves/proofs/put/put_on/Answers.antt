@@ -1,4 +1,4 @@
-use Rattle.std.proofs.Common.{sym, ◌∙◌}
+use Rattle.std.proofs.Common.{sym, ◌∙◌, arith}
 use Rattle.std.proofs.lemmas.Bool.{false≢true}
 use Rattle.ss_text.proofs.KeyLemmas.{row_order, has_any, placed_for, ascends_placed}
 use Rattle.row_shelves.specs.Stocks.{stock_key}
@@ -22,3 +22,12 @@ returns-clause-shelves c =
       keys = rw (c.cut_full.ensures.rows, c.insert_at.ensures.rows) (ascends_placed row_order stock_key c.args.row (all_rows c.args.shelves.now.items) (place_of c.args.shelves.now.items c.in-Err.spot) c.requires.shelves.keys gap);
       each = c.cut_full.ensures.shelves;
     }
+
+pub cut_full-requires-clause-enough : goal.cut_full-requires-clause-enough
+cut_full-requires-clause-enough c = omega (arith, c.insert_at.ensures.surplus, c.requires.supply.enough, c.requires.some, c.args.shelves.now.ok.0)
+
+pub cut_full-requires-clause-room : goal.cut_full-requires-clause-room
+cut_full-requires-clause-room c = omega (arith, c.insert_at.ensures.count, c.insert_at.ensures.capacity, c.requires.supply.space)
+
+pub returns-clause-cost : goal.returns-clause-cost
+returns-clause-cost c = omega (arith, c.insert_at.ensures.surplus, c.cut_full.ensures.cost)

@@ -6,6 +6,7 @@ pub invariant_of-result : goal.invariant_of-result
 invariant_of-result c = record {
   shelves = rw c.new.ensures.items none_shelved;
   rows = rw c.new.ensures.items tt;
-  blanks = rw c.new-2.ensures.items tt;
-  space = omega (arith, c.new.ensures.len, c.new-2.ensures.len);
+  new = rw c.new-2.ensures.items tt;
+  cells = rw c.new-3.ensures.items tt;
+  supply = λ some. absurd (omega (arith, some, c.new-3.ensures.len));
 }

@@ -1,34 +1,41 @@
-use Rattle.std.proofs.Common.{arith}
-use Rattle.row_shelves.specs.Blanks.{IsBlank}
+use Rattle.std.proofs.Common.{sym, subst, arith}
+use Rattle.std.specs.Vec.{vec_len}
+use Rattle.row_shelves.specs.Blanks.{IsNewRow, AreSupplied}
 use Rattle.row_shelves.proofs.ElementLemmas.{all_each, each_all}
+use Rattle.row_shelves.proofs.SupplyLemmas.{still_supplied}
 use Rattle.row_shelves.proofs.rows.RowShelves.widen.Goals as goal
 
 pub invariant_of-self : goal.invariant_of-self
 invariant_of-self c = record {
   shelves = c.widen.ensures.shelves;
   rows = c.widen.ensures.grows c.self.inside.bound c.self.invariant.rows;
-  blanks = c.self.invariant.blanks;
-  space = omega (arith, c.widen.ensures.count, c.widen.ensures.capacity, c.self.invariant.space);
+  new = c.self.invariant.new;
+  cells = c.self.invariant.cells;
+  supply = λ some. still_supplied c.widen.new.shelves c.self.inside.shelves c.self.inside.spare (vec_len c.self.inside.cells) c.widen.ensures.surplus c.widen.ensures.count c.widen.ensures.capacity (c.self.invariant.supply some);
 }
 
-pub invariant_of-self-in_err-widen_blanks : goal.invariant_of-self-in_err-widen_blanks
-invariant_of-self-in_err-widen_blanks c =
+pub invariant_of-self-in_err-widen_cells : goal.invariant_of-self-in_err-widen_cells
+invariant_of-self-in_err-widen_cells c =
     let bound = c.self.inside.bound in
-    let grown = c.widen_blanks.ensures.grows bound (all_each (IsBlank bound) c.self.inside.blanks.items c.self.invariant.blanks) in
+    let grown = c.widen_cells.ensures.grows bound (all_each (IsNewRow bound) c.self.inside.cells.items c.self.invariant.cells) in
     record {
       shelves = c.widen.ensures.shelves;
       rows = c.widen.ensures.grows bound c.self.invariant.rows;
-      blanks = each_all (IsBlank bound) c.widen_blanks.new.blanks.items grown;
-      space = omega (arith, c.widen.ensures.count, c.widen.ensures.capacity, c.widen_blanks.ensures.count, c.self.invariant.space);
+      new = c.self.invariant.new;
+      cells = each_all (IsNewRow bound) c.widen_cells.new.coming.items grown;
+      supply = λ some. subst (AreSupplied c.widen.new.shelves c.self.inside.spare) (sym c.widen_cells.ensures.count)
+          (still_supplied c.widen.new.shelves c.self.inside.shelves c.self.inside.spare (vec_len c.self.inside.cells) c.widen.ensures.surplus c.widen.ensures.count c.widen.ensures.capacity (c.self.invariant.supply (omega (arith, c.widen_cells.ensures.count, some))));
     }
 
 pub invariant_of-self-2 : goal.invariant_of-self-2
 invariant_of-self-2 c =
     let bound = c.self.inside.bound in
-    let wide = c.in_ok-widen_blanks.ensures.room bound (all_each (IsBlank bound) c.self.inside.blanks.items c.self.invariant.blanks) in
+    let wide = c.in_ok-widen_cells.ensures.room bound (all_each (IsNewRow bound) c.self.inside.cells.items c.self.invariant.cells) in
     record {
       shelves = c.widen.ensures.shelves;
       rows = c.in_ok-widen.ensures.room;
-      blanks = each_all (IsBlank c.args.bound) c.widen_blanks.new.blanks.items wide;
-      space = omega (arith, c.widen.ensures.count, c.widen.ensures.capacity, c.widen_blanks.ensures.count, c.self.invariant.space);
+      new = c.self.invariant.new;
+      cells = each_all (IsNewRow c.args.bound) c.widen_cells.new.coming.items wide;
+      supply = λ some. subst (AreSupplied c.widen.new.shelves c.self.inside.spare) (sym c.widen_cells.ensures.count)
+          (still_supplied c.widen.new.shelves c.self.inside.shelves c.self.inside.spare (vec_len c.self.inside.cells) c.widen.ensures.surplus c.widen.ensures.count c.widen.ensures.capacity (c.self.invariant.supply (omega (arith, c.widen_cells.ensures.count, some))));
     }
