@@ -1,6 +1,8 @@
 //! One table, with memory for rows and columns to come.
 ghost use Rattle.std.specs.Prelude.{◌≡◌, ◌<◌, ◌≤◌, ◌+◌, ◌-◌, false, is_ok, IsTrue, IfOk, IfErr, OnOk, OnErr};
-ghost use Rattle.ss_text.specs.Texts.{text_cmp};
+ghost use Rattle.std.specs.Map.{lookup};
+ghost use Rattle.std.specs.Option.{option_copied};
+ghost use Rattle.ss_text.specs.Texts.{text_cmp, row_eq};
 ghost use Rattle.ss_text.specs.Keys.{IsPlaceOf, IsPlaceFor};
 ghost use Rattle.flow_law.specs.Tables.{table_value, empty_table};
 ghost use Rattle.flow_law.specs.InOrder.{IsTable};
@@ -96,6 +98,13 @@ impl KeptTable {
         ensures { result ≡ has_row key.now self.now.table }
     {
         self.rows.has(key)
+    }
+
+    /// The cells of the row of this key, one for each column in their order, if there is such a row. No rows are walked.
+    pub fn cells_of(&self, key: &Row) -> Option<&[Text]>
+        ensures { option_copied result ≡ lookup (row_eq key.now) self.now.table.rows }
+    {
+        self.rows.cells_of(key)
     }
 
     /// Whether there is a column of this label.
