@@ -1,4 +1,4 @@
-//! Rows on shelves: keys that come in any order, some of which go.
+//! Rows on shelves: keys that come in any order, some of which go, with memory taken for each alone and for many together.
 
 use row_shelves::RowShelves;
 use ss_text::{NoMemory, Row, Text};
@@ -60,7 +60,11 @@ fn wanted(alloc: Global) -> Result<Vec<u8>, NoMemory> {
     Ok(out)
 }
 
-fn put_and_take(alloc: Global, rows: &mut RowShelves) -> Result<(), NoMemory> {
+// Takes the memory for so many rows together. Then all numbers below 300 come, and each third goes.
+fn put_and_take(alloc: Global, rows: &mut RowShelves, together: usize) -> Result<(), NoMemory> {
+    for _ in 0..together {
+        rows.expect_row(alloc)?;
+    }
     for step in 0..300 {
         put(alloc, rows, step * 7 % 300)?;
     }
@@ -70,9 +74,9 @@ fn put_and_take(alloc: Global, rows: &mut RowShelves) -> Result<(), NoMemory> {
     Ok(())
 }
 
-fn kept(alloc: Global) -> Result<Vec<u8>, NoMemory> {
+fn kept(alloc: Global, together: usize) -> Result<Vec<u8>, NoMemory> {
     let mut rows = RowShelves::new(alloc);
-    let done = put_and_take(alloc, &mut rows);
+    let done = put_and_take(alloc, &mut rows, together);
     let out = written(alloc, &rows);
     drop(rows);
     done?;
@@ -81,7 +85,15 @@ fn kept(alloc: Global) -> Result<Vec<u8>, NoMemory> {
 
 #[test]
 fn keys_come_back_in_order(rt: HostRuntime) -> Result<(), Fail> {
-    let kept = kept(rt.alloc())?;
+    let kept = kept(rt.alloc(), 0)?;
+    let wanted = wanted(rt.alloc())?;
+    assert_eq!(rt; kept.as_slice(), wanted.as_slice());
+    Ok(())
+}
+
+#[test]
+fn rows_share_shelves(rt: HostRuntime) -> Result<(), Fail> {
+    let kept = kept(rt.alloc(), 300)?;
     let wanted = wanted(rt.alloc())?;
     assert_eq!(rt; kept.as_slice(), wanted.as_slice());
     Ok(())

@@ -31,6 +31,6 @@ pub record CanMake (c : CatalogueState) (u : Upkeep) (n : NamesState) (p : Propo
   pub move : EngineMove
   pub waits : WaitsIn c p.catalogue
   pub moves : EngineMoves c.databases (after_all c.databases (proposed_in p)) (view_of u) move
-  pub ready_for : IsReadyFor (after_all c.databases (proposed_in p)) (view_of u) move p.upkeep
+  pub ready_for : IsReadyFor move p.upkeep
   pub upkeep : IsReadyUpkeep u p.upkeep
   pub names : n.coming ≡ named_by c.databases (proposed_in p) (lines_in move)

@@ -1,10 +1,9 @@
 //! Changes that are proposed together.
-ghost use Rattle.std.specs.Prelude.{◌≡◌, ◌≤◌, None, IfOk, IfErr, IfSome, OnOk, IsTrue};
+ghost use Rattle.std.specs.Prelude.{◌≡◌, ◌≤◌, None, IfOk, IfErr, OnOk, IsTrue};
 ghost use Rattle.std.specs.List.{AllByRecursion};
 ghost use Rattle.schema_model.specs.Catalogue.{CatalogueValue};
 ghost use Rattle.schema_model.specs.Changes.{after_all, is_well_formed};
 ghost use Rattle.schema_model.specs.Refusals.{group_fault};
-ghost use Rattle.change_draft.specs.Drafts.{StandsOver};
 ghost use Rattle.flow_law.specs.Script.{script};
 ghost use Rattle.valuation_meaning.specs.Meaning.{meaning};
 ghost use Rattle.valuation_meaning.specs.Refusal.{refusal};
@@ -18,7 +17,6 @@ ghost use Rattle.view_session.specs.Verdicts.{verdict_of};
 
 use crate::changed::Changed;
 use crate::group::Group;
-use crate::moving::MANY;
 use crate::proposal::{CatalogueReady, Proposal};
 use crate::upkeep::Upkeep;
 use crate::{GroupStop, HoldRefused};
@@ -51,22 +49,6 @@ fn group_of(alloc: Global, catalogue: &Catalogue, changes: &[Change]) -> Result<
     Ok(group)
 }
 
-// The catalogue after the changes of a group, where so many lines follow them that the tables are made anew.
-fn after_many(
-    catalogue: &Catalogue,
-    group: &Group,
-    lines: usize,
-) -> Result<Option<Catalogue>, NoMemory>
-    requires { StandsOver group.now.draft catalogue.now.databases }
-    ensures { IfOk result (λ o. IfSome o (λ after_them. after_them.databases ≡ after_all catalogue.now.databases group.now.draft.changes)) }
-{
-    if lines < MANY {
-        return Ok(None);
-    }
-    let after = group.after(catalogue)?;
-    Ok(Some(after))
-}
-
 // Takes all memory for the changes of a group that move what is kept so. All stays but what waits, after `NoMemory` too.
 fn reserve(
     alloc: Global,
@@ -86,10 +68,9 @@ fn reserve(
     ensures can { IfOk result (λ told. CanMake catalogue.new upkeep.new changed.new told.0) }
     ensures script { IfOk result (λ told. told.1 ≡ script (meaning catalogue.old.databases (view_of upkeep.old)) (meaning (after_all catalogue.old.databases group.draft.changes) (view_of upkeep.old))) }
 {
-    let after = after_many(catalogue, &group, moved.lines().len())?;
     let (draft, names) = group.into_parts();
     changed.expect_all(alloc, names, moved.lines())?;
-    let (upkeep, lines) = upkeep.reserve(alloc, moved, after)?;
+    let (upkeep, lines) = upkeep.reserve(alloc, moved)?;
     let catalogue = catalogue.reserve_all(draft.changes())?;
     let catalogue = CatalogueReady::All(catalogue);
     Ok((Proposal { catalogue, upkeep }, Script::of(lines)))
