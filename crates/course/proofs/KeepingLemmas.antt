@@ -1,5 +1,5 @@
 -- What a run keeps, line after line.
-use Rattle.std.proofs.Common.{◌≡◌, ◌≢◌, ◌<◌, ◌≤◌, ◌⊎◌, ℕ, true, false, List, [], ◌∷◌, ◌++◌, length, Option, None, Some, inl, inr, refl, sym, ap, ◌∙◌, subst, append_assoc, append-nil, arith}
+use Rattle.std.proofs.Common.{◌≡◌, ◌≢◌, ◌≤◌, ◌⊎◌, ℕ, true, false, List, [], ◌∷◌, ◌++◌, Option, None, Some, inl, inr, refl, sym, ap, ◌∙◌, subst, append_assoc, append-nil, arith}
 use Rattle.std.specs.Prelude.{Result, Ok, Err}
 use Rattle.outside.specs.Counts.{Rose}
 use Rattle.effects.specs.Effects.{Effect, World, Contents, contents, performed}
@@ -7,8 +7,7 @@ use Rattle.effects.specs.declared.stop.Stop.{Stop}
 use Rattle.effects.specs.declared.stop.Stop.TheVariants as stop
 use Rattle.effects.proofs.EffectLemmas.{performed_append}
 use Rattle.tab_lines.specs.Lines.{has_feed, lines_of, whole_lines}
-use Rattle.tab_lines.specs.Taking.{LinesState, ahead, Unfinished, Answers, Reads, IsNextOf}
-use Rattle.tab_lines.specs.declared.lines.Next.{Next}
+use Rattle.tab_lines.specs.Taking.{LinesState, ahead, Unfinished, Answers, Reads}
 use Rattle.tab_lines.specs.declared.lines.Next.TheVariants.{Line, End}
 use Rattle.tab_lines.specs.declared.lines.ReadStop.{ReadStop}
 use Rattle.tab_lines.specs.declared.lines.ReadStop.TheVariants as read
@@ -20,9 +19,9 @@ use Rattle.course.specs.declared.status.Halt.{Halt}
 use Rattle.course.specs.declared.status.Halt.TheVariants as halt
 use Rattle.course.specs.Answering.{Reply, Continues, Finishes, prefixed, next_reply, follow, Answered, halt_of, halt_of_line}
 use Rattle.course.specs.declared.no_disk.NoDisk.{NoDisk}
-use Rattle.course.specs.Keeping.{Entry, Log, no_log, LeavesNow, HasFront, LeavesFrontNow, LeavesFronts, note_of, noted, Keeps, KeptAtEnd, KeptOver, AreFirst, AreTaken, AreAllNoted, DiskCause, BlamesDisk, LineBlamesDisk}
+use Rattle.course.specs.Keeping.{Entry, Log, no_log, LeavesNow, HasFront, LeavesFrontNow, LeavesFronts, note_of, noted, Keeps, KeptAtEnd, KeptOver, AreFirst, AreTaken, DiskCause, BlamesDisk, LineBlamesDisk}
 use Rattle.course.proofs.AnsweringLemmas.{goes, halts, further}
-use Rattle.course.proofs.DrivingLemmas.{Answer, Step, step_of}
+use Rattle.course.proofs.DrivingLemmas.{Answer, step_of}
 
 module _ {A : Type 0} (step : A → List ℕ → Reply A) (note : A → List ℕ → List Entry) where
   pub noted_append : (ls ms : List (List ℕ)) (r : Reply A) → noted step note (ls ++ ms) r ≡ noted step note ls r ++ noted step note ms (follow step ls r)
@@ -105,7 +104,7 @@ whole_behind taken left part line rest lines more whole clear is =
     ∙ ap (λ (t : List (List ℕ)). lines ++ t) (whole_first line (rest ++ more) clear)
     ∙ sym (append_assoc lines (line ∷ []) (whole_lines (rest ++ more)))
 
-told_more : (input rest later : Option (List ℕ)) (lines : List (List ℕ)) (line : List ℕ) (reader new_reader : LinesState) → Told input rest lines reader → Reads (Ok (Line line)) reader new_reader rest later → Answer (Ok (Line line)) reader new_reader rest later
+told_more : {was last : Option (List ℕ)} (input rest later : Option (List ℕ)) (lines : List (List ℕ)) (line : List ℕ) (reader new_reader : LinesState) → Told input rest lines reader → Reads (Ok (Line line)) reader new_reader rest later was last → Answer (Ok (Line line)) reader new_reader rest later
     → Told input later (lines ++ line ∷ []) new_reader
 told_more input rest later lines line reader new_reader t reads answer = record {
   at = λ bytes is.
@@ -128,7 +127,7 @@ told_more input rest later lines line reader new_reader t reads answer = record 
 }
 
 -- the line under way is the next one
-told_first : (input rest later : Option (List ℕ)) (lines : List (List ℕ)) (line : List ℕ) (reader new_reader : LinesState) → Told input rest lines reader → Reads (Ok (Line line)) reader new_reader rest later → Answer (Ok (Line line)) reader new_reader rest later
+told_first : {was last : Option (List ℕ)} (input rest later : Option (List ℕ)) (lines : List (List ℕ)) (line : List ℕ) (reader new_reader : LinesState) → Told input rest lines reader → Reads (Ok (Line line)) reader new_reader rest later was last → Answer (Ok (Line line)) reader new_reader rest later
     → AreFirst input lines (line ∷ [])
 told_first input rest later lines line reader new_reader t reads answer = record {
   told = λ bytes is.
@@ -146,14 +145,14 @@ told_none input rest lines reader t = record {
 }
 
 -- no line is left
-told_all : (input rest later : Option (List ℕ)) (lines : List (List ℕ)) (reader new_reader : LinesState) → Told input rest lines reader → Reads (Ok End) reader new_reader rest later → Answer (Ok End) reader new_reader rest later → (bytes : List ℕ) → input ≡ Some bytes → lines_of bytes ≡ lines
+told_all : {was last : Option (List ℕ)} (input rest later : Option (List ℕ)) (lines : List (List ℕ)) (reader new_reader : LinesState) → Told input rest lines reader → Reads (Ok End) reader new_reader rest later was last → Answer (Ok End) reader new_reader rest later → (bytes : List ℕ) → input ≡ Some bytes → lines_of bytes ≡ lines
 told_all input rest later lines reader new_reader t reads answer bytes is =
     let was = t.at bytes is in
     let made = step_of (Ok End) reader new_reader was.0 rest later reads was.1 in
     was.2.are ∙ ap (λ (x : List (List ℕ)). lines ++ x) (answer was.0 made.0 was.1 made.1.told) ∙ append-nil lines
 
 -- the input gave out
-told_taken : (input rest later : Option (List ℕ)) (lines : List (List ℕ)) (e : ReadStop) (reader new_reader : LinesState) → Told input rest lines reader → (reads : Reads (Err e) reader new_reader rest later)
+told_taken : {was last : Option (List ℕ)} (input rest later : Option (List ℕ)) (lines : List (List ℕ)) (e : ReadStop) (reader new_reader : LinesState) → Told input rest lines reader → (reads : Reads (Err e) reader new_reader rest later was last)
     → ((seen : List ℕ) → Answers (Err e) seen new_reader → Unfinished seen new_reader) → AreTaken input later lines
 told_taken input rest later lines e reader new_reader t reads unfinished = record {
   told = λ bytes is.
@@ -209,8 +208,8 @@ module _ {A D : Type 0} (step : A → List ℕ → Reply A) (note : A → List �
       subst (λ (t : List Entry). LeavesFronts log es t old new) (sym (noted_more step note start state lines line fs goes_so)) (fronts_then log es (noted step note lines (Continues [] start)) (note state line) old now new a b)
 
   -- after a line
-  pub keeping_more : (input rest later : Option (List ℕ)) (old : D) (first : World) (state : A) (line : List ℕ) (reader new_reader : LinesState) (now new : D) (world next : World) (self : A)
-      → Keeping step note log start input old (contents first) state reader rest now (contents world) → Reads (Ok (Line line)) reader new_reader rest later → Answer (Ok (Line line)) reader new_reader rest later → Answered (step state line) world next self (Ok None)
+  pub keeping_more : {was last : Option (List ℕ)} (input rest later : Option (List ℕ)) (old : D) (first : World) (state : A) (line : List ℕ) (reader new_reader : LinesState) (now new : D) (world next : World) (self : A)
+      → Keeping step note log start input old (contents first) state reader rest now (contents world) → Reads (Ok (Line line)) reader new_reader rest later was last → Answer (Ok (Line line)) reader new_reader rest later → Answered (step state line) world next self (Ok None)
       → ((es : List Entry) → LeavesNow log es now → Keeps log es (note state line) now new world next (Ok None))
       → Keeping step note log start input old (contents first) self new_reader later new (contents next)
   keeping_more input rest later old first state line reader new_reader now new world next self k reads answer h keeps =
@@ -240,8 +239,8 @@ module _ {A D : Type 0} (step : A → List ℕ → Reply A) (note : A → List �
   stop_kept es input rest answered under_way effects state new old_world new_world line_stop.DiskFault h = h
 
   -- the answer of a line stopped
-  pub line_stops_kept : (input rest later : Option (List ℕ)) (old : D) (first : World) (state : A) (line : List ℕ) (reader new_reader : LinesState) (now new : D) (world next : World) (self : A) (e : LineStop)
-      → Keeping step note log start input old (contents first) state reader rest now (contents world) → Reads (Ok (Line line)) reader new_reader rest later → Answer (Ok (Line line)) reader new_reader rest later
+  pub line_stops_kept : {was last : Option (List ℕ)} (input rest later : Option (List ℕ)) (old : D) (first : World) (state : A) (line : List ℕ) (reader new_reader : LinesState) (now new : D) (world next : World) (self : A) (e : LineStop)
+      → Keeping step note log start input old (contents first) state reader rest now (contents world) → Reads (Ok (Line line)) reader new_reader rest later was last → Answer (Ok (Line line)) reader new_reader rest later
       → ((es : List Entry) → LeavesNow log es now → Keeps log es (note state line) now new world next (Err e))
       → (es : List Entry) → LeavesNow log es old → KeptOver step note log start es input later old new first next (Err (halt_of_line e))
   line_stops_kept input rest later old first state line reader new_reader now new world next self e k reads answer keeps es leaves =
@@ -264,8 +263,8 @@ module _ {A D : Type 0} (step : A → List ℕ → Reply A) (note : A → List �
       }
 
   -- a line ended the run
-  pub line_ends_kept : (input rest later : Option (List ℕ)) (old : D) (first : World) (state : A) (line : List ℕ) (reader new_reader : LinesState) (now new : D) (world next : World) (self : A) (v : Verdict)
-      → Keeping step note log start input old (contents first) state reader rest now (contents world) → Reads (Ok (Line line)) reader new_reader rest later → Answer (Ok (Line line)) reader new_reader rest later → Answered (step state line) world next self (Ok (Some v))
+  pub line_ends_kept : {was last : Option (List ℕ)} (input rest later : Option (List ℕ)) (old : D) (first : World) (state : A) (line : List ℕ) (reader new_reader : LinesState) (now new : D) (world next : World) (self : A) (v : Verdict)
+      → Keeping step note log start input old (contents first) state reader rest now (contents world) → Reads (Ok (Line line)) reader new_reader rest later was last → Answer (Ok (Line line)) reader new_reader rest later → Answered (step state line) world next self (Ok (Some v))
       → ((es : List Entry) → LeavesNow log es now → Keeps log es (note state line) now new world next (Ok (Some v)))
       → (es : List Entry) → LeavesNow log es old → KeptOver step note log start es input later old new first next (Ok v)
   line_ends_kept input rest later old first state line reader new_reader now new world next self v k reads answer h keeps es leaves =
@@ -299,8 +298,8 @@ module _ {A D : Type 0} (step : A → List ℕ → Reply A) (note : A → List �
   leaves_all es lines now h = λ c since. h c since ∙ ap (λ (ls : List (List ℕ)). Some (es ++ noted step note ls (Continues [] start))) (sym (append-nil lines))
 
   -- all lines were answered
-  pub end_kept : (input rest later : Option (List ℕ)) (old : D) (first : World) (state : A) (reader new_reader : LinesState) (now : D) (world next : World) (v : Verdict)
-      → Keeping step note log start input old (contents first) state reader rest now (contents world) → Reads (Ok End) reader new_reader rest later → Answer (Ok End) reader new_reader rest later
+  pub end_kept : {was last : Option (List ℕ)} (input rest later : Option (List ℕ)) (old : D) (first : World) (state : A) (reader new_reader : LinesState) (now : D) (world next : World) (v : Verdict)
+      → Keeping step note log start input old (contents first) state reader rest now (contents world) → Reads (Ok End) reader new_reader rest later was last → Answer (Ok End) reader new_reader rest later
       → (es : List Entry) → LeavesNow log es old → KeptOver step note log start es input later old now first next (Ok v)
   end_kept input rest later old first state reader new_reader now world next v k reads answer es leaves =
       let so_far = k.kept es leaves in
@@ -336,8 +335,8 @@ module _ {A D : Type 0} (step : A → List ℕ → Reply A) (note : A → List �
       }
 
   -- the reader gave up
-  pub gave_out_kept : (input rest later : Option (List ℕ)) (old : D) (first : World) (state : A) (reader new_reader : LinesState) (now : D) (world : World) (e : ReadStop)
-      → Keeping step note log start input old (contents first) state reader rest now (contents world) → Reads (Err e) reader new_reader rest later
+  pub gave_out_kept : {was last : Option (List ℕ)} (input rest later : Option (List ℕ)) (old : D) (first : World) (state : A) (reader new_reader : LinesState) (now : D) (world : World) (e : ReadStop)
+      → Keeping step note log start input old (contents first) state reader rest now (contents world) → Reads (Err e) reader new_reader rest later was last
       → (es : List Entry) → LeavesNow log es old → KeptOver step note log start es input later old now first world (Err (halt_of e))
   gave_out_kept input rest later old first state reader new_reader now world read.NoMemory k reads es leaves = stops_kept input rest later old first state reader now world world stop.NoMemory k es leaves
   gave_out_kept input rest later old first state reader new_reader now world read.ReadFault k reads es leaves =

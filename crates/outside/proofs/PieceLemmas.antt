@@ -1,9 +1,9 @@
 -- Lists of pieces, and what is left of them.
 use Rattle.outside.specs.Streams.{before}
-use Rattle.std.proofs.Common.{Some, unwrap_or, append-nil, append_assoc, ◌≡◌, ◌<◌, ◌≤◌, ◌+◌, ℕ, suc, min, List, [], ◌∷◌, ◌++◌, length, take, drop, get_or, refl, sym, ap, ◌∙◌, arith, add-one}
+use Rattle.std.proofs.Common.{Some, unwrap_or, append-nil, append_assoc, ◌≡◌, ◌<◌, ◌≤◌, ◌+◌, ◌-◌, ℕ, suc, min, List, [], ◌∷◌, ◌++◌, length, take, drop, get_or, refl, sym, ap, ◌∙◌, arith, add-one}
 use Rattle.std.proofs.Math.Seq.{drop-cons, take-nil}
 use Rattle.std.proofs.lemmas.List.{take-append-drop, drop_all}
-use Rattle.outside.specs.MemStreams.{joined, current_piece, pieces_after, begun}
+use Rattle.outside.specs.MemStreams.{joined, current_piece, pieces_after, begun, between}
 
 pub none_begun : (pieces : List (List ℕ)) → begun 0 pieces ≡ pieces
 none_begun [] = refl
@@ -30,3 +30,10 @@ none_left ((b ∷ bs) ∷ pieces) h = absurd (omega arith)
 -- a read of nothing is the end
 pub read_ends : (pieces : List (List ℕ)) (n m : ℕ) (bytes : List ℕ) → n ≡ min (length (current_piece pieces)) m → Some (joined pieces) ≡ Some bytes → 0 < m → n ≡ 0 → bytes ≡ []
 read_ends pieces n m bytes most is some zero = sym (ap (λ o. unwrap_or o []) is) ∙ none_left pieces (omega arith)
+
+pub none_between : (at : ℕ) (piece into : List ℕ) → between at at piece ≡ take 0 into
+none_between at piece into = let none : at - at ≡ 0 = omega arith in rw none refl
+
+-- what was moved of a piece from a place on
+pub moved_between : (at n : ℕ) (piece into : List ℕ) → take n into ≡ take n (drop at piece) → between at (at + n) piece ≡ take n into
+moved_between at n piece into moved = let all : (at + n) - at ≡ n = omega arith in rw all (sym moved)

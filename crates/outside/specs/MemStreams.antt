@@ -1,10 +1,16 @@
 -- Streams in memory, as contracts see them.
-use Rattle.std.specs.Prelude.{ℕ, List, [], ◌∷◌, ◌++◌, drop}
+use Rattle.std.specs.Prelude.{ℕ, ◌-◌, List, [], ◌∷◌, ◌++◌, take, drop}
 use Rattle.outside.specs.Calls.{Calls}
 
--- the pieces that a source has left, the first of which may be begun, and its calls
+-- the pieces that a source has left, the first of which may be begun, and what its last read gave
+pub record SureSourceState : Type 0 where
+  pub pieces : List (List ℕ)
+  pub last : List ℕ
+
+-- and its calls
 pub record MemSourceState : Type 0 where
   pub pieces : List (List ℕ)
+  pub last : List ℕ
   pub calls : Calls
 
 -- what a sink holds, and how much it takes a call
@@ -39,3 +45,7 @@ pieces_after n ((b ∷ bs) ∷ pieces) = drop n (b ∷ bs) ∷ pieces
 abbrev pub begun : ℕ → List (List ℕ) → List (List ℕ)
 begun n [] = []
 begun n (piece ∷ pieces) = drop n piece ∷ pieces
+
+-- the bytes of a piece from one place up to another
+abbrev pub between : ℕ → ℕ → List ℕ → List ℕ
+between from until piece = take (until - from) (drop from piece)

@@ -1,5 +1,6 @@
 //! A source in memory.
 ghost use Rattle.std.specs.Prelude.{◌≡◌, ℕ, ◌<◌, ◌≤◌, List, [], Some, true, All, length, take, min, ◌↔◌, IsErr, IfOk, OnErr};
+ghost use Rattle.std.specs.Option.{ForSome};
 ghost use Rattle.outside.specs.Counts.{Rose};
 ghost use Rattle.outside.specs.Calls.{faults_of, next_call, next_fails};
 ghost use Rattle.outside.specs.Streams.{before};
@@ -23,14 +24,14 @@ impl Model for MemSource {
 
     ghost Value = { MemSourceState };
 
-    ghost view = { λ s. record { pieces = s.source; calls = s.calls } };
+    ghost view = { λ s. record { pieces = s.source.pieces; last = s.source.last; calls = s.calls } };
 }
 
 impl MemSource {
     /// A source of these pieces, of which the empty ones are passed over.
     pub fn of(pieces: Vec<Text>, fails: Vec<u64>) -> MemSource
         requires { All (λ k. k < 18446744073709551615) fails.items }
-        ensures { result ≡ record { pieces = pieces.items; calls = record { fails = fails.items; calls = 0 } } }
+        ensures { result ≡ record { pieces = pieces.items; last = []; calls = record { fails = fails.items; calls = 0 } } }
     {
         MemSource {
             source: SureSource::of(pieces),
@@ -42,13 +43,17 @@ impl MemSource {
 impl Source for MemSource {
     ghost rest = { λ s. Some (joined s.pieces) };
 
+    ghost last = { λ s. Some s.last };
+
     ghost faults = { λ s. faults_of s.calls };
 
     fn read(&mut self, into: &mut [u8]) -> Result<usize, Failed>
         ensures count { IfOk result (λ n. n ≤ length into.old) }
         ensures moved { IfOk result (λ n. Some (joined self.old.pieces) ≡ before (take n into.new) (Some (joined self.new.pieces))) }
         ensures end { IfOk result (λ n. (bytes : List ℕ) → Some (joined self.old.pieces) ≡ Some bytes → 0 < length into.old → n ≡ 0 → bytes ≡ []) }
+        ensures given { IfOk result (λ n. ForSome (Some self.new.last) (λ bytes. bytes ≡ take n into.new)) }
         ensures err { OnErr result (Some (joined self.new.pieces) ≡ Some (joined self.old.pieces)) }
+        ensures none { OnErr result (Some self.new.last ≡ Some self.old.last) }
         ensures failed { OnErr result (Rose (faults_of self.old.calls) (faults_of self.new.calls)) }
         ensures steady { faults_of self.old.calls ≤ faults_of self.new.calls }
 
@@ -58,7 +63,8 @@ impl Source for MemSource {
         ensures most { IfOk result (λ n. n ≡ min (length (current_piece self.old.pieces)) (length into.old)) }
         ensures bytes { IfOk result (λ n. take n into.new ≡ take n (current_piece self.old.pieces)) }
         ensures left { IfOk result (λ n. self.new.pieces ≡ pieces_after n self.old.pieces) }
-        ensures unread { OnErr result (self.new.pieces ≡ self.old.pieces) }
+        ensures last { IfOk result (λ n. self.new.last ≡ take n into.new) }
+        ensures unread { OnErr result ((self.new.pieces ≡ self.old.pieces) × (self.new.last ≡ self.old.last)) }
     {
         let fails = self.calls.next_fails();
         self.calls.count();

@@ -1,5 +1,6 @@
 //! Streams of bytes: what a run reads and what it writes.
 ghost use Rattle.std.specs.Prelude.{◌≡◌, ℕ, ◌<◌, ◌≤◌, List, [], Option, Some, length, take, IfOk, OnErr, IsErrOf};
+ghost use Rattle.std.specs.Option.{ForSome};
 ghost use Rattle.outside.specs.Counts.{Rose};
 ghost use Rattle.outside.specs.States.{SinkState};
 ghost use Rattle.outside.specs.Streams.{before, with_bytes};
@@ -12,6 +13,9 @@ pub trait Source {
     /// The bytes that are left, where the source tells them.
     ghost rest: { Self → Option (List ℕ) };
 
+    /// The bytes that the last read gave, where the source tells them.
+    ghost last: { Self → Option (List ℕ) };
+
     /// How many calls have failed.
     ghost faults: { Self → ℕ };
 
@@ -22,8 +26,11 @@ pub trait Source {
         ensures moved { IfOk result (λ n. rest self.old ≡ before (take n into.new) (rest self.new)) }
         ensures end { IfOk result (λ n. (bytes : List ℕ) → rest self.old ≡ Some bytes → 0 < length into.old → n ≡ 0 → bytes ≡ []) }
 
+        ensures given { IfOk result (λ n. ForSome (last self.new) (λ bytes. bytes ≡ take n into.new)) }
+
         // A call that fails takes nothing.
         ensures err { OnErr result (rest self.new ≡ rest self.old) }
+        ensures none { OnErr result (last self.new ≡ last self.old) }
         ensures failed { OnErr result (Rose (faults self.old) (faults self.new)) }
         ensures steady { faults self.old ≤ faults self.new };
 }

@@ -22,6 +22,8 @@ impl<R: Read> HostSource<R> {
 impl<R: Read> Source for HostSource<R> {
     ghost rest = { λ _. None };
 
+    ghost last = { λ _. None };
+
     ghost faults = { λ s. s.faults };
 
     fn read(&mut self, into: &mut [u8]) -> Result<usize, Failed> {

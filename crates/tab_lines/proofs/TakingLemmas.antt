@@ -1,10 +1,9 @@
 -- What a reader of lines took so far in a call, and what it answers.
-use Rattle.std.proofs.Common.{◌≡◌, inl, inr, ℕ, ◌+◌, ◌==◌, Bool, true, false, ◌||◌, cond, List, [], ◌∷◌, ◌++◌, length, Option, None, Some, Result, Ok, Err, refl, sym, ap, ◌∙◌, subst, append_assoc, append-nil, arith, length-append}
+use Rattle.std.proofs.Common.{◌≡◌, inl, inr, ℕ, ◌+◌, ◌==◌, Bool, true, false, ◌||◌, cond, List, [], ◌∷◌, ◌++◌, length, Option, None, Some, Result, Ok, Err, refl, sym, ap, ◌∙◌, subst, append_assoc, arith, length-append}
 use Rattle.std.proofs.lemmas.Bool.{or_parts}
-use Rattle.std.proofs.lemmas.Option.{same_Some}
 use Rattle.outside.specs.Streams.{before}
 use Rattle.tab_lines.specs.Lines.{has_feed, lines_of}
-use Rattle.tab_lines.specs.Taking.{LinesState, most_taken, is_ready, ahead, Answers, TakesPiece, IsTakenLine, Reads, IsNextOf}
+use Rattle.tab_lines.specs.Taking.{LinesState, most_taken, is_ready, ahead, Answers, TakesPiece, IsTakenLine, IsNextOf}
 use Rattle.tab_lines.specs.declared.lines.Next.{Next}
 use Rattle.tab_lines.specs.declared.lines.Next.TheVariants.{Line, End}
 use Rattle.tab_lines.specs.declared.lines.ReadStop.{ReadStop}
@@ -12,12 +11,12 @@ use Rattle.tab_lines.specs.declared.lines.ReadStop.TheVariants.{ReadFault, TooLo
 use Rattle.tab_lines.proofs.LineLemmas.{lines_first, lines_last, some_line}
 
 -- what a call took so far
-pub record Going (start now : LinesState) (rest later : Option (List ℕ)) : Type 0 where
+pub record Going (start now : LinesState) (rest later was last : Option (List ℕ)) : Type 0 where
   pub part : List ℕ
   pub moved : rest ≡ before part later
   pub counted : now.taken ≡ start.taken + length part
   pub left : now.left ≡ start.left ++ part
-  pub soon : IsTakenLine start.left part
+  pub soon : IsTakenLine start.left part was last
   pub ended : start.ended ≡ true → now.ended ≡ true
   pub end : start.ended ≡ false → now.ended ≡ true → (bytes : List ℕ) → later ≡ Some bytes → bytes ≡ []
   pub same : (bytes more : List ℕ) → rest ≡ Some bytes → later ≡ Some more → ahead start bytes ≡ ahead now more
@@ -50,13 +49,13 @@ piece_ahead now new piece more no_end left end = rw (no_end, left) (cases new.en
     cases true end = let e = both_none piece more (end refl) in rw (e.0, e.1) refl
     cases false end = sym (append_assoc now.left piece more)
 
-pub going_more : (start now new : LinesState) (rest mid later : Option (List ℕ)) → Going start now rest mid → is_ready now ≡ false → TakesPiece now new mid later → Going start new rest later
-going_more start now new rest mid later g ready p = record {
+pub going_more : (start now new : LinesState) (rest mid later was by_now last : Option (List ℕ)) → Going start now rest mid was by_now → is_ready now ≡ false → TakesPiece now new mid later last → Going start new rest later was last
+going_more start now new rest mid later was by_now last g ready p = record {
   part = g.part ++ p.piece;
   moved = g.moved ∙ (ap (before g.part) p.moved ∙ before_both g.part p.piece later);
   counted = omega (arith, g.counted, p.counted, length-append g.part p.piece);
   left = p.left ∙ (ap (λ (l : List ℕ). l ++ p.piece) g.left ∙ append_assoc start.left g.part p.piece);
-  soon = inr (g.part, p.piece, refl, subst (λ (l : List ℕ). has_feed l ≡ false) g.left (needs now ready).no_line, p.few);
+  soon = inr (record { earlier = g.part; piece = p.piece; are = refl; no_line = subst (λ (l : List ℕ). has_feed l ≡ false) g.left (needs now ready).no_line; few = p.few; given = p.given });
   ended = λ h. let was : now.ended ≡ true = g.ended h in let needed = (needs now ready).no_end in absurd (cc);
   end = λ going ended bytes is. (both_none p.piece bytes (p.end ended (p.piece ++ bytes) (p.moved ∙ ap (before p.piece) is))).1;
   same = λ bytes more is is_later.
@@ -89,15 +88,15 @@ answer_next (Ok (Line line)) now new more h ended =
 answer_next (Ok End) now new more h ended = ap lines_of (ended_ahead now more (sym ended ∙ h.2) ∙ h.0)
 answer_next (Err ReadFault) now new more h ended = ap lines_of (same_ahead now new more ended h.0.left)
 answer_next (Err TooLong) now new more h ended = ap lines_of (same_ahead now new more ended h.0.left)
-answer_next (Err NoMemory) now new more h ended = ap lines_of (same_ahead now new more ended h)
+answer_next (Err NoMemory) now new more h ended = ap lines_of (same_ahead now new more ended h.0)
 
-pub going_next : (r : Result Next ReadStop) (start now new : LinesState) (rest later : Option (List ℕ)) → Going start now rest later → Answers r now.left new → new.ended ≡ now.ended → (bytes more : List ℕ) → rest ≡ Some bytes → later ≡ Some more → IsNextOf (lines_of (ahead start bytes)) (lines_of (ahead new more)) r
-going_next r start now new rest later g h ended bytes more is is_later =
+pub going_next : (r : Result Next ReadStop) (start now new : LinesState) (rest later was last : Option (List ℕ)) → Going start now rest later was last → Answers r now.left new → new.ended ≡ now.ended → (bytes more : List ℕ) → rest ≡ Some bytes → later ≡ Some more → IsNextOf (lines_of (ahead start bytes)) (lines_of (ahead new more)) r
+going_next r start now new rest later was last g h ended bytes more is is_later =
     subst (λ (a : List ℕ). IsNextOf (lines_of a) (lines_of (ahead new more)) r) (sym (g.same bytes more is is_later)) (answer_next r now new more h ended)
 
 -- a reader that needs a read stands as a call goes on, and read already where the call had an answer at once
-pub going_on : (start now same new : LinesState) (rest mid later : Option (List ℕ)) → Going start now rest mid → (is_ready now ≡ false) × (same ≡ now) → TakesPiece same new mid later → Going start new rest later
-going_on start now same new rest mid later g needed p = going_more start now new rest mid later g needed.0 (subst (λ (s : LinesState). TakesPiece s new mid later) needed.1 p)
+pub going_on : (start now same new : LinesState) (rest mid later was by_now last : Option (List ℕ)) → Going start now rest mid was by_now → (is_ready now ≡ false) × (same ≡ now) → TakesPiece same new mid later last → Going start new rest later was last
+going_on start now same new rest mid later was by_now last g needed p = going_more start now new rest mid later was by_now last g needed.0 (subst (λ (s : LinesState). TakesPiece s new mid later last) needed.1 p)
 
 pub not_idle : {A : Type 0} (start now : LinesState) → is_ready now ≡ false → now ≡ start → is_ready start ≡ true → A
 not_idle start now needed same ready = let e : is_ready start ≡ false = subst (λ (s : LinesState). is_ready s ≡ false) same needed in absurd (cc)

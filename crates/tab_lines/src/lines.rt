@@ -1,7 +1,6 @@
 //! Reads the lines of an input.
 ghost use Rattle.std.specs.Prelude.{◌≡◌, ◌≢◌, ℕ, ◌+◌, ◌<◌, ◌≤◌, true, false, List, [], ◌∷◌, ◌++◌, Some, length, take, drop, MatchOption, IfOk, IfErr, OnOk, OnErr, IsErrOf, Ok};
 ghost use Rattle.outside.specs.Counts.{Rose};
-ghost use Rattle.outside.specs.Streams.{before};
 ghost use Rattle.tab_lines.specs.Lines.{has_feed, lines_of};
 ghost use Rattle.tab_lines.specs.declared.lines.ReadStop.TheVariants.{NoMemory as LacksMemory};
 
@@ -100,7 +99,7 @@ impl Lines {
     /// After each error the bytes taken stay. `TooLong` comes where 2^32 bytes were taken that leave no
     /// whole line, and then at each call.
     pub fn next<S: Source>(&mut self, source: &mut S) -> Result<Next, ReadStop>
-        ensures reads { Reads result self.old self.new (S.rest source.old) (S.rest source.new) }
+        ensures reads { Reads result self.old self.new (S.rest source.old) (S.rest source.new) (S.last source.old) (S.last source.new) }
         ensures next { (bytes later : List ℕ) → S.rest source.old ≡ Some bytes → S.rest source.new ≡ Some later → IsNextOf (lines_of (ahead self.old bytes)) (lines_of (ahead self.new later)) result }
         ensures idle { is_ready self.old ≡ true → source.new ≡ source.old }
         ensures most { IsWithinLimit self.new }
@@ -136,13 +135,13 @@ impl Lines {
         Ok(None)
     }
 
-    // The line before the first LF.
+    // The line before the first LF. Memory lacks only where there is one.
     fn whole_line(&mut self) -> Result<Option<Text>, NoMemory>
         ensures found { IfOk result (λ found. MatchOption found ((has_feed self.old.left ≡ false) × (self.new ≡ self.old)) (λ line. (has_feed line ≡ false) × (self.old.left ≡ line ++ 10 ∷ self.new.left))) }
         ensures count { self.new.taken ≡ self.old.taken }
         ensures ended { self.new.ended ≡ self.old.ended }
         ensures most { IsWithinLimit self.new }
-        ensures err { OnErr result (self.new ≡ self.old) }
+        ensures err { OnErr result ((self.new ≡ self.old) × (has_feed self.old.left ≡ true)) }
     {
         let Some((front, _)) = split_once(self.window.bytes(), b'\n') else {
             return Ok(None);
@@ -178,8 +177,8 @@ impl Lines {
     // Reads a piece.
     fn take<S: Source>(&mut self, source: &mut S) -> Result<(), ReadStop>
         requires { is_ready self.old ≡ false }
-        ensures took { OnOk result (TakesPiece self.old self.new (S.rest source.old) (S.rest source.new)) }
-        ensures stays { OnErr result ((self.new ≡ self.old) × (S.rest source.new ≡ S.rest source.old)) }
+        ensures took { OnOk result (TakesPiece self.old self.new (S.rest source.old) (S.rest source.new) (S.last source.new)) }
+        ensures stays { OnErr result ((self.new ≡ self.old) × (S.rest source.new ≡ S.rest source.old) × (S.last source.new ≡ S.last source.old)) }
         ensures most { IsWithinLimit self.new }
         ensures no_long { ¬ (IsErrOf result ReadStop.TooLong) }
         ensures failed { IsErrOf result ReadStop.ReadFault → Rose (S.faults source.old) (S.faults source.new) }

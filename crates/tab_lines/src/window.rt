@@ -1,7 +1,7 @@
 //! What is left of the piece that was read last.
 ghost use Rattle.std.specs.Prelude.{◌≡◌, ℕ, ◌<◌, ◌≤◌, List, [], Some, length, take, drop, IfOk, OnErr};
 ghost use Rattle.outside.specs.Counts.{Rose};
-ghost use Rattle.outside.specs.Streams.{before};
+ghost use Rattle.outside.specs.Streams.{before, CameLast};
 
 use outside::{Failed, Source};
 use ss_text::NoMemory;
@@ -63,7 +63,7 @@ impl Window {
 
     /// Reads a piece of at most so many bytes, in place of what was left, and answers how many there are.
     /// Where the source fails, nothing is left.
-    #[tactic(auto, using(crate::proofs::WindowLemmas::moved_front))]
+    #[tactic(auto, using(crate::proofs::WindowLemmas::moved_front, crate::proofs::WindowLemmas::came_to_front))]
     pub fn fill<S: Source>(&mut self, source: &mut S, most: usize) -> Result<usize, Failed>
         requires some { 0 < most }
         requires few { most ≤ 65536 }
@@ -71,8 +71,9 @@ impl Window {
         ensures most { length self.new ≤ most }
         ensures moved { S.rest source.old ≡ before self.new (S.rest source.new) }
         ensures end { IfOk result (λ n. n ≡ 0 → (bytes : List ℕ) → S.rest source.old ≡ Some bytes → bytes ≡ []) }
+        ensures given { IfOk result (λ _. CameLast (S.last source.new) self.new) }
         ensures failed { OnErr result (Rose (S.faults source.old) (S.faults source.new)) }
-        ensures none { OnErr result (self.new ≡ []) }
+        ensures none { OnErr result ((self.new ≡ []) × (S.last source.new ≡ S.last source.old)) }
         ensures steady { S.faults source.old ≤ S.faults source.new }
     {
         self.from = 0;
@@ -84,14 +85,15 @@ impl Window {
 }
 
 // Reads at most so many bytes to the front of a piece.
-#[tactic(auto, using(crate::proofs::WindowLemmas::moved_front))]
+#[tactic(auto, using(crate::proofs::WindowLemmas::moved_front, crate::proofs::WindowLemmas::came_to_front))]
 fn read_front<S: Source>(source: &mut S, piece: &mut [u8], most: usize) -> Result<usize, Failed>
     requires some { 0 < most }
     requires few { most ≤ length piece.old }
     ensures count { IfOk result (λ n. n ≤ most) }
     ensures moved { IfOk result (λ n. S.rest source.old ≡ before (take n piece.new) (S.rest source.new)) }
     ensures end { IfOk result (λ n. n ≡ 0 → (bytes : List ℕ) → S.rest source.old ≡ Some bytes → bytes ≡ []) }
-    ensures err { OnErr result (S.rest source.new ≡ S.rest source.old) }
+    ensures given { IfOk result (λ n. CameLast (S.last source.new) (take n piece.new)) }
+    ensures err { OnErr result ((S.rest source.new ≡ S.rest source.old) × (S.last source.new ≡ S.last source.old)) }
     ensures failed { OnErr result (Rose (S.faults source.old) (S.faults source.new)) }
     ensures steady { S.faults source.old ≤ S.faults source.new }
 {

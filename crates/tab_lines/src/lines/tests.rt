@@ -13,6 +13,8 @@ impl Source for Feeds {
 
     ghost rest = { λ _. None };
 
+    ghost last = { λ _. None };
+
     ghost faults = { λ _. 0 };
 
     fn read(&mut self, into: &mut [u8]) -> Result<usize, Failed> {

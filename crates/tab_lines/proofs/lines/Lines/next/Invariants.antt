@@ -7,7 +7,7 @@ abbrev pub invariant-loop-next : goal.invariant-loop-next
 invariant-loop-next g l =
     let rest = g.S.Source.rest in
     record {
-      going : Going l.fn.self l.self (rest l.fn.source) (rest l.source);
+      going : Going l.fn.self l.self (rest l.fn.source) (rest l.source) (g.S.Source.last l.fn.source) (g.S.Source.last l.source);
       idle : is_ready l.fn.self ≡ true → (l.source ≡ l.fn.source) × (l.self ≡ l.fn.self);
       steady : g.S.Source.faults l.fn.source ≤ g.S.Source.faults l.source;
     }
