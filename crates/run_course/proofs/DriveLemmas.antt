@@ -1,5 +1,5 @@
 -- Lines that are answered behind an opening, whatever the machine.
-use Rattle.std.proofs.Common.{◌≡◌, ℕ, List, ◌++◌, Option, refl, sym, ap, ◌∙◌, subst, append_assoc, inr, Some, arith, inl}
+use Rattle.std.proofs.Common.{◌≡◌, ◌⊎◌, ℕ, Bool, List, [], ◌++◌, Option, refl, sym, ap, ◌∙◌, subst, append_assoc, inr, Some, arith, inl}
 use Rattle.std.specs.Prelude.{Result, Ok, Err}
 use Rattle.effects.specs.Effects.{Effect, World, Contents, contents, performed, Partly}
 use Rattle.effects.proofs.EffectLemmas.{performed_append, partly_later}
@@ -7,12 +7,13 @@ use Rattle.tab_lines.specs.Lines.{lines_of}
 use Rattle.course.specs.declared.status.Verdict.{Verdict}
 use Rattle.course.specs.declared.status.Halt.{Halt}
 use Rattle.course.specs.declared.status.Halt.TheVariants as halt
-use Rattle.course.specs.Answering.{Reply, Continues, Ending, course, Ran, CutOff, EndedOver, BlamesRun}
+use Rattle.effects.specs.declared.stop.Stop.{Stop}
+use Rattle.course.specs.Answering.{Reply, Continues, Finishes, Ending, follow, course, Ran, CutOff, EndedOver, BlamesRun, IsReadWhole, IsReadOut, is_too_long}
 use Rattle.course.specs.Answering as lines
 use Rattle.effects.specs.Blame.{Blames}
 use Rattle.effects.specs.declared.stop.Stop.TheVariants as stop
 use Rattle.course.proofs.AnsweringLemmas.{steady_more}
-use Rattle.run_course.specs.Course.{GaveOut, HeldUp, RanBy, Took, by_lines, first, Course}
+use Rattle.run_course.specs.Course.{GaveOut, HeldUp, RanBy, Took, EndedByLine, TookEnough, by_lines, first, Course}
 
 -- an ending behind an opening
 pub ended_later : (es : List Effect) (e : Ending) (old mid new : World) (r : Result Verdict Halt) → contents mid ≡ performed es (contents old) → EndedOver e mid new r → EndedOver (first es e) old new r
@@ -54,8 +55,8 @@ module _ {A : Type 0} (step : A → List ℕ → Reply A) (finish : A → Ending
   went_on es o bytes rest old mid new (Err (halt.Stopped e)) h ran = partly_later es (course step finish o (lines_of bytes)).effects (contents old) (contents mid) (contents new) h ran
 
   -- what was taken of the input
-  pub took_behind : (es : List Effect) (o : A) (bytes : List ℕ) (rest : Option (List ℕ)) (old mid new : World) → contents mid ≡ performed es (contents old) → lines.TookLittle step finish o bytes rest mid new → Took (by_lines step finish (Continues es o)) bytes rest old new
-  took_behind es o bytes rest old mid new h took = inr (record {
+  pub took_behind : (es : List Effect) (o : A) (bytes : List ℕ) (rest last : Option (List ℕ)) (old mid new : World) (long : Bool) → contents mid ≡ performed es (contents old) → lines.TookLittle step finish o bytes rest last mid new long → Took (by_lines step finish (Continues es o)) bytes rest last old new long
+  took_behind es o bytes rest last old mid new long h took = inr (record {
     answered = took.answered;
     line = took.line;
     piece = took.piece;
@@ -63,7 +64,9 @@ module _ {A : Type 0} (step : A → List ℕ → Reply A) (finish : A → Ending
     split = took.split;
     remains = took.remains;
     one_line = took.one_line;
+    few = took.few;
     one_read = took.one_read;
+    due = took.due;
     effects = es ++ took.effects;
     later = took.later;
     meant = rw took.goes refl;
@@ -71,9 +74,19 @@ module _ {A : Type 0} (step : A → List ℕ → Reply A) (finish : A → Ending
     did = subst (λ (c : Contents). Partly took.later c (contents new)) (ap (performed took.effects) h ∙ sym (performed_append es took.effects (contents old))) took.did;
   })
 
--- what was taken of the input
-pub took_nothing : (c : Course) (bytes : List ℕ) (rest : Option (List ℕ)) (old new : World) → rest ≡ Some bytes → Took c bytes rest old new
-took_nothing c bytes rest old new told = inl told
+  -- where a line ended the run
+  pub enough_behind : (es : List Effect) (o : A) (bytes : List ℕ) (rest last : Option (List ℕ)) → IsReadOut step o bytes rest last → TookEnough (by_lines step finish (Continues es o)) bytes rest last
+  enough_behind es o bytes rest last h reads = by_reply (follow step (lines_of bytes) (Continues [] o)) refl
+    where
+      by_reply : (r : Reply A) → follow step (lines_of bytes) (Continues [] o) ≡ r → IsReadWhole bytes rest ⊎ EndedByLine (by_lines step finish (Continues es o)) bytes rest last
+      by_reply (Continues fs a) is = inl (h.read fs a is)
+      by_reply (Finishes fs v) is =
+          let line = h.ended fs v is in
+          inr (record { answered = line.answered; piece = line.piece; left = line.left; split = line.split; remains = line.remains; within = line.within; whole = line.whole; few = line.few; one_read = line.one_read; ends = rw line.ends refl })
+
+-- nothing was taken of the input
+pub took_nothing : (c : Course) (bytes : List ℕ) (rest last : Option (List ℕ)) (old new : World) (e : Stop) → rest ≡ Some bytes → Took c bytes rest last old new (is_too_long (halt.Stopped e))
+took_nothing c bytes rest last old new e told = inl (told, refl)
 
 -- a count that rose, behind an opening
 pub blamed_later : {A : Type 0} (i j : ℕ) (old mid new : World) (a : A) (r : Result Verdict Halt) → Blames old mid (Ok a) → BlamesRun i j mid new r → BlamesRun i j old new r

@@ -1,7 +1,7 @@
 -- From what an opening did to what a run did.
-use Rattle.std.proofs.Common.{◌≡◌, ◌≢◌, ℕ, ◌+◌, ◌<◌, length-append, true, false, length, List, [], Option, refl, sym, ap, ◌∙◌, arith, inl, inr}
-use Rattle.std.specs.Prelude.{Result, Ok, Err, OnErr}
-use Rattle.course.specs.Answering.{Ending, Ended, BlamesRun}
+use Rattle.std.proofs.Common.{◌≡◌, ◌≢◌, ℕ, ◌+◌, ◌<◌, length-append, true, false, length, List, [], Option, refl, sym, ap, ◌∙◌, subst, arith, inl, inr}
+use Rattle.std.specs.Prelude.{Bool, Result, Ok, Err, IfOk, IfErr}
+use Rattle.course.specs.Answering.{Ending, Ended, EndedOver, BlamesRun, is_too_long}
 use Rattle.effects.specs.Effects.{World}
 use Rattle.effects.specs.declared.stop.Stop.{Stop}
 use Rattle.effects.specs.declared.stop.Stop.TheVariants as stop
@@ -16,7 +16,7 @@ use Rattle.run_course.specs.Statuses.{can_check, can_show, can_load, can_refuse}
 use Rattle.run_course.specs.Idle.{IdleRun, IdleStop}
 use Rattle.run_course.specs.declared.status.Status.{Status}
 use Rattle.run_course.specs.declared.status.Status.TheVariants as status
-use Rattle.run_course.specs.Course.{Course, unread, verdict_status, status_of, Did, Cause, RanBy, RanSome, NoFault, Finished, is_fault_status, is_refused_status, is_done_status}
+use Rattle.run_course.specs.Course.{Course, unread, verdict_status, status_of, Did, DidOver, DidSome, Cause, RanBy, RanSome, NoFault, Finished, is_fault_status, is_long_status, is_refused_status, is_done_status}
 use Rattle.run_course.proofs.IdleLemmas.{idle_contents}
 
 -- a command without an input that ended, and one that stopped
@@ -69,6 +69,25 @@ by_status c bytes rest old new i j (Err (halt.Stopped stop.ReadFault)) h b idle 
 by_status c bytes rest old new i j (Err (halt.Stopped stop.WriteFault)) h b idle = h
 by_status c bytes rest old new i j (Err (halt.Stopped stop.NoMemory)) h b idle = h
 
+-- what was done, whatever the input tells
+pub some_by_status : (c : Course) (old new : World) (r : Result Verdict Halt) → RanSome c old new r → DidSome c old new (status_of r)
+some_by_status c old new r h = record { lines = h.lines; did = over (c.whole h.lines) r h.ran }
+  where
+    over : (e : Ending) (r : Result Verdict Halt) → EndedOver e old new r → DidOver e old new (status_of r)
+    over e (Ok verdict.Done) h = record { status = ap verdict_status h.1; done = h.0 }
+    over e (Ok verdict.SomeRefused) h = record { status = ap verdict_status h.1; done = h.0 }
+    over e (Ok verdict.Usage) h = record { status = ap verdict_status h.1; done = h.0 }
+    over e (Ok verdict.BadDefinition) h = record { status = ap verdict_status h.1; done = h.0 }
+    over e (Ok verdict.BadCatalogue) h = record { status = ap verdict_status h.1; done = h.0 }
+    over e (Ok verdict.NoView) h = record { status = ap verdict_status h.1; done = h.0 }
+    over e (Ok verdict.JournalFull) h = record { status = ap verdict_status h.1; done = h.0 }
+    over e (Err halt.InputFault) h = h
+    over e (Err halt.TooLong) h = h
+    over e (Err halt.DiskFault) h = h
+    over e (Err (halt.Stopped stop.ReadFault)) h = h
+    over e (Err (halt.Stopped stop.WriteFault)) h = h
+    over e (Err (halt.Stopped stop.NoMemory)) h = h
+
 pub by_cause : (i j : ℕ) (old new : World) (r : Result Verdict Halt) → BlamesRun i j old new r → r ≢ Err halt.DiskFault → Cause (status_of r) i j old new
 by_cause i j old new (Ok verdict.Done) b never = tt
 by_cause i j old new (Ok verdict.SomeRefused) b never = tt
@@ -105,7 +124,7 @@ by_no_fault c bytes rest old new i j status.TooLong h cause none few some =
 pub finishes : (c : Course) (bytes : List ℕ) (rest : Option (List ℕ)) (old new : World) (i j : ℕ) (r : Result Verdict Halt) → RanBy c bytes rest old new r → BlamesRun i j old new r → IdleRun r old new → r ≢ Err halt.DiskFault → NoFault i j old new → length bytes < most_taken → status_of r ≢ status.NoMemory → Finished (c.whole (lines_of bytes)) old new (status_of r)
 finishes c bytes rest old new i j r h b idle never none few some = by_no_fault c bytes rest old new i j (status_of r) (by_status c bytes rest old new i j r h b idle) (by_cause i j old new r b never) none few some
 
--- a run that gave up
+-- a run that came to its end
 no_fault_number : (v : Verdict) → is_fault_status (verdict_status v) ≡ false
 no_fault_number verdict.Done = refl
 no_fault_number verdict.SomeRefused = refl
@@ -115,8 +134,21 @@ no_fault_number verdict.BadCatalogue = refl
 no_fault_number verdict.NoView = refl
 no_fault_number verdict.JournalFull = refl
 
-pub by_fault : (r : Result Verdict Halt) (P : Type 0) → OnErr r P → is_fault_status (status_of r) ≡ true → P
-by_fault (Err h) P given e = given
+fault_number : (h : Halt) → (let r : Result Verdict Halt = Err h in (is_fault_status (status_of r) ≡ true) × (is_long_status (status_of r) ≡ is_too_long h))
+fault_number halt.InputFault = (refl, refl)
+fault_number halt.TooLong = (refl, refl)
+fault_number halt.DiskFault = (refl, refl)
+fault_number (halt.Stopped stop.ReadFault) = (refl, refl)
+fault_number (halt.Stopped stop.WriteFault) = (refl, refl)
+fault_number (halt.Stopped stop.NoMemory) = (refl, refl)
+
+pub by_end : (r : Result Verdict Halt) (P : Type 0) → IfOk r (λ v. P) → is_fault_status (status_of r) ≡ false → P
+by_end (Ok v) P given e = given
+by_end (Err h) P given e = absurd (false≢true (sym e ∙ (fault_number h).0))
+
+-- a run that gave up
+pub by_fault : (r : Result Verdict Halt) (P : Bool → Type 0) → IfErr r (λ h. P (is_too_long h)) → is_fault_status (status_of r) ≡ true → P (is_long_status (status_of r))
+by_fault (Err h) P given e = subst P (sym (fault_number h).1) given
 by_fault (Ok v) P given e = absurd (false≢true (sym (no_fault_number v) ∙ e))
 
 -- a run that was refused came to its end

@@ -1,6 +1,7 @@
 -- What a whole run does, by what it is asked and by what the outside tells.
-use Rattle.std.specs.Prelude.{◌≡◌, ℕ, ◌<◌, ◌≤◌, Bool, true, false, List, [], ◌∷◌, ◌++◌, length, ◌⊎◌, Option, None, Some, Result, Ok, Err}
+use Rattle.std.specs.Prelude.{◌≡◌, ℕ, ◌≤◌, Bool, true, false, List, [], ◌∷◌, ◌++◌, length, ◌⊎◌, Option, None, Some, Result, Ok, Err}
 use Rattle.outside.specs.Counts.{Rose}
+use Rattle.outside.specs.Streams.{CameLast}
 use Rattle.effects.specs.Effects.{Effect, World, contents, performed, Partly}
 use Rattle.effects.specs.declared.stop.Stop.TheVariants as stop
 use Rattle.course.specs.declared.status.Verdict.{Verdict}
@@ -9,18 +10,20 @@ use Rattle.course.specs.declared.status.Halt.{Halt}
 use Rattle.course.specs.declared.status.Halt.TheVariants as halt
 use Rattle.tab_lines.specs.Lines.{has_feed, lines_of, whole_lines}
 use Rattle.tab_lines.specs.Taking.{most_taken}
-use Rattle.course.specs.Answering.{Reply, Continues, Finishes, Ending, Ended, EndedOver, follow, course}
+pub use Rattle.course.specs.Answering.{IsReadWhole}
+use Rattle.course.specs.Answering.{Reply, Continues, Finishes, Ending, Ended, EndedOver, IsDue, EndsWhole, follow, course}
 use Rattle.run_course.specs.declared.status.Status.{Status}
 use Rattle.run_course.specs.declared.status.Status.TheVariants as status
 
--- what is done over an input of these lines, and what is done until these are answered, where a run goes on behind them
+-- whether an input is read at all; what is done over an input of these lines; and what is done until these are answered, where a run goes on behind them
 pub record Course : Type 0 where
+  pub reads : Bool
   pub whole : List (List ℕ) → Ending
   pub so_far : List (List ℕ) → Option (List Effect)
 
 -- no input is read
 abbrev pub unread : Ending → Course
-unread e = record { whole = λ _. e; so_far = λ _. None }
+unread e = record { reads = false; whole = λ _. e; so_far = λ _. None }
 
 -- these effects, and then an ending
 abbrev pub first : List Effect → Ending → Ending
@@ -34,6 +37,7 @@ goes_so_far es (Finishes fs s) = None
 abbrev pub by_lines : {A : Type 0} → (A → List ℕ → Reply A) → (A → Ending) → Reply A → Course
 by_lines step finish (Finishes es s) = unread (record { effects = es; status = s })
 by_lines step finish (Continues es a) = record {
+  reads = true;
   whole = λ lines. first es (course step finish a lines);
   so_far = λ lines. goes_so_far es (follow step lines (Continues [] a));
 }
@@ -98,8 +102,8 @@ Did c bytes rest old new status.TooLong = (g : GaveOut c bytes rest old new) × 
 Did c bytes rest old new status.DiskFault = HeldUp c bytes old new
 Did c bytes rest old new s = Finished (c.whole (lines_of bytes)) old new s
 
--- the lines of the first bytes were answered, and behind them no more was taken than a line and what one read gives
-pub record TookLittle (c : Course) (bytes : List ℕ) (rest : Option (List ℕ)) (old new : World) : Type 0 where
+-- the lines of the first bytes were answered, and behind them no more was taken than a line and what the last read gave. rest, last: what the input has left, and what its last read gave; long: whether the run gave up since the input is too long
+pub record TookLittle (c : Course) (bytes : List ℕ) (rest last : Option (List ℕ)) (old new : World) (long : Bool) : Type 0 where
   pub answered : List ℕ
   pub line : List ℕ
   pub piece : List ℕ
@@ -107,7 +111,9 @@ pub record TookLittle (c : Course) (bytes : List ℕ) (rest : Option (List ℕ))
   pub split : bytes ≡ answered ++ line ++ piece ++ left
   pub remains : rest ≡ Some left
   pub one_line : has_feed line ≡ false
-  pub one_read : length piece ≤ 65536
+  pub few : length piece ≤ 65536
+  pub one_read : CameLast last piece
+  pub due : IsDue long (answered ++ line ++ piece) (line ++ piece)
   pub effects : List Effect
   pub later : List Effect
   pub meant : c.so_far (lines_of answered) ≡ Some effects
@@ -115,8 +121,25 @@ pub record TookLittle (c : Course) (bytes : List ℕ) (rest : Option (List ℕ))
   pub did : Partly later (performed effects (contents old)) (contents new)
 
 -- what a run that gave up took of its input: nothing, or little
-abbrev pub Took : Course → List ℕ → Option (List ℕ) → World → World → Type 0
-Took c bytes rest old new = (rest ≡ Some bytes) ⊎ TookLittle c bytes rest old new
+abbrev pub Took : Course → List ℕ → Option (List ℕ) → Option (List ℕ) → World → World → Bool → Type 0
+Took c bytes rest last old new long = ((rest ≡ Some bytes) × (long ≡ false)) ⊎ TookLittle c bytes rest last old new long
+
+-- a line ended the run: it is whole in the first 2^32 bytes, and behind it no more was taken than what the last read gave
+pub record EndedByLine (c : Course) (bytes : List ℕ) (rest last : Option (List ℕ)) : Type 0 where
+  pub answered : List ℕ
+  pub piece : List ℕ
+  pub left : List ℕ
+  pub split : bytes ≡ answered ++ piece ++ left
+  pub remains : rest ≡ Some left
+  pub within : length (answered ++ piece) ≤ most_taken
+  pub whole : EndsWhole answered bytes rest
+  pub few : length piece ≤ 65536
+  pub one_read : CameLast last piece
+  pub ends : c.so_far (lines_of answered) ≡ None
+
+-- what a run that ended took of its input, where it reads one: all of it, or no more than the line needs that ended it
+abbrev pub TookEnough : Course → List ℕ → Option (List ℕ) → Option (List ℕ) → Type 0
+TookEnough c bytes rest last = c.reads ≡ true → IsReadWhole bytes rest ⊎ EndedByLine c bytes rest last
 
 -- a fault comes only where a count of faults rose: i and j are those of the input; and no command that uses no disk is held up by one
 abbrev pub Cause : Status → ℕ → ℕ → World → World → Type 0
@@ -145,12 +168,7 @@ pub record RanSome (c : Course) (old new : World) (r : Result Verdict Halt) : Ty
   pub lines : List (List ℕ)
   pub ran : EndedOver (c.whole lines) old new r
 
--- the whole input was read, and it was no longer than an input may be
-pub record IsReadWhole (bytes : List ℕ) (rest : Option (List ℕ)) : Type 0 where
-  pub read : rest ≡ Some []
-  pub few : length bytes < most_taken
-
--- that, where all was done
+-- the whole input was read, where all was done
 abbrev pub IsWholeInput : List ℕ → Option (List ℕ) → Result Verdict Halt → Type 0
 IsWholeInput bytes rest (Ok v) = is_done v ≡ true → IsReadWhole bytes rest
 IsWholeInput bytes rest (Err h) = Unit {0}
@@ -161,7 +179,13 @@ is_fault_status status.ReadFault = true
 is_fault_status status.WriteFault = true
 is_fault_status status.NoMemory = true
 is_fault_status status.TooLong = true
+is_fault_status status.DiskFault = true
 is_fault_status s = false
+
+-- and whether since the input is too long
+abbrev pub is_long_status : Status → Bool
+is_long_status status.TooLong = true
+is_long_status s = false
 
 -- whether a status says that all was done, though some line may have been refused
 abbrev pub is_done_status : Status → Bool
@@ -175,6 +199,20 @@ is_refused_status status.BadDefinition = true
 is_refused_status status.BadCatalogue = true
 is_refused_status status.NoView = true
 is_refused_status s = false
+
+-- what a run did that ended so over some lines: all of it, or a front of it where it gave up
+abbrev pub DidOver : Ending → World → World → Status → Type 0
+DidOver e old new status.ReadFault = Partly e.effects (contents old) (contents new)
+DidOver e old new status.WriteFault = Partly e.effects (contents old) (contents new)
+DidOver e old new status.NoMemory = Partly e.effects (contents old) (contents new)
+DidOver e old new status.TooLong = Partly e.effects (contents old) (contents new)
+DidOver e old new status.DiskFault = Partly e.effects (contents old) (contents new)
+DidOver e old new s = Finished e old new s
+
+-- whatever its input tells, it answered some lines in turn
+pub record DidSome (c : Course) (old new : World) (s : Status) : Type 0 where
+  pub lines : List (List ℕ)
+  pub did : DidOver (c.whole lines) old new s
 
 -- whether a status says that a run ended since it could not read on
 abbrev pub is_unread_status : Status → Bool
