@@ -5,7 +5,6 @@ use Rattle.std.specs.Option.{option_or}
 use Rattle.std.proofs.Math.Nat.{add-zero}
 use Rattle.ss_text.specs.Texts.{Row}
 use Rattle.csv_catalog.specs.declared.judge.FileFault.{FileFault}
-use Rattle.csv_catalog.specs.declared.judge.FileFault.TheVariants.{NoRecord}
 use Rattle.csv_catalog.specs.Records.{records_of}
 use Rattle.csv_catalog.specs.Reader.{BytesReader, IsAt}
 use Rattle.csv_catalog.specs.FileFaults.{header_fault, row_fault, rows_fault, file_fault}

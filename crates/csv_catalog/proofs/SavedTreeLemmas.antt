@@ -21,8 +21,12 @@ use Rattle.outside.proofs.PlaceLemmas.{place_total}
 use Rattle.outside.specs.States.{StoreState, SinkState}
 use Rattle.outside.proofs.TreeLemmas.{kept_made, child_full}
 use Rattle.outside.proofs.WholeLemmas.{made_folder}
-use Rattle.effects.specs.Effects.{Effect, Write, Remove, Stored, Contents, stored_of, contents, world_of, performed, writing, removing, making_folder, removing_folder}
-use Rattle.effects.proofs.EffectLemmas.{performed_append, told_tree}
+use Rattle.outside.specs.Stored.{Stored, stored_of, writing, removing, making_folder, removing_folder}
+use Rattle.outside.specs.Edits.{edited, all_edited}
+use Rattle.outside.specs.declared.edit.Edit.{Edit}
+use Rattle.outside.specs.declared.edit.Edit.TheVariants as edit
+use Rattle.effects.specs.Effects.{Replace, Contents, contents, after, world_of}
+use Rattle.effects.proofs.EffectLemmas.{told_tree}
 use Rattle.schema_model.specs.declared.pair.Pair.{Pair}
 use Rattle.schema_model.specs.Catalogue.{RelationValue, CatalogueValue, relation_of}
 use Rattle.csv_catalog.specs.Loaded.{database_folder}
@@ -331,32 +335,33 @@ holds_saved c dbs pairs t labels =
       kept = λ d none h. kept_cleared (those_gone c dbs) wrote d none (kept_saved c pairs begun d (kept_made_all (those_there c dbs) t d h));
     }
 
--- and the effects come to it
-abbrev Reaches : List Effect → (Tree → Tree) → Type 0
-Reaches es f = (s : Stored) (h : Option (List ℕ)) → (u : Stored) × (performed es (record { stored = Some s; held = h }) ≡ record { stored = Some u; held = h }) × (u.tree ≡ f s.tree)
+-- and the edits come to it
+abbrev Reaches : List Edit → (Tree → Tree) → Type 0
+Reaches es f = (s : Stored) → (all_edited es s).tree ≡ f s.tree
 
 reaches_made : (dbs : List Text) → Reaches (folders_made dbs) (made dbs)
-reaches_made [] = λ s h. (s, refl, refl)
-reaches_made (db ∷ dbs) = λ s h. reaches_made dbs (making_folder (database_folder db) s) h
+reaches_made [] = λ s. refl
+reaches_made (db ∷ dbs) = λ s. reaches_made dbs (making_folder (database_folder db) s)
 
 reaches_cleared : (dbs : List Text) → Reaches (folders_removed dbs) (cleared dbs)
-reaches_cleared [] = λ s h. (s, refl, refl)
-reaches_cleared (db ∷ dbs) = λ s h. reaches_cleared dbs (removing_folder (database_folder db) s) h
+reaches_cleared [] = λ s. refl
+reaches_cleared (db ∷ dbs) = λ s. reaches_cleared dbs (removing_folder (database_folder db) s)
 
 reaches_saved : (c : CatalogueValue) (ps : List Pair) → Reaches (pairs_saved c ps) (all_saved c ps)
-reaches_saved c [] = λ s h. (s, refl, refl)
-reaches_saved c (p ∷ ps) = λ s h.
-    elim (relation_of c p.db p.rel) as (λ o. (u : Stored) × (performed (option_map_or (λ (r : RelationValue). Write (database_folder p.db) (relation_file p.rel) (csv_text (relation_records r))) o (Remove (database_folder p.db) (relation_file p.rel)) ∷ pairs_saved c ps) (record { stored = Some s; held = h }) ≡ record { stored = Some u; held = h })
-    × (u.tree ≡ all_saved c ps (option_map_or (λ (r : RelationValue). with_file (database_folder p.db) (relation_file p.rel) (csv_text (relation_records r)) s.tree) o (without_file (database_folder p.db) (relation_file p.rel) s.tree)))) [
-      | None ↦ reaches_saved c ps (removing (database_folder p.db) (relation_file p.rel) s) h
-      | Some r ↦ reaches_saved c ps (writing (database_folder p.db) (relation_file p.rel) (csv_text (relation_records r)) s) h
+reaches_saved c [] = λ s. refl
+reaches_saved c (p ∷ ps) = λ s.
+    elim (relation_of c p.db p.rel) as (λ o. (all_edited (option_map_or (λ (r : RelationValue). edit.Write (database_folder p.db) (relation_file p.rel) (csv_text (relation_records r))) o (edit.Remove (database_folder p.db) (relation_file p.rel)) ∷ pairs_saved c ps) s).tree
+    ≡ all_saved c ps (option_map_or (λ (r : RelationValue). with_file (database_folder p.db) (relation_file p.rel) (csv_text (relation_records r)) s.tree) o (without_file (database_folder p.db) (relation_file p.rel) s.tree))) [
+      | None ↦ reaches_saved c ps (removing (database_folder p.db) (relation_file p.rel) s)
+      | Some r ↦ reaches_saved c ps (writing (database_folder p.db) (relation_file p.rel) (csv_text (relation_records r)) s)
     ]
 
-reaches_both : (es fs : List Effect) (f g : Tree → Tree) → Reaches es f → Reaches fs g → Reaches (es ++ fs) (λ t. g (f t))
-reaches_both es fs f g first later = λ s h.
-    let a = first s h in
-    let b = later a.0 h in
-    (b.0, performed_append es fs (record { stored = Some s; held = h }) ∙ ap (performed fs) a.1 ∙ b.1, b.2 ∙ ap g a.2)
+edited_append : (es fs : List Edit) (s : Stored) → all_edited (es ++ fs) s ≡ all_edited fs (all_edited es s)
+edited_append [] fs s = refl
+edited_append (e ∷ es) fs s = edited_append es fs (edited e s)
+
+reaches_both : (es fs : List Edit) (f g : Tree → Tree) → Reaches es f → Reaches fs g → Reaches (es ++ fs) (λ t. g (f t))
+reaches_both es fs f g first later = λ s. ap (λ (x : Stored). x.tree) (edited_append es fs s) ∙ later (all_edited es s) ∙ ap g (first s)
 
 reaches_all : (c : CatalogueValue) (dbs : List Text) (pairs : List Pair) → Reaches (saved c dbs pairs) (tree_saved c dbs pairs)
 reaches_all c dbs pairs =
@@ -364,14 +369,14 @@ reaches_all c dbs pairs =
     (reaches_both (folders_made (those_there c dbs)) (pairs_saved c pairs) (made (those_there c dbs)) (all_saved c pairs) (reaches_made (those_there c dbs)) (reaches_saved c pairs)) (reaches_cleared (those_gone c dbs))
 
 pub all_held : (c : CatalogueValue) (dbs : List Text) (pairs : List Pair) (old new : StoreState) (o : SinkState) (t u : Tree) → old.tree ≡ Some t → new.tree ≡ Some u → list_all is_table_label dbs ≡ true
-    → contents (world_of new o) ≡ performed (saved c dbs pairs) (contents (world_of old o)) → HoldsSaved c dbs pairs t u
+    → contents (world_of new o) ≡ after (Replace (saved c dbs pairs)) (contents (world_of old o)) → HoldsSaved c dbs pairs t u
 unfolding contents
 all_held c dbs pairs old new o t u was is labels did =
     let s : Stored = record { tree = t; writes = old.writes } in
-    let last = reaches_all c dbs pairs s o.held in
-    let stored : stored_of new.tree new.writes ≡ Some last.0 =
-    ap (λ (x : Contents). x.stored) (did ∙ ap (λ (tree : Option Tree). performed (saved c dbs pairs) (record { stored = stored_of tree old.writes; held = o.held })) was ∙ last.1) in
-    let same : tree_saved c dbs pairs t ≡ u = ap (λ (x : Option Tree). unwrap_or x u) (ap Some (sym last.2) ∙ sym (told_tree new.tree new.writes last.0 stored) ∙ is) in
+    let last : Stored = all_edited (saved c dbs pairs) s in
+    let stored : stored_of new.tree new.writes ≡ Some last =
+    ap (λ (x : Contents). x.stored) did ∙ ap (λ (tree : Option Tree). option_map (all_edited (saved c dbs pairs)) (stored_of tree old.writes)) was in
+    let same : tree_saved c dbs pairs t ≡ u = ap (λ (x : Option Tree). unwrap_or x u) (ap Some (sym (reaches_all c dbs pairs s)) ∙ sym (told_tree new.tree new.writes last stored) ∙ is) in
     subst (HoldsSaved c dbs pairs t) same (holds_saved c dbs pairs t labels)
 
 pub nothing_held : SinkState

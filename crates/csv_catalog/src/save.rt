@@ -1,8 +1,8 @@
 //! The saving of what has changed.
-ghost use Rattle.std.specs.Prelude.{◌≡◌, Some, true, ◌++◌, IfOk, option_map};
+ghost use Rattle.std.specs.Prelude.{◌≡◌, [], ◌∷◌, Some, true, ◌++◌, IfOk, option_map};
 ghost use Rattle.std.specs.Option.{option_copied};
-ghost use Rattle.effects.specs.Effects.{effect_of, effects_of};
-ghost use Rattle.effects.specs.Performing.{Performs, StopsWhole};
+ghost use Rattle.effects.specs.Effects.{Replace};
+ghost use Rattle.effects.specs.Performing.{Performs};
 ghost use Rattle.schema_model.specs.Catalogue.{relation_of};
 ghost use Rattle.schema_model.specs.States.{plain_relation};
 ghost use Rattle.std.specs.List.{list_all};
@@ -31,8 +31,7 @@ pub fn save_changed<F: Folders>(
     databases: &[Text],
     pairs: &[Pair],
 ) -> Result<(), Stop>
-    ensures performs { Performs (saved catalogue.now.databases databases.now pairs.now) (F.state store.old) (F.state store.new) result }
-    ensures whole { StopsWhole (saved catalogue.now.databases databases.now pairs.now) (F.state store.old) (F.state store.new) result }
+    ensures performs { Performs (Replace (saved catalogue.now.databases databases.now pairs.now) ∷ []) (F.state store.old) (F.state store.new) result }
     ensures holds { IfOk result (λ _. (t u : Tree) → (F.state store.old).tree ≡ Some t → (F.state store.new).tree ≡ Some u → list_all is_table_label databases.now ≡ true → HoldsSaved catalogue.now.databases databases.now pairs.now t u) }
 {
     save_at_once(alloc, store, catalogue, databases, pairs)?;
@@ -48,8 +47,7 @@ fn save_at_once<F: Folders>(
     databases: &[Text],
     pairs: &[Pair],
 ) -> Result<(), Stop>
-    ensures performs { Performs (saved catalogue.now.databases databases.now pairs.now) (F.state store.old) (F.state store.new) result }
-    ensures whole { StopsWhole (saved catalogue.now.databases databases.now pairs.now) (F.state store.old) (F.state store.new) result }
+    ensures { Performs (Replace (saved catalogue.now.databases databases.now pairs.now) ∷ []) (F.state store.old) (F.state store.new) result }
 {
     let edits = edits_of(alloc, catalogue, databases, pairs)?;
     replace(alloc, store, &edits)
@@ -62,7 +60,7 @@ fn edits_of(
     databases: &[Text],
     pairs: &[Pair],
 ) -> Result<Vec<Edit>, NoMemory>
-    ensures { IfOk result (λ edits. effects_of edits.items ≡ saved catalogue.now.databases databases.now pairs.now) }
+    ensures { IfOk result (λ edits. edits.items ≡ saved catalogue.now.databases databases.now pairs.now) }
 {
     let there = those_there(alloc, catalogue, databases)?;
     let gone = those_gone(alloc, catalogue, databases)?;
@@ -116,7 +114,7 @@ fn is_there(catalogue: &Catalogue, db: &Text) -> bool
 
 // The folders of these databases are made, in order, where they are missing.
 fn folders_made(alloc: Global, databases: &[Text]) -> Result<Vec<Edit>, NoMemory>
-    ensures { IfOk result (λ edits. effects_of edits.items ≡ folders_made databases.now) }
+    ensures { IfOk result (λ edits. edits.items ≡ folders_made databases.now) }
 {
     let mut edits = Vec::new(alloc);
     for db in databases {
@@ -128,7 +126,7 @@ fn folders_made(alloc: Global, databases: &[Text]) -> Result<Vec<Edit>, NoMemory
 
 // The folders of these databases are removed, in order, where nothing is left in them.
 fn folders_removed(alloc: Global, databases: &[Text]) -> Result<Vec<Edit>, NoMemory>
-    ensures { IfOk result (λ edits. effects_of edits.items ≡ folders_removed databases.now) }
+    ensures { IfOk result (λ edits. edits.items ≡ folders_removed databases.now) }
 {
     let mut edits = Vec::new(alloc);
     for db in databases {
@@ -140,7 +138,7 @@ fn folders_removed(alloc: Global, databases: &[Text]) -> Result<Vec<Edit>, NoMem
 
 // These relations are saved, in order.
 fn pairs_saved(alloc: Global, catalogue: &Catalogue, pairs: &[Pair]) -> Result<Vec<Edit>, NoMemory>
-    ensures { IfOk result (λ edits. effects_of edits.items ≡ pairs_saved catalogue.now.databases pairs.now) }
+    ensures { IfOk result (λ edits. edits.items ≡ pairs_saved catalogue.now.databases pairs.now) }
 {
     let mut edits = Vec::new(alloc);
     for pair in pairs {
@@ -152,7 +150,7 @@ fn pairs_saved(alloc: Global, catalogue: &Catalogue, pairs: &[Pair]) -> Result<V
 
 // The file of a relation is written, or removed where there is no such relation.
 fn pair_saved(alloc: Global, catalogue: &Catalogue, pair: &Pair) -> Result<Edit, NoMemory>
-    ensures { IfOk result (λ edit. effect_of edit ≡ pair_saved catalogue.now.databases pair.now) }
+    ensures { IfOk result (λ edit. edit ≡ pair_saved catalogue.now.databases pair.now) }
 {
     let folder = database_folder(alloc, &pair.db)?;
     let file = relation_file(alloc, &pair.rel)?;

@@ -1,14 +1,12 @@
 -- Effects that follow one another, and what broke off.
-use Rattle.std.proofs.Common.{◌≡◌, ℕ, suc, map, get_or, add-one, drop-cons, ◌+◌, ◌≤◌, List, [], ◌∷◌, ◌++◌, length, take, drop, Option, None, Some, Result, Ok, Err, ◌⊎◌, inl, inr, refl, sym, ap, ◌∙◌, subst, append_assoc, arith, ◌-◌, ◌<◌, length-drop, append-nil, option_map}
+use Rattle.std.proofs.Common.{◌≡◌, ℕ, suc, map, get_or, add-one, drop-cons, ◌+◌, ◌≤◌, List, [], ◌∷◌, ◌++◌, length, take, drop, Option, None, Some, Result, Ok, Err, inl, inr, refl, sym, ap, ◌∙◌, subst, append_assoc, arith, ◌-◌, ◌<◌, length-drop, append-nil, option_map}
 use Rattle.std.proofs.Math.Seq.{take-add, drop-length}
-use Rattle.std.proofs.lemmas.List.{take_rest, take-append-le}
-use Rattle.std.proofs.Math.Seq.{take-append-add}
-use Rattle.std.proofs.lemmas.Bool.Decides.{leb_tells}
+use Rattle.std.proofs.lemmas.List.{take_rest}
 use Rattle.outside.specs.Streams.{with_bytes}
 use Rattle.outside.specs.States.{StoreState, SinkState}
-use Rattle.outside.specs.Tree.{Tree, folder_path, BrokeOff, FolderBrokeOff, MayBreakOff, FolderMayBreakOff}
+use Rattle.outside.specs.Tree.{Tree, folder_path, BrokeOff, MayBreakOff}
 use Rattle.outside.specs.Reading.{OnlyRead}
-use Rattle.effects.specs.Effects.{Effect, Write, Remove, MakeFolder, RemoveFolder, Print, Contents, stored_of, contents, after, performed, Torn, Partly, Does, Doing, world_of, Stored}
+use Rattle.effects.specs.Effects.{Effect, Write, Remove, Print, Contents, stored_of, contents, after, performed, Torn, Partly, Does, Doing, world_of, Stored}
 use Rattle.effects.specs.Performing.{Performs, Performing}
 use Rattle.effects.specs.declared.stop.Stop.{Stop}
 
@@ -61,14 +59,6 @@ torn_write folder file bytes old new o h e = inr (inl (torn (BrokeOff (folder_pa
 pub torn_remove : (folder file : List ℕ) (old new : StoreState) (o : SinkState) → MayBreakOff [] folder file old.tree new.tree → new.writes ≡ old.writes → Partly (Remove folder file ∷ []) (contents (world_of old o)) (contents (world_of new o))
 unfolding Partly contents
 torn_remove folder file old new o h e = inr (inl (torn (BrokeOff [] folder file) old.tree new.tree old.writes new.writes h.untold h.told e, refl))
-
-pub torn_make_folder : (folder : List ℕ) (old new : StoreState) (o : SinkState) → FolderMayBreakOff (folder_path folder) folder old.tree new.tree → new.writes ≡ old.writes → Partly (MakeFolder folder ∷ []) (contents (world_of old o)) (contents (world_of new o))
-unfolding Partly contents
-torn_make_folder folder old new o h e = inr (inl (torn (FolderBrokeOff (folder_path folder) folder) old.tree new.tree old.writes new.writes h.untold h.told e, refl))
-
-pub torn_remove_folder : (folder : List ℕ) (old new : StoreState) (o : SinkState) → FolderMayBreakOff [] folder old.tree new.tree → new.writes ≡ old.writes → Partly (RemoveFolder folder ∷ []) (contents (world_of old o)) (contents (world_of new o))
-unfolding Partly contents
-torn_remove_folder folder old new o h e = inr (inl (torn (FolderBrokeOff [] folder) old.tree new.tree old.writes new.writes h.untold h.told e, refl))
 
 -- what is stored has the tree that was told
 pub told_tree : (o : Option Tree) (n : ℕ) (s : Stored) → stored_of o n ≡ Some s → o ≡ Some s.tree
@@ -149,7 +139,3 @@ none_off es old new h = partly_more [] es old new h
 pub with_more : (a b : List ℕ) (o : Option (List ℕ)) → with_bytes b (with_bytes a o) ≡ with_bytes (a ++ b) o
 with_more a b None = refl
 with_more a b (Some held) = ap Some (append_assoc held a b)
-
--- two prints are one print of both
-
--- and what is a part of the one is a part of the two

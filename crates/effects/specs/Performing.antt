@@ -1,7 +1,7 @@
 -- What a call does that changes files and folders, and reads none.
-use Rattle.std.specs.Prelude.{◌≡◌, ◌≢◌, ◌≤◌, ◌⊎◌, List, Result, IfErr}
+use Rattle.std.specs.Prelude.{◌≡◌, ◌≢◌, ◌≤◌, List, Result, IfErr}
 use Rattle.outside.specs.States.{StoreState, SinkState}
-use Rattle.effects.specs.Effects.{Effect, Does, Doing, contents, performed, world_of}
+use Rattle.effects.specs.Effects.{Effect, Does, Doing, contents, world_of}
 use Rattle.effects.specs.Blame.{StoreBlames}
 use Rattle.effects.specs.declared.stop.Stop.{Stop}
 use Rattle.effects.specs.declared.stop.Stop.TheVariants as stop
@@ -12,10 +12,6 @@ pub record Performs {A : Type 0} (es : List Effect) (old new : StoreState) (r : 
   pub reads : new.read_faults ≡ old.read_faults
   pub no_read : IfErr r (λ e. e ≢ stop.ReadFault)
   pub blames : StoreBlames old new r
-
--- where it stops, none of these effects was done, or all were
-abbrev pub StopsWhole : {A : Type 0} → List Effect → StoreState → StoreState → Result A Stop → Type 0
-StopsWhole es old new r = IfErr r (λ _. (o : SinkState) → (contents (world_of new o) ≡ contents (world_of old o)) ⊎ (contents (world_of new o) ≡ performed es (contents (world_of old o))))
 
 -- of all these effects those before the rest
 pub record Performing (all rest : List Effect) (old now : StoreState) : Type 0 where

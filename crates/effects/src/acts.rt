@@ -1,11 +1,11 @@
 //! The calls on the outside that a run makes.
-ghost use Rattle.std.specs.Prelude.{◌≡◌, ◌≢◌, [], ◌∷◌, Some, IfOk, IfErr, is_some, not, if◌then◌else◌};
+ghost use Rattle.std.specs.Prelude.{◌≡◌, [], ◌∷◌, Some, IfOk, is_some, if◌then◌else◌};
 ghost use Rattle.outside.specs.Counts.{risen};
 ghost use Rattle.outside.specs.Reading.{OnlyRead};
-ghost use Rattle.outside.specs.Tree.{Tree, file_at, files_of, has_folder, has_empty_folder};
-ghost use Rattle.effects.specs.Effects.{Write, Remove, MakeFolder, RemoveFolder, Print, Does, effects_of, world_of};
+ghost use Rattle.outside.specs.Tree.{Tree, file_at, files_of};
+ghost use Rattle.effects.specs.Effects.{Write, Remove, Replace, Print, Does, world_of};
 ghost use Rattle.effects.specs.Blame.{StoreBlames, SinkBlames};
-ghost use Rattle.effects.specs.Performing.{Performs, StopsWhole};
+ghost use Rattle.effects.specs.Performing.{Performs};
 
 use crate::Stop;
 use outside::{Edit, Folders, Sink, StoreFault};
@@ -71,39 +71,10 @@ pub fn remove_file<F: Folders>(
     }
 }
 
-/// Makes a folder and those above it, where it is missing, and answers whether it was.
-#[tactic(auto, using(crate::proofs::EffectLemmas::unmoved, crate::proofs::EffectLemmas::torn_make_folder), unfolding(crate::specs::Effects::contents))]
-pub fn make_folder<F: Folders>(alloc: Global, store: &mut F, folder: &Text) -> Result<bool, Stop>
-    ensures made { IfOk result (λ made. (t : Tree) → (F.state store.old).tree ≡ Some t → made ≡ not (has_folder t folder.now)) }
-    ensures performs { Performs (MakeFolder folder.now ∷ []) (F.state store.old) (F.state store.new) result }
-    ensures counted { IfOk result (λ made. (F.state store.new).writes ≡ (if made then risen ((F.state store.old).writes) 1 else (F.state store.old).writes)) }
-{
-    match store.make_folder(alloc, folder) {
-        Ok(made) => Ok(made),
-        Err(StoreFault::Failed) => Err(Stop::WriteFault),
-        Err(StoreFault::NoMemory) => Err(Stop::NoMemory),
-    }
-}
-
-/// Removes a folder that is there without files and subfolders, and answers whether it was so.
-#[tactic(auto, using(crate::proofs::EffectLemmas::unmoved, crate::proofs::EffectLemmas::torn_remove_folder), unfolding(crate::specs::Effects::contents))]
-pub fn remove_folder<F: Folders>(alloc: Global, store: &mut F, folder: &Text) -> Result<bool, Stop>
-    ensures was { IfOk result (λ was. (t : Tree) → (F.state store.old).tree ≡ Some t → was ≡ has_empty_folder t folder.now) }
-    ensures performs { Performs (RemoveFolder folder.now ∷ []) (F.state store.old) (F.state store.new) result }
-    ensures counted { IfOk result (λ was. (F.state store.new).writes ≡ (if was then risen ((F.state store.old).writes) 1 else (F.state store.old).writes)) }
-{
-    match store.remove_folder(alloc, folder) {
-        Ok(gone) => Ok(gone),
-        Err(StoreFault::Failed) => Err(Stop::WriteFault),
-        Err(StoreFault::NoMemory) => Err(Stop::NoMemory),
-    }
-}
-
 /// Makes all of these edits, in order, or none of them. Where a write failed, all may be made.
-#[tactic(auto, using(crate::proofs::EditLemmas::all_made, crate::proofs::EditLemmas::none_made, crate::proofs::EditLemmas::some_made, crate::proofs::EditLemmas::stops_whole))]
+#[tactic(auto, using(crate::proofs::EditLemmas::all_made, crate::proofs::EditLemmas::none_made, crate::proofs::EditLemmas::some_made))]
 pub fn replace<F: Folders>(alloc: Global, store: &mut F, edits: &[Edit]) -> Result<(), Stop>
-    ensures performs { Performs (effects_of edits.now) (F.state store.old) (F.state store.new) result }
-    ensures whole { StopsWhole (effects_of edits.now) (F.state store.old) (F.state store.new) result }
+    ensures { Performs (Replace edits.now ∷ []) (F.state store.old) (F.state store.new) result }
 {
     match store.replace(alloc, edits) {
         Ok(()) => Ok(()),

@@ -13,8 +13,11 @@ use Rattle.outside.specs.Tree.{Tree, file_at, has_folder, has_empty_folder, fron
 use Rattle.outside.specs.Whole.{IsWhole}
 use Rattle.outside.proofs.TreeLemmas.{get_made}
 use Rattle.outside.proofs.WholeLemmas.{whole_with_file, whole_without_file, whole_with_folder, whole_without_folder}
-use Rattle.effects.specs.Effects.{Effect, Write, Remove, MakeFolder, RemoveFolder, Print, Stored, Contents, after, performed}
-use Rattle.source_law.specs.Counted.{tree_by, tree_after, count_of, counted}
+use Rattle.outside.specs.Edits.{edited, all_edited}
+use Rattle.outside.specs.declared.edit.Edit.{Edit}
+use Rattle.outside.specs.declared.edit.Edit.TheVariants as edit
+use Rattle.effects.specs.Effects.{Effect, Write, Remove, Replace, Print, Stored, Contents, after, performed}
+use Rattle.source_law.specs.Counted.{tree_edited, tree_replaced, tree_by, tree_after, count_edited, count_replaced, count_of, counted}
 use Rattle.source_law.proofs.NamedLemmas.{same_text}
 
 -- a store after effects
@@ -35,6 +38,28 @@ once_made : (b : Bool) (w : ℕ) → cond b w (risen w 1) ≡ risen w (cond b 0 
 once_made true w = omega arith
 once_made false w = refl
 
+-- a store after one edit, and after edits
+record Edits (e : Edit) (s : Stored) : Type 0 where
+  tree : (edited e s).tree ≡ tree_edited e s.tree
+  writes : (edited e s).writes ≡ risen s.writes (count_edited e s.tree)
+
+edits : (e : Edit) (s : Stored) → Edits e s
+edits (edit.MakeFolder folder) s = record { tree = refl; writes = once_made (has_folder s.tree folder) s.writes }
+edits (edit.Write folder file bytes) s = record { tree = refl; writes = refl }
+edits (edit.Remove folder file) s = record { tree = refl; writes = once_removed (is_some (file_at s.tree folder file)) s.writes }
+edits (edit.RemoveFolder folder) s = record { tree = refl; writes = once_removed (has_empty_folder s.tree folder) s.writes }
+
+pub tree_of_edits : (es : List Edit) (s : Stored) → (all_edited es s).tree ≡ tree_replaced es s.tree
+tree_of_edits [] s = refl
+tree_of_edits (e ∷ es) s = tree_of_edits es (edited e s) ∙ ap (tree_replaced es) (edits e s).tree
+
+writes_of_edits : (es : List Edit) (s : Stored) → (all_edited es s).writes ≡ risen s.writes (count_replaced es s.tree)
+writes_of_edits [] s = none_risen s.writes
+writes_of_edits (e ∷ es) s =
+    let b = edits e s in
+    writes_of_edits es (edited e s) ∙ ap (λ (u : Tree). risen (edited e s).writes (count_replaced es u)) b.tree
+    ∙ twice_risen s.writes (edited e s).writes (count_edited e s.tree) (count_replaced es (tree_edited e s.tree)) b.writes
+
 -- a store after one effect
 record Becomes (e : Effect) (c : Contents) (s : Stored) : Type 0 where
   now : Stored
@@ -45,8 +70,7 @@ record Becomes (e : Effect) (c : Contents) (s : Stored) : Type 0 where
 becomes : (e : Effect) (c : Contents) (s : Stored) → c.stored ≡ Some s → Becomes e c s
 becomes (Write folder file bytes) c s h = record { now = _; is = ap (option_map _) h; tree = refl; writes = refl }
 becomes (Remove folder file) c s h = record { now = _; is = ap (option_map _) h; tree = refl; writes = once_removed (is_some (file_at s.tree folder file)) s.writes }
-becomes (MakeFolder folder) c s h = record { now = _; is = ap (option_map _) h; tree = refl; writes = once_made (has_folder s.tree folder) s.writes }
-becomes (RemoveFolder folder) c s h = record { now = _; is = ap (option_map _) h; tree = refl; writes = once_removed (has_empty_folder s.tree folder) s.writes }
+becomes (Replace es) c s h = record { now = _; is = ap (option_map (all_edited es)) h; tree = tree_of_edits es s; writes = writes_of_edits es s }
 becomes (Print bytes) c s h = record { now = s; is = h; tree = refl; writes = none_risen s.writes }
 
 pub stored_after : (es : List Effect) (c : Contents) (s : Stored) → c.stored ≡ Some s → (performed es c).stored ≡ Some (stored_by es s)
@@ -65,8 +89,7 @@ Silent e = Unit {0}
 one_silent : (e : Effect) (c : Contents) → Silent e → (after e c).held ≡ c.held
 one_silent (Write folder file bytes) c s = refl
 one_silent (Remove folder file) c s = refl
-one_silent (MakeFolder folder) c s = refl
-one_silent (RemoveFolder folder) c s = refl
+one_silent (Replace edits) c s = refl
 one_silent (Print bytes) c s = absurd s
 
 held_after : (es : List Effect) (c : Contents) → AllByRecursion Silent es → (performed es c).held ≡ c.held
@@ -80,23 +103,37 @@ silent_after es s h silent =
     ∙ ap (λ (x : Option (List ℕ)). record { stored = Some (stored_by es s); held = x }) (held_after es (record { stored = Some s; held = h }) silent)
 
 -- a tree stays whole
+whole_edited : (e : Edit) (t : Tree) → IsWhole t → IsWhole (tree_edited e t)
+whole_edited (edit.MakeFolder folder) t h = whole_with_folder folder t h
+whole_edited (edit.Write folder file bytes) t h = whole_with_file folder file bytes t h
+whole_edited (edit.Remove folder file) t h = whole_without_file folder file t h
+whole_edited (edit.RemoveFolder folder) t h = whole_without_folder folder t h
+
+whole_replaced : (es : List Edit) (t : Tree) → IsWhole t → IsWhole (tree_replaced es t)
+whole_replaced [] t h = h
+whole_replaced (e ∷ es) t h = whole_replaced es (tree_edited e t) (whole_edited e t h)
+
 whole_by : (e : Effect) (t : Tree) → IsWhole t → IsWhole (tree_by e t)
 whole_by (Write folder file bytes) t h = whole_with_file folder file bytes t h
 whole_by (Remove folder file) t h = whole_without_file folder file t h
-whole_by (MakeFolder folder) t h = whole_with_folder folder t h
-whole_by (RemoveFolder folder) t h = whole_without_folder folder t h
+whole_by (Replace edits) t h = whole_replaced edits t h
 whole_by (Print bytes) t h = h
 
 pub whole_after : (es : List Effect) (t : Tree) → IsWhole t → IsWhole (tree_after es t)
 whole_after [] t h = h
 whole_after (e ∷ es) t h = whole_after es (tree_by e t) (whole_by e t h)
 
--- a folder that no effect makes
+-- a folder that no edit and no effect makes
+abbrev pub EditMakesNot : Text → Edit → Type 0
+EditMakesNot d (edit.MakeFolder folder) = is_in d (folder_path folder) ≡ false
+EditMakesNot d (edit.Write folder file bytes) = is_in d (folder_path folder) ≡ false
+EditMakesNot d (edit.Remove folder file) = Unit {0}
+EditMakesNot d (edit.RemoveFolder folder) = Unit {0}
+
 abbrev pub MakesNot : Text → Effect → Type 0
 MakesNot d (Write folder file bytes) = is_in d (folder_path folder) ≡ false
 MakesNot d (Remove folder file) = Unit {0}
-MakesNot d (MakeFolder folder) = is_in d (folder_path folder) ≡ false
-MakesNot d (RemoveFolder folder) = Unit {0}
+MakesNot d (Replace edits) = AllByRecursion (EditMakesNot d) edits
 MakesNot d (Print bytes) = Unit {0}
 
 pub any_same : (d : Text) (fs : List Text) → list_any (eq_by_cmp text_cmp d) fs ≡ is_in d fs
@@ -110,19 +147,28 @@ unit_was : (b : Bool) (o : Option (Unit {0})) → is_some (cond b None o) ≡ tr
 unit_was true o h = absurd (cc h)
 unit_was false o h = h
 
-one_was : (d : Text) (e : Effect) (t : Tree) → MakesNot d e → has_folder (tree_by e t) d ≡ true → has_folder t d ≡ true
-one_was d (Write folder file bytes) t none h = sym (made_was d (folder_path folder) t.folders none) ∙ h
-one_was d (Remove folder file) t none h = h
-one_was d (MakeFolder folder) t none h =
+edit_was : (d : Text) (e : Edit) (t : Tree) → EditMakesNot d e → has_folder (tree_edited e t) d ≡ true → has_folder t d ≡ true
+edit_was d (edit.MakeFolder folder) t none h =
     elim (has_folder t folder) as (λ b. map_of.contains_key (cond b t.folders (with_folders (folder_path folder) t.folders)) d ≡ true → has_folder t d ≡ true) [
       | true ↦ λ h. h
       | false ↦ λ h. sym (made_was d (folder_path folder) t.folders none) ∙ h
     ] h
-one_was d (RemoveFolder folder) t none h =
+edit_was d (edit.Write folder file bytes) t none h = sym (made_was d (folder_path folder) t.folders none) ∙ h
+edit_was d (edit.Remove folder file) t none h = h
+edit_was d (edit.RemoveFolder folder) t none h =
     elim (has_empty_folder t folder) as (λ b. map_of.contains_key (cond b (map_of.remove t.folders folder) t.folders) d ≡ true → has_folder t d ≡ true) [
       | true ↦ λ h. unit_was (eq_by_cmp text_cmp d folder) (map_of.get t.folders d) (sym (ap is_some (map_of.get-remove nat_list_cmp_total t.folders folder d)) ∙ h)
       | false ↦ λ h. h
     ] h
+
+edits_was : (d : Text) (es : List Edit) (t : Tree) → AllByRecursion (EditMakesNot d) es → has_folder (tree_replaced es t) d ≡ true → has_folder t d ≡ true
+edits_was d [] t none h = h
+edits_was d (e ∷ es) t none h = edit_was d e t none.0 (edits_was d es (tree_edited e t) none.1 h)
+
+one_was : (d : Text) (e : Effect) (t : Tree) → MakesNot d e → has_folder (tree_by e t) d ≡ true → has_folder t d ≡ true
+one_was d (Write folder file bytes) t none h = sym (made_was d (folder_path folder) t.folders none) ∙ h
+one_was d (Remove folder file) t none h = h
+one_was d (Replace edits) t none h = edits_was d edits t none h
 one_was d (Print bytes) t none h = h
 
 pub was_there : (d : Text) (es : List Effect) (t : Tree) → AllByRecursion (MakesNot d) es → has_folder (tree_after es t) d ≡ true → has_folder t d ≡ true

@@ -13,7 +13,7 @@ use Rattle.ss_text.proofs.KeyLemmas.{text_order, Lacks}
 use Rattle.outside.specs.Tree.{Tree, file_at, files_of, subfolders_of, has_folder}
 use Rattle.schema_model.specs.Catalogue.{RelationValue, relation_value, relation_name, relation_in, database_of}
 use Rattle.csv_catalog.specs.FileFaults.{header_of, rows_of}
-use Rattle.csv_catalog.specs.Loaded.{File, sources_folder, database_folder, label_of, is_relation_file, databases_in, files_in, files_read, database_files, relation_of, by_name, database_in, catalogue_in}
+use Rattle.csv_catalog.specs.Loaded.{File, sources_folder, database_folder, label_of, is_relation_file, databases_in, files_in, files_read, database_files, relation_of, database_in, catalogue_in}
 use Rattle.csv_catalog.specs.Records.{records_of}
 use Rattle.csv_catalog.specs.Saved.{relation_file}
 use Rattle.csv_catalog.proofs.ListLemmas.{all_pass}

@@ -1,7 +1,6 @@
 -- What is saved behind changes is loaded again.
 use Rattle.std.proofs.Common.{List, [], ◌∷◌, refl}
 use Rattle.schema_model.specs.declared.change.Change.{Change}
-use Rattle.csv_catalog.specs.Loaded.{loaded}
 use Rattle.view_session.specs.Session.{SessionState, opened, moved}
 use Rattle.source_law.specs.Counted.{tree_after}
 use Rattle.source_law.specs.Law.{AreAccepted, moved_by, SavedSourcesHold}

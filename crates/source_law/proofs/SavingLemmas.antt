@@ -19,7 +19,10 @@ use Rattle.outside.specs.Whole.{IsWhole}
 use Rattle.outside.specs.WholeLaw.{is_eq_true, place_exact}
 use Rattle.outside.proofs.PlaceLemmas.{place_total}
 use Rattle.outside.proofs.TreeLemmas.{child_full, kept_made, write_broke_off}
-use Rattle.effects.specs.Effects.{Effect, Write, Remove, MakeFolder, RemoveFolder, Print, Stored, contents}
+use Rattle.outside.specs.Edits.{all_edited}
+use Rattle.outside.specs.declared.edit.Edit.{Edit}
+use Rattle.outside.specs.declared.edit.Edit.TheVariants as edit
+use Rattle.effects.specs.Effects.{Effect, Write, Remove, Replace, Print, Stored, contents}
 use Rattle.schema_model.specs.declared.pair.Pair.{Pair}
 use Rattle.schema_model.specs.declared.change.Change.{Change}
 use Rattle.schema_model.specs.Catalogue.{RelationValue, DatabaseValue, CatalogueValue, relation_value, relation_name, database_name, relation_in, database_of, relation_of}
@@ -45,13 +48,13 @@ use Rattle.view_session.specs.Session.{SessionState, moved, committed}
 use Rattle.view_session.proofs.ComingLemmas.{pair_total}
 use Rattle.source_law.specs.Counted.{tree_by, tree_after}
 use Rattle.source_law.specs.Synced.{Synced, unsaved, synced, saving, HeldOnlyRelations, ReadsBack, SourcesHold}
-use Rattle.source_law.proofs.NamedLemmas.{same_text, named, in_kept, found_in}
+use Rattle.source_law.proofs.NamedLemmas.{same_text, in_kept, found_in}
 use Rattle.source_law.proofs.TreeLemmas.{label_slash, stands_empty, none_in_folder}
 use Rattle.source_law.proofs.FileLemmas.{file_parts, file_legal, read_at}
 use Rattle.source_law.proofs.LoadedLemmas.{there_loaded, relation_loaded, sound_loaded}
 use Rattle.source_law.proofs.ReadLemmas.{loads}
 use Rattle.source_law.proofs.ChangeLemmas.{relation_stays, database_stays, legal_there, named_legal}
-use Rattle.source_law.proofs.AfterLemmas.{Silent, MakesNot, stored_by, silent_after, whole_after, was_there, no_path}
+use Rattle.source_law.proofs.AfterLemmas.{EditMakesNot, MakesNot, tree_of_edits, whole_after, was_there, no_path}
 
 -- saving makes no folder but those of databases that are there
 slash_in : (xs ys : Text) → list_any (λ b. b == 47) (xs ++ 47 ∷ ys) ≡ true
@@ -61,72 +64,50 @@ pub not_slashed : (x xs ys : Text) → is_table_label x ≡ true → x ≡ xs ++
 not_slashed x xs ys legal e = true≢false (sym (ap (list_any (λ b. b == 47)) e ∙ slash_in xs ys) ∙ label_slash x legal)
 
 module _ (c : CatalogueValue) (s : IsSound c) (d : Text) (apart : (x : Text) → is_there c x ≡ true → is_in d (folder_path (database_folder x)) ≡ false) where
-  makes_made : (dbs : List Text) → AllByRecursion (MakesNot d) (folders_made (those_there c dbs))
+  makes_made : (dbs : List Text) → AllByRecursion (EditMakesNot d) (folders_made (those_there c dbs))
   makes_made [] = tt
   makes_made (db ∷ dbs) = by_test (is_there c db) refl (makes_made dbs)
     where
-      by_test : (b : Bool) → is_there c db ≡ b → AllByRecursion (MakesNot d) (folders_made (those_there c dbs)) → AllByRecursion (MakesNot d) (folders_made (cond b (db ∷ those_there c dbs) (those_there c dbs)))
+      by_test : (b : Bool) → is_there c db ≡ b → AllByRecursion (EditMakesNot d) (folders_made (those_there c dbs)) → AllByRecursion (EditMakesNot d) (folders_made (cond b (db ∷ those_there c dbs) (those_there c dbs)))
       by_test true e rest = (apart db e, rest)
       by_test false e rest = rest
 
-  makes_pair : (p : Pair) → MakesNot d (pair_saved c p)
+  makes_pair : (p : Pair) → EditMakesNot d (pair_saved c p)
   makes_pair p = by_relation (relation_of c p.db p.rel) refl
     where
       some_database : (o : Option DatabaseValue) (r : RelationValue) → option_and_then (relation_in p.rel) o ≡ Some r → is_some o ≡ true
       some_database None r e = absurd (cc e)
       some_database (Some x) r e = refl
 
-      by_relation : (o : Option RelationValue) → relation_of c p.db p.rel ≡ o → MakesNot d (option_map_or (λ (r : RelationValue). Write (database_folder p.db) (relation_file p.rel) (csv_text (relation_records r))) o (Remove (database_folder p.db) (relation_file p.rel)))
+      by_relation : (o : Option RelationValue) → relation_of c p.db p.rel ≡ o → EditMakesNot d (option_map_or (λ (r : RelationValue). edit.Write (database_folder p.db) (relation_file p.rel) (csv_text (relation_records r))) o (edit.Remove (database_folder p.db) (relation_file p.rel)))
       by_relation None e = tt
       by_relation (Some r) e = apart p.db (some_database (database_of c p.db) r e)
 
-  makes_pairs : (ps : List Pair) → AllByRecursion (MakesNot d) (pairs_saved c ps)
+  makes_pairs : (ps : List Pair) → AllByRecursion (EditMakesNot d) (pairs_saved c ps)
   makes_pairs [] = tt
   makes_pairs (p ∷ ps) = (makes_pair p, makes_pairs ps)
 
-  makes_removed : (dbs : List Text) → AllByRecursion (MakesNot d) (folders_removed dbs)
+  makes_removed : (dbs : List Text) → AllByRecursion (EditMakesNot d) (folders_removed dbs)
   makes_removed [] = tt
   makes_removed (db ∷ dbs) = (tt, makes_removed dbs)
 
-  all_append : (es fs : List Effect) → AllByRecursion (MakesNot d) es → AllByRecursion (MakesNot d) fs → AllByRecursion (MakesNot d) (es ++ fs)
+  all_append : (es fs : List Edit) → AllByRecursion (EditMakesNot d) es → AllByRecursion (EditMakesNot d) fs → AllByRecursion (EditMakesNot d) (es ++ fs)
   all_append [] fs h k = k
   all_append (e ∷ es) fs h k = (h.0, all_append es fs h.1 k)
 
-  makes_none : (dbs : List Text) (ps : List Pair) → AllByRecursion (MakesNot d) (saved c dbs ps)
+  makes_none : (dbs : List Text) (ps : List Pair) → AllByRecursion (EditMakesNot d) (saved c dbs ps)
   makes_none dbs ps =
       all_append (folders_made (those_there c dbs) ++ pairs_saved c ps) (folders_removed (those_gone c dbs)) (all_append (folders_made (those_there c dbs)) (pairs_saved c ps) (makes_made dbs) (makes_pairs ps)) (makes_removed (those_gone c dbs))
 
--- it prints nothing
+-- and it leaves what is named as the catalogue has it
 module _ (c : CatalogueValue) where
-  silent_made : (dbs : List Text) → AllByRecursion Silent (folders_made dbs)
-  silent_made [] = tt
-  silent_made (db ∷ dbs) = (tt, silent_made dbs)
-
-  silent_removed : (dbs : List Text) → AllByRecursion Silent (folders_removed dbs)
-  silent_removed [] = tt
-  silent_removed (db ∷ dbs) = (tt, silent_removed dbs)
-
-  silent_pairs : (ps : List Pair) → AllByRecursion Silent (pairs_saved c ps)
-  silent_pairs [] = tt
-  silent_pairs (p ∷ ps) =
-      (elim (relation_of c p.db p.rel) as (λ o. Silent (option_map_or (λ (r : RelationValue). Write (database_folder p.db) (relation_file p.rel) (csv_text (relation_records r))) o (Remove (database_folder p.db) (relation_file p.rel)))) [ None ↦ tt | Some r ↦ tt ], silent_pairs ps)
-
-  both_silent : (es fs : List Effect) → AllByRecursion Silent es → AllByRecursion Silent fs → AllByRecursion Silent (es ++ fs)
-  both_silent [] fs h k = k
-  both_silent (e ∷ es) fs h k = (h.0, both_silent es fs h.1 k)
-
-  pub saved_silent : (dbs : List Text) (ps : List Pair) → AllByRecursion Silent (saved c dbs ps)
-  saved_silent dbs ps =
-      both_silent (folders_made (those_there c dbs) ++ pairs_saved c ps) (folders_removed (those_gone c dbs)) (both_silent (folders_made (those_there c dbs)) (pairs_saved c ps) (silent_made (those_there c dbs)) (silent_pairs ps)) (silent_removed (those_gone c dbs))
-
-  -- and leaves what is named as the catalogue has it
-  pub tree_saved : (dbs : List Text) (ps : List Pair) (u : Tree) → list_all is_table_label dbs ≡ true → HoldsSaved c dbs ps u (tree_after (saved c dbs ps) u)
+  pub tree_saved : (dbs : List Text) (ps : List Pair) (u : Tree) → list_all is_table_label dbs ≡ true → HoldsSaved c dbs ps u (tree_after (Replace (saved c dbs ps) ∷ []) u)
   unfolding contents
   tree_saved dbs ps u legal =
       let s : Stored = record { tree = u; writes = 0 } in
-      let l : Stored = stored_by (saved c dbs ps) s in
-      all_held c dbs ps (record { tree = Some u; writes = 0; read_faults = 0; write_faults = 0 }) (record { tree = Some l.tree; writes = l.writes; read_faults = 0; write_faults = 0 }) nothing_held u l.tree refl refl legal
-      (sym (silent_after (saved c dbs ps) s nothing_held.held (saved_silent dbs ps)))
+      let l : Stored = all_edited (saved c dbs ps) s in
+      subst (HoldsSaved c dbs ps u) (tree_of_edits (saved c dbs ps) s)
+      (all_held c dbs ps (record { tree = Some u; writes = 0; read_faults = 0; write_faults = 0 }) (record { tree = Some l.tree; writes = l.writes; read_faults = 0; write_faults = 0 }) nothing_held u l.tree refl refl legal refl)
 
 -- the sources at a sync: t and c0 are the tree and the catalogue at first
 pub record SourcesKept (t : Tree) (c0 : CatalogueValue) (s : Synced) (u : Tree) : Type 0 where
@@ -298,7 +279,7 @@ module _ (t : Tree) (c0 : CatalogueValue) (first : loaded t ≡ Ok c0) (whole : 
 
   -- what is no folder of a database that is there was not made
   not_made : (d : Text) → ((x : Text) → is_table_label x ≡ true → is_there c x ≡ true → is_in d (folder_path (database_folder x)) ≡ false) → has_folder v d ≡ true → has_folder u d ≡ true
-  not_made d apart h = was_there d (saving n) u (makes_none c p.sound d (λ x is. apart x (legal_there c x p.sound is) is) dbs pairs) h
+  not_made d apart h = was_there d (saving n) u (makes_none c p.sound d (λ x is. apart x (legal_there c x p.sound is) is) dbs pairs, tt) h
 
   inside_new : (db d name : Text) → child_name (database_folder db) d ≡ Some name → has_folder v d ≡ true → has_folder t d ≡ true
   inside_new db d name is h = k.inside db d name is (not_made d (λ x legal _. no_path d (database_folder x) (λ e. slashed x [] legal (sym e ∙ sym (none_behind d))) (λ rest e. slashed x (47 ∷ rest) legal e)) h)
@@ -398,8 +379,7 @@ module _ (t : Tree) (c0 : CatalogueValue) (first : loaded t ≡ Ok c0) (whole : 
 abbrev pub InView : Text → Effect → Type 0
 InView x (Write folder file bytes) = folder ≡ view_folder x
 InView x (Remove folder file) = folder ≡ view_folder x
-InView x (MakeFolder folder) = ⊥
-InView x (RemoveFolder folder) = ⊥
+InView x (Replace edits) = ⊥
 InView x (Print bytes) = Unit {0}
 
 abbrev first_byte : Text → ℕ
@@ -425,8 +405,7 @@ module _ (x db : Text) where
       one : (e : Effect) → InView x e → file_at (tree_by e t) (database_folder db) name ≡ file_at t (database_folder db) name
       one (Write folder file bytes) is = (write_broke_off folder file bytes t).others (database_folder db, name) (other folder file is)
       one (Remove folder file) is = removed_other folder file t (database_folder db, name) (other folder file is)
-      one (MakeFolder folder) is = absurd is
-      one (RemoveFolder folder) is = absurd is
+      one (Replace edits) is = absurd is
       one (Print bytes) is = refl
 
   view_keeps : (es : List Effect) (t : Tree) (d : Text) → AllByRecursion (InView x) es → has_folder t d ≡ true → has_folder (tree_after es t) d ≡ true
@@ -436,8 +415,7 @@ module _ (x db : Text) where
       one : (e : Effect) → InView x e → has_folder (tree_by e t) d ≡ true
       one (Write folder file bytes) is = kept_made (folder_path folder) t.folders d here
       one (Remove folder file) is = here
-      one (MakeFolder folder) is = absurd is
-      one (RemoveFolder folder) is = absurd is
+      one (Replace edits) is = absurd is
       one (Print bytes) is = here
 
   view_makes : (es : List Effect) (rest : Text) → AllByRecursion (InView x) es → AllByRecursion (MakesNot (database_folder db ++ rest)) es
@@ -454,8 +432,7 @@ module _ (x db : Text) where
       one : (e : Effect) → InView x e → MakesNot (database_folder db ++ rest) e
       one (Write folder file bytes) is = ap (λ (f : Text). is_in (database_folder db ++ rest) (folder_path f)) is ∙ no_path (database_folder db ++ rest) (view_folder x) (λ e. heads [] (sym e ∙ sym (none_behind (database_folder db ++ rest)))) (λ r e. heads (47 ∷ r) e)
       one (Remove folder file) is = tt
-      one (MakeFolder folder) is = absurd is
-      one (RemoveFolder folder) is = absurd is
+      one (Replace edits) is = absurd is
       one (Print bytes) is = tt
 
 none_more : (xs : Text) → xs ++ [] ≡ xs

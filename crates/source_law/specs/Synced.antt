@@ -1,10 +1,10 @@
 -- What is saved of the sources at a sync, and what their folders then hold.
-use Rattle.std.specs.Prelude.{◌≡◌, true, false, List, [], ◌++◌, Some, Ok}
+use Rattle.std.specs.Prelude.{◌≡◌, true, false, List, [], ◌∷◌, ◌++◌, Some, Ok}
 use Rattle.std.specs.List.{list_all}
 use Rattle.std.specs.FinMap as map_of
 use Rattle.ss_text.specs.Texts.{Text, is_in}
 use Rattle.outside.specs.Tree.{Tree, files_of, subfolders_of}
-use Rattle.effects.specs.Effects.{Effect}
+use Rattle.effects.specs.Effects.{Effect, Replace}
 use Rattle.schema_model.specs.declared.pair.Pair.{Pair}
 use Rattle.schema_model.specs.Catalogue.{RelationValue, CatalogueValue, relation_of}
 use Rattle.csv_catalog.specs.Loaded.{loaded, database_folder, is_relation_file}
@@ -31,8 +31,9 @@ synced s before = record {
   databases = before.databases ++ s.changed.databases;
 }
 
+-- all of it at once
 abbrev pub saving : SessionState → List Effect
-saving s = saved s.catalogue s.changed.databases s.changed.relations
+saving s = Replace (saved s.catalogue s.changed.databases s.changed.relations) ∷ []
 
 -- the folder of a database held no files but those of relations, and no folder
 pub record HeldOnlyRelations (t : Tree) (db : Text) : Type 0 where

@@ -1,9 +1,11 @@
 -- The syncs of a view folder: what they do, and what is there after them.
-use Rattle.std.specs.Prelude.{◌≡◌, ◌≢◌, ℕ, ◌+◌, Bool, true, false, ◌||◌, is_some, List, ◌++◌, map, filter, length, option_map}
+use Rattle.std.specs.Prelude.{◌≡◌, ◌≢◌, ℕ, ◌+◌, Bool, true, false, ◌||◌, not, is_some, List, ◌++◌, map, filter, length, option_map}
 use Rattle.std.specs.Option.{option_map_or}
 use Rattle.std.specs.FinMap as map_of
 use Rattle.ss_text.specs.Texts.{Text, is_in}
 use Rattle.outside.specs.Tree.{Tree, Place, file_at}
+use Rattle.outside.specs.declared.edit.Edit.{Edit}
+use Rattle.outside.specs.declared.edit.Edit.TheVariants as edit
 use Rattle.effects.specs.Effects.{Effect, Write, Remove}
 use Rattle.flow_law.specs.declared.shape.Shape.{Shape}
 use Rattle.flow_law.specs.Tables.{TablesValue, table_of}
@@ -31,13 +33,27 @@ opening_count files names = length files + length (other_names files names)
 abbrev pub label_synced : Text → Shape → TablesValue → Text → Effect
 label_synced folder shape tables label = option_map_or (λ t. Write folder (file_name label) (table_text shape t)) (table_of tables label) (Remove folder (file_name label))
 
--- the later sync: that of each of these labels, in order
+-- of these labels first those that have a table, and then those that have none
+abbrev pub has_table : TablesValue → Text → Bool
+has_table tables label = is_some (table_of tables label)
+
+abbrev pub tables_first : TablesValue → List Text → List Text
+tables_first tables labels = filter (has_table tables) labels ++ filter (λ label. not (has_table tables label)) labels
+
+-- the later sync: that of each of these labels, one by one, and all that is written comes before all that is removed
 abbrev pub later_sync : Text → Shape → TablesValue → List Text → List Effect
-later_sync folder shape tables labels = map (label_synced folder shape tables) labels
+later_sync folder shape tables labels = map (label_synced folder shape tables) (tables_first tables labels)
+
+-- the same as edits that are made at once
+abbrev pub label_edit : Text → Shape → TablesValue → Text → Edit
+label_edit folder shape tables label = option_map_or (λ t. edit.Write folder (file_name label) (table_text shape t)) (table_of tables label) (edit.Remove folder (file_name label))
+
+abbrev pub later_edits : Text → Shape → TablesValue → List Text → List Edit
+later_edits folder shape tables labels = map (label_edit folder shape tables) (tables_first tables labels)
 
 -- whether the sync of a label writes a file, or removes one that is there
 abbrev pub is_counted : Text → TablesValue → Tree → Text → Bool
-is_counted folder tables t label = is_some (table_of tables label) || is_some (file_at t folder (file_name label))
+is_counted folder tables t label = has_table tables label || is_some (file_at t folder (file_name label))
 
 -- how many files the sync of distinct labels writes or removes
 abbrev pub later_count : Text → TablesValue → List Text → Tree → ℕ

@@ -23,7 +23,7 @@ pub use comparison::{Comparison, compare};
 pub use file::{File, folder_of_view};
 pub use held::{TablesFault, read_tables};
 pub use kept_file::kept_text;
-pub use later::sync;
+pub use later::{sync, sync_at_once};
 pub use law::table_records_read_back;
 pub use opening::{sync_all, sync_files};
 pub use table_file::{table_files, table_text};

@@ -3,6 +3,7 @@ ghost use Rattle.std.specs.Prelude.{◌≡◌, IfOk, option_map};
 ghost use Rattle.flow_law.specs.Tables.{TablesValue, table_of};
 ghost use Rattle.view_folder.specs.Files.{AreViewFiles};
 ghost use Rattle.view_folder.specs.TableFiles.{table_text, table_files, FitShape};
+ghost use Rattle.view_folder.specs.Sync.{has_table};
 
 use crate::File;
 use crate::fact_file::{fact_files, facts_of, facts_text};
@@ -19,6 +20,10 @@ pub trait TableTexts {
     /// The tables.
     ghost tables: { Self → TablesValue };
 
+    /// Whether a label has a table.
+    fn has_table(&self, alloc: Global, label: &Text) -> Result<bool, NoMemory>
+        ensures { IfOk result (λ has. has ≡ has_table (tables self.now) label.now) };
+
     /// The text of the file of a label's table, if there is one.
     fn text_of(&self, alloc: Global, shape: &Shape, label: &Text) -> Result<Option<Text>, NoMemory>
         requires { FitShape shape.now (tables self.now) }
@@ -33,6 +38,11 @@ pub trait TableTexts {
 
 impl TableTexts for Tables {
     ghost tables = { λ tables. tables };
+
+    #[tactic(auto, using(crate::proofs::LaterLemmas::copied_there))]
+    fn has_table(&self, _alloc: Global, label: &Text) -> Result<bool, NoMemory> {
+        Ok(self.table_of(label).is_some())
+    }
 
     #[tactic(auto, using(crate::proofs::LaterLemmas::fits_of))]
     fn text_of(
@@ -56,6 +66,11 @@ impl TableTexts for Tables {
 impl TableTexts for KeptTables {
     ghost tables = { λ kept. kept.tables };
 
+    #[tactic(auto, using(crate::proofs::LaterLemmas::mapped_there))]
+    fn has_table(&self, _alloc: Global, label: &Text) -> Result<bool, NoMemory> {
+        Ok(self.table_of(label).is_some())
+    }
+
     #[tactic(auto, using(crate::proofs::LaterLemmas::fits_of))]
     fn text_of(
         &self,
@@ -78,6 +93,12 @@ impl TableTexts for KeptTables {
 
 impl<C: FactCell> TableTexts for OrderedFacts<'_, C> {
     ghost tables = { λ tables. tables };
+
+    #[tactic(auto, using(crate::proofs::LaterLemmas::mapped_there))]
+    fn has_table(&self, alloc: Global, label: &Text) -> Result<bool, NoMemory> {
+        let tables = self.by_table(alloc)?;
+        Ok(facts_of(&tables, label).is_some())
+    }
 
     #[tactic(auto, using(crate::proofs::LaterLemmas::fits_of))]
     fn text_of(

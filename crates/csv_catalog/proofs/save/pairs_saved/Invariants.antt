@@ -1,7 +1,6 @@
 use Rattle.std.proofs.Common.{◌≡◌, take}
-use Rattle.effects.specs.Effects.{effects_of}
 use Rattle.csv_catalog.specs.Saved.{pairs_saved}
 use Rattle.csv_catalog.proofs.save.pairs_saved.Given as goal
 
 abbrev pub invariant-loop-pair : goal.invariant-loop-pair
-invariant-loop-pair l = effects_of l.edits.items ≡ pairs_saved l.catalogue.databases (take l.pair-index l.pairs)
+invariant-loop-pair l = l.edits.items ≡ pairs_saved l.catalogue.databases (take l.pair-index l.pairs)

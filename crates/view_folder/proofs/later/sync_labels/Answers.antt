@@ -33,6 +33,6 @@ loop-label-preserved g c =
 pub returns-clause-count : goal.returns-clause-count
 returns-clause-count g c =
     let old = g.F.Folders.state c.args.store.now in
-    λ t told ascends.
+    λ t told apart.
     let s : Stored = record { tree = t; writes = old.writes } in
-    counting_done c.args.folder.now c.args.shape.now (g.T.TableTexts.tables c.args.tables.now) c.args.labels.now s c.loop-label.label-index c.loop-label.count _ (omega arith) (c.loop-label.invariant.counting s (ap (λ o. stored_of o old.writes) told)) ascends
+    counting_done c.args.folder.now c.args.shape.now (g.T.TableTexts.tables c.args.tables.now) c.args.labels.now s c.loop-label.label-index c.loop-label.count _ (omega arith) (c.loop-label.invariant.counting s (ap (λ o. stored_of o old.writes) told)) apart
