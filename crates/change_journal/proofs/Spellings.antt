@@ -50,7 +50,7 @@ line_spelled line change clear e = by_row (unspell line) refl e
     by_row (Ok row) is e = by_read row is (change_of row) refl e
 
 -- the parts between LFs have none
-parts_clear : (bytes : List ℕ) → AllByRecursion (λ (line : List ℕ). has 10 line ≡ false) (parts_at 10 bytes)
+pub parts_clear : (bytes : List ℕ) → AllByRecursion (λ (line : List ℕ). has 10 line ≡ false) (parts_at 10 bytes)
 parts_clear [] = (refl, tt)
 parts_clear (b ∷ bytes) = by_byte (b == 10) refl (parts_at 10 bytes) (parts_clear bytes)
   where
@@ -60,7 +60,7 @@ parts_clear (b ∷ bytes) = by_byte (b == 10) refl (parts_at 10 bytes) (parts_cl
     by_byte false is [] clear = (rw is refl, tt)
     by_byte false is (part ∷ parts) clear = (rw (is, clear.0) refl, clear.1)
 
-lines_spelled : (lines : List (List ℕ)) (group : Group) → AllByRecursion (λ (line : List ℕ). has 10 line ≡ false) lines → said_by_lines lines ≡ Some group
+pub lines_spelled : (lines : List (List ℕ)) (group : Group) → AllByRecursion (λ (line : List ℕ). has 10 line ≡ false) lines → said_by_lines lines ≡ Some group
     → (lines ≡ map spelled group) × IsTrue (list_all is_well_formed group)
 lines_spelled [] [] clear e = (refl, refl)
 lines_spelled [] (change ∷ group) clear e = absurd (cc)
