@@ -1,5 +1,5 @@
 //! A view over a catalogue, and its changes.
-ghost use Rattle.std.specs.Prelude.{◌≡◌, ◌≢◌, ◌+◌, ◌≤◌, [], ◌∷◌, true, None, Err, IfOk, IfErr, OnOk, OnErr, IsTrue, is_some, option_map, length};
+ghost use Rattle.std.specs.Prelude.{◌≡◌, ◌≢◌, ◌+◌, ◌≤◌, [], ◌∷◌, true, None, Err, IfOk, IfErr, OnOk, OnErr, IsTrue, is_some, option_map, unwrap_or, length};
 ghost use Rattle.std.specs.List.{AllByRecursion};
 ghost use Rattle.std.specs.Option.{ForSome};
 ghost use Rattle.std.specs.List.Sorted.{IsStrictlySortedBy};
@@ -302,6 +302,67 @@ impl Session {
         }
     }
 
+    /// Proposes one change, where no group is open and nothing is proposed, and answers the lines by which the tables
+    /// change. All memory is taken. After each refusal the session is as before.
+    pub fn propose_change<L: Ledger>(
+        &mut self,
+        alloc: Global,
+        change: &Change,
+        steps: &mut Steps<L>,
+    ) -> Result<Script, Refused>
+        requires well_formed { IsTrue (is_well_formed change.now) }
+        requires idle { self.old.held ≡ None }
+        requires unproposed { self.old.proposed ≡ None }
+        ensures script { IfOk result (λ lines. lines ≡ lines_to self.old (after self.old.catalogue change.now)) }
+        ensures accepted { OnOk result (IsAccepted self.old change.now) }
+        ensures proposed { OnOk result (self.new ≡ proposing self.old (change.now ∷ [])) }
+        ensures refused { IfErr result (λ e. IsRefused self.old change.now e) }
+        ensures same { OnErr result (self.new ≡ self.old) }
+        ensures within { result ≢ Err Refused.NoMemory → ForSome (limit_of self.old change.now) (λ n. steps.new ≤ steps.old + n) }
+        ensures rises { steps.old ≤ steps.new }
+    {
+        let (waiting, script) = propose_one(
+            alloc,
+            &mut self.catalogue,
+            &mut self.upkeep,
+            &mut self.changed,
+            change,
+            steps,
+        )?;
+        self.waits = Waits::Proposed(waiting);
+        Ok(script)
+    }
+
+    /// Proposes the changes of the open group, all at once, and answers the lines by which the tables change. All memory is
+    /// taken. The group is closed, and after each refusal the rest of the session is as before.
+    pub fn propose_group<L: Ledger>(
+        &mut self,
+        alloc: Global,
+        steps: &mut Steps<L>,
+    ) -> Result<Script, GroupStop>
+        requires { is_some self.old.held ≡ true }
+        ensures script { IfOk result (λ lines. lines ≡ lines_to self.old (working self.old)) }
+        ensures allowed { OnOk result (refusal (working self.old) self.old.query ≡ None) }
+        ensures proposed { OnOk result (self.new ≡ proposing (closed self.old) (unwrap_or self.old.held [])) }
+        ensures refused { IfErr result (λ e. IsGroupStop (refusal (working self.old) self.old.query) e) }
+        ensures closed { OnErr result (self.new ≡ closed self.old) }
+        ensures rises { steps.old ≤ steps.new }
+    {
+        let Some(group) = mem::replace(&mut self.waits, Waits::Nothing).into_group() else {
+            unreachable!()
+        };
+        let (waiting, script) = propose_group(
+            alloc,
+            &mut self.catalogue,
+            &mut self.upkeep,
+            &mut self.changed,
+            group,
+            steps,
+        )?;
+        self.waits = Waits::Proposed(waiting);
+        Ok(script)
+    }
+
     /// Makes the changes that are proposed. It takes no memory.
     pub fn accept(&mut self)
         requires { is_some self.old.proposed ≡ true }
@@ -330,6 +391,17 @@ impl Session {
         match &self.waits {
             Waits::Open(group) => Some(group.count()),
             Waits::Nothing | Waits::Proposed(_) => None,
+        }
+    }
+
+    /// The changes that the open group holds, in order, and none where no group is open.
+    pub fn held_changes(&self) -> &[Change]
+        ensures changes { result.now ≡ unwrap_or self.now.held [] }
+        ensures well_formed { AllByRecursion (λ g. IsTrue (is_well_formed g)) result.now }
+    {
+        match &self.waits {
+            Waits::Open(group) => group.changes(),
+            Waits::Nothing | Waits::Proposed(_) => &[],
         }
     }
 
