@@ -5,3 +5,5 @@ pub mod LinesLemmas
 pub mod ScriptLemmas
 pub mod StandsLemmas
 pub mod LawLemmas
+pub mod PutLemmas
+pub mod SlotLemmas

@@ -67,7 +67,7 @@ pub weigh_agree : {X : Type 0} (f g : X → ℕ) (xs : List X) → AllByRecursio
 weigh_agree f g [] h = refl
 weigh_agree f g (x ∷ xs) h = let a = h.0 in let rest = weigh_agree f g xs h.1 in omega (arith, a, rest)
 
-abbrev mark : Bool → ℕ
+abbrev pub mark : Bool → ℕ
 mark true = 1
 mark false = 0
 
@@ -79,7 +79,7 @@ some_marked p (x ∷ xs) h = by_first (p x) refl (some_marked p xs)
     by_first true e rest = rw e (omega arith)
     by_first false e rest = let here : mark (p x) ≡ 0 = ap mark e in let behind = rest (sym (ap (λ (b : Bool). b || list_any p xs) e) ∙ h) in omega (arith, here, behind)
 
-none_marked : {X : Type 0} (p : X → Bool) (xs : List X) → list_any p xs ≡ false → weigh (λ x. mark (p x)) xs ≡ 0
+pub none_marked : {X : Type 0} (p : X → Bool) (xs : List X) → list_any p xs ≡ false → weigh (λ x. mark (p x)) xs ≡ 0
 none_marked p [] h = refl
 none_marked p (x ∷ xs) h = by_first (p x) refl (none_marked p xs)
   where

@@ -1,5 +1,5 @@
 -- A relation that says what a table says is the table's, up to the order of rows and attributes.
-use Rattle.std.proofs.Common.{◌≡◌, ◌+◌, ◌∙◌, ◌<◌, ℕ, zero, suc, Bool, true, false, cond, ◌||◌, not, List, [], ◌∷◌, ◌++◌, Option, Some, None, length, map, take, drop, refl, sym, ap, arith}
+use Rattle.std.proofs.Common.{◌≡◌, ◌+◌, ◌∙◌, ◌<◌, ◌≤◌, ℕ, zero, suc, Bool, true, false, cond, ◌||◌, not, List, [], ◌∷◌, ◌++◌, Option, Some, None, length, map, take, drop, refl, sym, ap, arith, length-append}
 use Rattle.std.specs.Prelude.{unwrap_or, slice_get, option_and_then, position, is_some, nat_lt, sum_by, bytes_eq}
 use Rattle.std.specs.List.{list_any, position_or_len, AllByRecursion, IsDistinct}
 use Rattle.std.specs.List.Sorted.{IsStrictlySortedBy}
@@ -8,14 +8,14 @@ use Rattle.std.specs.Ordering.{is_eq}
 use Rattle.std.specs.declared.cmp.Ordering.TheVariants.{Less}
 use Rattle.std.proofs.lemmas.Bool.{lt-ltb, ltb-true}
 use Rattle.std.proofs.lemmas.List.Sums.{sum_by-cons}
-use Rattle.ss_text.specs.Texts.{Text, Row, text_eq, row_eq, row_cmp, is_in}
+use Rattle.ss_text.specs.Texts.{Text, Row, text_eq, row_eq, text_cmp, row_cmp, is_in}
 use Rattle.ss_text.specs.Label.{is_column_label}
 use Rattle.ss_text.proofs.KeyLemmas.{text_order, row_order}
 use Rattle.ss_text.proofs.PairLemmas.{turned}
 use Rattle.flow_law.specs.declared.shape.Shape.{Shape}
 use Rattle.flow_law.specs.Tables.{TableValue, TablesValue, cell_in, row_keys}
 use Rattle.flow_law.specs.InOrder.{IsTable, AreTables}
-use Rattle.change_script.specs.Fits.{TableFits, TablesFit}
+use Rattle.change_script.specs.Fits.{IsForm, TableFits, TablesFit}
 use Rattle.schema_model.specs.Catalogue.{RelationValue, CatalogueValue, database_value}
 use Rattle.schema_model.specs.Sound.{IsRelation, IsSound}
 use Rattle.valuation_meaning.specs.Elements.{cell_under}
@@ -23,7 +23,7 @@ use Rattle.valuation_meaning.specs.Meaning.{given}
 use Rattle.valuation_meaning.specs.Orders.{text_under, row_under, rows_under, SameRelation, SameRelations}
 use Rattle.view_stack.specs.Records.{text_of}
 use Rattle.view_stack.specs.Stands.{spliced, header, relation_for, stands}
-use Rattle.view_stack.proofs.SaysLemmas.{weigh, weigh_append, weigh_mapped, Distinct, Says, rows_by, says_by, cell_here, cell_later, cell_missing, bytes_same, same_rows, halves, in_append, and_second, not_true}
+use Rattle.view_stack.proofs.SaysLemmas.{mark, none_marked, weigh, weigh_append, weigh_mapped, Distinct, Says, rows_by, says_by, cell_here, cell_later, cell_missing, bytes_same, same_bytes, same_rows, halves, in_append, and_second, not_true}
 use Rattle.view_stack.proofs.MovedLemmas.{AreSaid, whole}
 
 -- ---- texts under names are cells
@@ -250,7 +250,7 @@ module _ (shape : Shape) (label : Text) (t : TableValue) (table : IsTable t) (fi
   records_say names [] h l m = refl
   records_say names (x ∷ rows) h l m = λ i. map (λ name. record_text x name h.0 l.0 m.0 i) names ∷ records_say names rows h.1 l.1 m.1 i
 
-  records_fit : (rows : List (Row × Row)) → AllByRecursion (λ (x : Row × Row). length x.0 ≡ length shape.constants) rows → AllByRecursion (λ (x : Row × Row). length x.1 ≡ length t.columns) rows
+  pub records_fit : (rows : List (Row × Row)) → AllByRecursion (λ (x : Row × Row). length x.0 ≡ length shape.constants) rows → AllByRecursion (λ (x : Row × Row). length x.1 ≡ length t.columns) rows
       → AllByRecursion (λ (row : Row). length row ≡ length (header shape t)) (map (λ (x : Row × Row). spliced shape.spot x.0 x.1) rows)
   records_fit [] l m = tt
   records_fit (x ∷ rows) l m = (spliced_long shape.spot x.0 shape.constants x.1 t.columns l.0 m.0, records_fit rows l.1 m.1)
@@ -283,7 +283,19 @@ module _ (shape : Shape) (label : Text) (t : TableValue) (table : IsTable t) (fi
     table = table;
   }
 
--- ---- the catalogue of tables
+-- ---- the header of a table
+splice_long : (spot : Option ℕ) (constants columns : Row) → (spot ≡ None → columns ≡ []) → length (spliced spot constants columns) ≡ length constants + length columns
+splice_long None constants columns none = let gone : length columns ≡ 0 = ap length (none refl) in omega (arith, gone)
+splice_long (Some n) constants columns none =
+    let a = length-append (take n constants ++ columns) (drop n constants) in
+    let b = length-append (take n constants) columns in
+    let c = length-append (take n constants) (drop n constants) in
+    let d : length (take n constants ++ drop n constants) ≡ length constants = ap length (halves n constants) in
+    omega (arith, a, b, c, d)
+
+pub header_long : (shape : Shape) (label : Text) (t : TableValue) → TableFits shape label t → length (header shape t) ≡ length shape.constants + length t.columns
+header_long shape label t fits = splice_long shape.spot shape.constants t.columns (no_columns shape t.columns fits.spot)
+
 pub are_distinct : (ns : Row) → IsDistinct bytes_eq ns → Distinct ns
 unfolding IsDistinct
 are_distinct [] d = tt
@@ -293,6 +305,65 @@ are_distinct (n ∷ ns) d = (first ns d.0, are_distinct ns d.1)
     first [] h = refl
     first (x ∷ xs) h = rw h.0 (first xs h.1)
 
+-- how often a name stands among names
+abbrev times : Text → Row → ℕ
+times name ns = weigh (λ x. mark (text_eq name x)) ns
+
+never : (name : Text) (ns : Row) → is_in name ns ≡ false → times name ns ≡ 0
+never name ns h = none_marked (text_eq name) ns h
+
+once : (ns : Row) → Distinct ns → (name : Text) → times name ns ≤ 1
+once [] d name = omega arith
+once (n ∷ ns) d name = by_name (text_eq name n) refl (once ns d.1 name)
+  where
+    by_name : (b : Bool) → text_eq name n ≡ b → times name ns ≤ 1 → mark (text_eq name n) + times name ns ≤ 1
+    by_name true e rest = let none = never name ns (ap (λ (x : Text). is_in x ns) (bytes_same name n e) ∙ d.0) in rw e (omega (arith, none))
+    by_name false e rest = rw e (omega (arith, rest))
+
+no_other : (name : Text) (ns : Row) → times name ns ≡ 0 → AllByRecursion (λ y. bytes_eq name y ≡ false) ns
+no_other name [] h = tt
+no_other name (n ∷ ns) h = by_name (text_eq name n) refl (no_other name ns)
+  where
+    by_name : (b : Bool) → text_eq name n ≡ b → (times name ns ≡ 0 → AllByRecursion (λ y. bytes_eq name y ≡ false) ns) → (bytes_eq name n ≡ false) × AllByRecursion (λ y. bytes_eq name y ≡ false) ns
+    by_name true e rest = let here : mark (text_eq name n) ≡ 1 = ap mark e in absurd (omega (arith, h, here))
+    by_name false e rest = let here : mark (text_eq name n) ≡ 0 = ap mark e in (e, rest (omega (arith, h, here)))
+
+once_distinct : (ns : Row) → ((name : Text) → times name ns ≤ 1) → IsDistinct bytes_eq ns
+unfolding IsDistinct
+once_distinct [] h = tt
+once_distinct (n ∷ ns) h =
+    let here : mark (text_eq n n) ≡ 1 = ap mark (same_bytes n) in
+    let own = h n in
+    (no_other n ns (omega (arith, here, own)), once_distinct ns (λ name. let both = h name in omega (arith, both)))
+
+ascending_columns : (columns : Row) → IsStrictlySortedBy text_cmp columns → Distinct columns
+unfolding IsStrictlySortedBy
+ascending_columns [] sorted = tt
+ascending_columns (c ∷ cs) sorted = (first cs sorted.0, ascending_columns cs sorted.1)
+  where
+    first : (xs : Row) → AllByRecursion (λ y. text_cmp c y ≡ Less) xs → is_in c xs ≡ false
+    first [] h = refl
+    first (x ∷ xs) h = rw (text_order.ties c x ∙ ap is_eq h.0, first xs h.1) refl
+
+pub header_distinct : (shape : Shape) (label : Text) (t : TableValue) → IsTable t → TableFits shape label t → IsForm shape → IsDistinct bytes_eq (header shape t)
+header_distinct shape label t table fits form = once_distinct (header shape t) (λ name. by_in name (is_in name shape.constants) refl)
+  where
+    both : (name : Text) → times name (header shape t) ≡ times name shape.constants + times name t.columns
+    both name = weigh_spliced shape.spot shape.constants t.columns (λ x. mark (text_eq name x)) (no_columns shape t.columns fits.spot)
+
+    by_in : (name : Text) (b : Bool) → is_in name shape.constants ≡ b → times name (header shape t) ≤ 1
+    by_in name true e =
+        let n = both name in
+        let a = once shape.constants (are_distinct shape.constants form.distinct) name in
+        let c = never name t.columns (columns_apart shape.constants t.columns (columns_dynamic shape.constants t.columns fits.columns) name e) in
+        omega (arith, n, a, c)
+    by_in name false e =
+        let n = both name in
+        let a = never name shape.constants e in
+        let c = once t.columns (ascending_columns t.columns table.columns) name in
+        omega (arith, n, a, c)
+
+-- ---- the catalogue of tables
 module _ (shape : Shape) (db : Text) where
   all_said : (rs : List RelationValue) (ts : TablesValue) → AllByRecursion (λ (p : Text × TableValue). IsTable p.1) ts → TablesFit shape ts → AllByRecursion IsRelation rs → SameRelations rs (map (relation_for shape) ts) → AreSaid shape.constants rs ts
   all_said [] [] tables fit sound same = tt

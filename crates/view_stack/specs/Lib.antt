@@ -1,4 +1,6 @@
 pub mod Stands
+pub mod Limits
+pub mod Putting
 pub mod Records
 pub mod Lifted
 pub mod Laws

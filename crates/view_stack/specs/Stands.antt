@@ -3,7 +3,7 @@ use Rattle.std.specs.Prelude.{ℕ, List, [], ◌∷◌, ◌++◌, map, take, dro
 use Rattle.ss_text.specs.Texts.{Text, Row}
 use Rattle.flow_law.specs.declared.shape.Shape.{Shape}
 use Rattle.flow_law.specs.Tables.{TableValue, TablesValue}
-use Rattle.schema_model.specs.Catalogue.{RelationValue, CatalogueValue, relation_value, database_value}
+use Rattle.schema_model.specs.Catalogue.{RelationValue, DatabaseValue, CatalogueValue, relation_value, database_value}
 use Rattle.valuation_meaning.specs.Orders.{DifferInOrder}
 
 -- a record: the constant columns' part, with the dynamic columns' part behind as many of them as the spot says
@@ -14,15 +14,18 @@ spliced (Some spot) constant dynamic = take spot constant ++ dynamic ++ drop spo
 abbrev pub header : Shape → TableValue → Row
 header shape t = spliced shape.spot shape.constants t.columns
 
-abbrev pub records : Shape → TableValue → List Row
-records shape t = map (λ (r : Row × Row). spliced shape.spot r.0 r.1) t.rows
+abbrev pub records_of : Option ℕ → List (Row × Row) → List Row
+records_of spot rows = map (λ (r : Row × Row). spliced spot r.0 r.1) rows
 
 -- a relation for each table, and one database of them
 abbrev pub relation_for : Shape → Text × TableValue → RelationValue
-relation_for shape p = relation_value p.0 (header shape p.1) (records shape p.1)
+relation_for shape p = relation_value p.0 (header shape p.1) (records_of shape.spot p.1.rows)
+
+abbrev pub database_for : Text → Shape → TablesValue → DatabaseValue
+database_for db shape ts = database_value db (map (relation_for shape) ts)
 
 abbrev pub catalogue_for : Text → Shape → TablesValue → CatalogueValue
-catalogue_for db shape ts = database_value db (map (relation_for shape) ts) ∷ []
+catalogue_for db shape ts = database_for db shape ts ∷ []
 
 -- a catalogue stands for tables: it is theirs, up to the order of attributes and rows
 abbrev pub stands : Text → Shape → TablesValue → CatalogueValue → Type 0
