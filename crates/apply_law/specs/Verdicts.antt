@@ -12,6 +12,8 @@ use Rattle.flow_law.specs.Tables.{TablesValue}
 use Rattle.flow_law.specs.declared.line.TableLine.{TableLine}
 use Rattle.flow_law.specs.declared.refused.IllegalLabel.{IllegalLabel}
 use Rattle.flow_law.specs.declared.refused.Clash.{Clash}
+use Rattle.flow_law.specs.declared.refused.EvalFault.{EvalFault}
+use Rattle.flow_law.specs.declared.refused.EvalFault.TheVariants as eval
 use Rattle.apply_law.specs.declared.refused.GroupRefused.{GroupRefused}
 use Rattle.apply_law.specs.declared.refused.GroupRefused.TheVariants as refused
 
@@ -39,6 +41,12 @@ first_fault_from place c (g ∷ gs) = option_or (option_map (λ (r : Refusal). (
 
 abbrev pub first_fault : CatalogueValue → List Change → Option (ℕ × Refusal)
 first_fault c gs = first_fault_from 0 c gs
+
+-- changes are refused so where there are no tables over the catalogue after them
+abbrev pub all_refused : EvalFault → GroupRefused
+all_refused (eval.Illegal label) = refused.Illegal label
+all_refused (eval.Conflict clash) = refused.Conflict clash
+all_refused eval.NoMemory = refused.NoMemory
 
 -- changes of a catalogue are refused so: by the first that is refused, or else by the verdict over the catalogue after them, or there was no memory
 abbrev pub IsGroupRefused : (CatalogueValue → Verdict) → CatalogueValue → List Change → GroupRefused → Type 0

@@ -69,7 +69,8 @@ pub trait Applies {
         ensures same { state self.new ≡ state self.old }
         ensures proposes { OnOk result (waits self.new ≡ Proposes changes.now) }
         ensures idle { OnErr result (waits self.new ≡ Idle) }
-        ensures within { (g : ChangeValue) → changes.now ≡ g ∷ [] → result ≢ Err GroupRefused.NoMemory → ForSome ((state self.old).limit (state self.old).catalogue g) (λ n. steps.new ≤ steps.old + n) }
+        ensures within { (g : ChangeValue) → changes.now ≡ g ∷ [] → result ≢ Err GroupRefused.NoMemory
+            → ForSome ((state self.old).limit (state self.old).catalogue g) (λ n. steps.new ≤ steps.old + n) }
         ensures rises { steps.old ≤ steps.new };
 
     /// Makes what is proposed the state. It takes no memory.

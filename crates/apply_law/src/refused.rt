@@ -1,7 +1,7 @@
 //! Why changes are refused.
 ghost use Rattle.std.specs.Prelude.{◌≡◌};
 
-use flow_law::{Clash, IllegalLabel};
+use flow_law::{Clash, EvalFault, IllegalLabel};
 use schema_model::Refusal;
 use ss_text::NoMemory;
 
@@ -24,5 +24,19 @@ impl From<NoMemory> for GroupRefused {
 
     fn from(_: NoMemory) -> Self {
         GroupRefused::NoMemory
+    }
+}
+
+impl From<EvalFault> for GroupRefused {
+    ghost use Rattle.apply_law.specs.Verdicts.{all_refused};
+
+    ghost from_gives = { λ fault refused. refused ≡ all_refused fault };
+
+    fn from(fault: EvalFault) -> Self {
+        match fault {
+            EvalFault::Illegal(label) => GroupRefused::Illegal(label),
+            EvalFault::Conflict(clash) => GroupRefused::Conflict(clash),
+            EvalFault::NoMemory => GroupRefused::NoMemory,
+        }
     }
 }

@@ -32,7 +32,8 @@ pub fn save_changed<F: Folders>(
     pairs: &[Pair],
 ) -> Result<(), Stop>
     ensures performs { Performs (Replace (saved catalogue.now.databases databases.now pairs.now) ∷ []) (F.state store.old) (F.state store.new) result }
-    ensures holds { IfOk result (λ _. (t u : Tree) → (F.state store.old).tree ≡ Some t → (F.state store.new).tree ≡ Some u → list_all is_table_label databases.now ≡ true → HoldsSaved catalogue.now.databases databases.now pairs.now t u) }
+    ensures holds { IfOk result (λ _. (t u : Tree) → (F.state store.old).tree ≡ Some t → (F.state store.new).tree ≡ Some u → list_all is_table_label databases.now ≡ true
+        → HoldsSaved catalogue.now.databases databases.now pairs.now t u) }
 {
     save_at_once(alloc, store, catalogue, databases, pairs)?;
     Ok(())

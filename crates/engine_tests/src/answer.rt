@@ -2,7 +2,7 @@
 //! lines by commas.
 
 use change_script::{Script, script_lines};
-use flow_law::{Clash, IllegalLabel, Stop, TableLine};
+use flow_law::{Clash, EvalFault, IllegalLabel, TableLine};
 use ss_text::{NoMemory, Row, Text};
 use std::alloc::Global;
 
@@ -68,22 +68,22 @@ fn put_clash(cells: &mut Vec<Text>, clash: Clash) -> Result<(), NoMemory> {
 }
 
 // The fields of a refusal.
-fn put_stop(alloc: Global, cells: &mut Vec<Text>, stop: Stop) -> Result<(), NoMemory> {
+fn put_stop(alloc: Global, cells: &mut Vec<Text>, stop: EvalFault) -> Result<(), NoMemory> {
     match stop {
-        Stop::Illegal(label) => {
+        EvalFault::Illegal(label) => {
             cells.push(Text::of(alloc, b"illegal-label")?)?;
             put_label(cells, label)
         }
-        Stop::Conflict(clash) => {
+        EvalFault::Conflict(clash) => {
             cells.push(Text::of(alloc, b"conflict")?)?;
             put_clash(cells, clash)
         }
-        Stop::NoMemory => Err(NoMemory),
+        EvalFault::NoMemory => Err(NoMemory),
     }
 }
 
 /// A refusal; want of memory is no text.
-pub fn stop_text(alloc: Global, stop: Stop) -> Result<Text, NoMemory> {
+pub fn stop_text(alloc: Global, stop: EvalFault) -> Result<Text, NoMemory> {
     let mut cells = Vec::new(alloc);
     put_stop(alloc, &mut cells, stop)?;
     let row = Row::of(cells);

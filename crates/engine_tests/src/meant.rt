@@ -7,14 +7,14 @@ ghost use Rattle.view_def.specs.Profile.{IsViewOfProfile};
 use crate::building::{boxed, make, make_all, opened, typed};
 use crate::chance::Chance;
 use crate::same::are_same;
-use flow_law::Tables;
+use flow_law::{EvalFault, Tables};
 use schema_model::{Catalogue, Change, ChangeFault};
 use ss_text::{NoMemory, Steps};
 use std::alloc::Global;
 use std::marker::Brand;
 use std::sync::ledger::{Blank, Ledger};
 use std::test::Fail;
-use valuation_meaning::{EvalFault, evaluate};
+use valuation_meaning::evaluate;
 use view_def::View;
 use view_session::{Refused, Session};
 

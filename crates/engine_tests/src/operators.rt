@@ -1,7 +1,7 @@
 //! Two signed rows through each operator, by hand.
 ghost use Rattle.std.specs.Prelude.{◌≡◌, ◌<◌, IfOk, All, length};
 
-use flow_law::Stop;
+use flow_law::EvalFault;
 use operator_law::{Delta, Operator, Signed};
 use other_operators::{Project, Select, Side, Then};
 use ss_text::{NoMemory, Row, Steps, Text};
@@ -57,7 +57,7 @@ fn show(delta: &Delta, out: &mut Vec<u8>) -> Result<(), NoMemory> {
     Ok(())
 }
 
-fn second_then_differing<L: Ledger>(alloc: Global, blank: Blank) -> Result<Delta, Stop>
+fn second_then_differing<L: Ledger>(alloc: Global, blank: Blank) -> Result<Delta, EvalFault>
     requires name { blank.name ≡ L.name }
     requires parts { blank.parts ≡ L.parts }
     requires some { 0 < L.parts }
@@ -77,7 +77,7 @@ fn second_then_differing<L: Ledger>(alloc: Global, blank: Blank) -> Result<Delta
     Ok(out)
 }
 
-fn equal_beside_first<L: Ledger>(alloc: Global, blank: Blank) -> Result<(Delta, Delta), Stop>
+fn equal_beside_first<L: Ledger>(alloc: Global, blank: Blank) -> Result<(Delta, Delta), EvalFault>
     requires name { blank.name ≡ L.name }
     requires parts { blank.parts ≡ L.parts }
     requires some { 0 < L.parts }
@@ -99,11 +99,11 @@ fn equal_beside_first<L: Ledger>(alloc: Global, blank: Blank) -> Result<(Delta, 
     Ok(out)
 }
 
-fn one_after_the_other(alloc: Global) -> Result<Delta, Stop> {
+fn one_after_the_other(alloc: Global) -> Result<Delta, EvalFault> {
     second_then_differing::<Brand>(alloc, Blank::new(1))
 }
 
-fn side_by_side(alloc: Global) -> Result<(Delta, Delta), Stop> {
+fn side_by_side(alloc: Global) -> Result<(Delta, Delta), EvalFault> {
     equal_beside_first::<Brand>(alloc, Blank::new(1))
 }
 
@@ -117,7 +117,7 @@ fn written(alloc: Global, through: &Delta, beside: &(Delta, Delta)) -> Result<Ve
     Ok(out)
 }
 
-fn shown(alloc: Global) -> Result<Vec<u8>, Stop> {
+fn shown(alloc: Global) -> Result<Vec<u8>, EvalFault> {
     let through = one_after_the_other(alloc)?;
     let beside = side_by_side(alloc)?;
     let out = written(alloc, &through, &beside)?;

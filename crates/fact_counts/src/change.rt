@@ -9,7 +9,7 @@ ghost use Rattle.fact_counts.specs.Stopped.{StopsFor};
 
 use crate::lines::net_lines;
 use crate::{FactCounts, Nets};
-use flow_law::{Stop, TableLine};
+use flow_law::{EvalFault, TableLine};
 use ss_text::{Row, Text};
 use std::alloc::Global;
 
@@ -20,12 +20,14 @@ pub fn prepare(
     constants: &Row,
     counts: &FactCounts,
     nets: &Nets,
-) -> Result<Vec<TableLine>, Stop>
+) -> Result<Vec<TableLine>, EvalFault>
     requires { (ms : List (Move Fact)) × (old : List Fact) × (new : List Fact) × IsChange counts.now nets.now label.now constants.now ms old new }
     ensures legal { IfOk result (λ lines. (ms : List (Move Fact)) (old new : List Fact) → IsChange counts.now nets.now label.now constants.now ms old new → illegal_column constants.now new ≡ None) }
     ensures clean { IfOk result (λ lines. (ms : List (Move Fact)) (old new : List Fact) → IsChange counts.now nets.now label.now constants.now ms old new → conflict new ≡ None) }
-    ensures lines { IfOk result (λ lines. (ms : List (Move Fact)) (old new : List Fact) → IsChange counts.now nets.now label.now constants.now ms old new → lines.items ≡ lines_between label.now (fact_table old) (fact_table new)) }
-    ensures stops { IfErr result (λ s. (ms : List (Move Fact)) (old new : List Fact) → IsChange counts.now nets.now label.now constants.now ms old new → StopsFor (illegal_column constants.now new) (conflict new) s) }
+    ensures lines { IfOk result (λ lines. (ms : List (Move Fact)) (old new : List Fact) → IsChange counts.now nets.now label.now constants.now ms old new
+        → lines.items ≡ lines_between label.now (fact_table old) (fact_table new)) }
+    ensures stops { IfErr result (λ s. (ms : List (Move Fact)) (old new : List Fact) → IsChange counts.now nets.now label.now constants.now ms old new
+        → StopsFor (illegal_column constants.now new) (conflict new) s) }
 {
     match net_lines(alloc, label, constants, counts, nets) {
         Ok(lines) => Ok(lines),

@@ -66,7 +66,8 @@ impl FactCounts {
     // Counts a fact with a column and a value. An empty value is not kept.
     fn count_cell(&mut self, key: Row, column: Text, value: Text) -> Result<(), NoMemory>
         requires { (label : TextValue) × (fs : List Fact) × CanCount self.old (record { label = label; key = key; cell = Some (column, value) }) fs }
-        ensures { OnOk result ((label : TextValue) (fs : List Fact) → CanCount self.old (record { label = label; key = key; cell = Some (column, value) }) fs → Stands self.new (record { label = label; key = key; cell = Some (column, value) } ∷ fs)) }
+        ensures { OnOk result ((label : TextValue) (fs : List Fact) → CanCount self.old (record { label = label; key = key; cell = Some (column, value) }) fs
+            → Stands self.new (record { label = label; key = key; cell = Some (column, value) } ∷ fs)) }
     {
         if value.as_slice().is_empty() {
             count_owned(&mut self.keys, key)?;
@@ -83,7 +84,8 @@ impl FactCounts {
     /// are counted and does not conflict with them. After `NoMemory` the counts stand for no facts.
     pub fn count(&mut self, key: Row, cell: Option<(Text, Text)>) -> Result<(), NoMemory>
         requires { (label : TextValue) × (fs : List Fact) × CanCount self.old (record { label = label; key = key; cell = cell }) fs }
-        ensures { OnOk result ((label : TextValue) (fs : List Fact) → CanCount self.old (record { label = label; key = key; cell = cell }) fs → Stands self.new (record { label = label; key = key; cell = cell } ∷ fs)) }
+        ensures { OnOk result ((label : TextValue) (fs : List Fact) → CanCount self.old (record { label = label; key = key; cell = cell }) fs
+            → Stands self.new (record { label = label; key = key; cell = cell } ∷ fs)) }
     {
         match cell {
             None => count_owned(&mut self.keys, key)?,

@@ -12,7 +12,7 @@ ghost use Rattle.fact_counts.specs.Stopped.{StopsFor};
 use crate::values::{first_clash, places, present, touched, value_among, value_held};
 use crate::{FactCounts, Nets};
 use counts::count_of;
-use flow_law::{Clash, IllegalLabel, Stop, TableLine};
+use flow_law::{Clash, EvalFault, IllegalLabel, TableLine};
 use ss_text::{NoMemory, Row, Text, column_label_legal};
 use std::alloc::Global;
 
@@ -141,7 +141,8 @@ pub(crate) fn push_cells(
 ) -> Result<(), NoMemory>
     requires moves { CanMoveAll counts.now nets.now }
     requires ascend { IsStrictlySortedBy place_cmp (map (λ e. e.0) present.now) }
-    ensures { OnOk result (lines.new.items ≡ lines.old.items ++ filter_map (place_line label.now (now counts.now nets.now).keys (now counts.now nets.now).columns (value_held counts.now.cells) (value_among present.now)) places.now) }
+    ensures { OnOk result (lines.new.items ≡ lines.old.items
+        ++ filter_map (place_line label.now (now counts.now nets.now).keys (now counts.now nets.now).columns (value_held counts.now.cells) (value_among present.now)) places.now) }
 {
     for place in places {
         let line = place_line(alloc, label, counts, nets, present, place)?;
@@ -199,7 +200,8 @@ fn lines_of(
 ) -> Result<Vec<TableLine>, NoMemory>
     requires moves { CanMoveAll counts.now nets.now }
     requires ascend { IsStrictlySortedBy place_cmp (map (λ e. e.0) present.now) }
-    ensures { IfOk result (λ lines. lines.items ≡ outer_lines label.now (before counts.now) (now counts.now nets.now) nets.now.keys.named.items nets.now.columns.named.items ++ filter_map (place_line label.now (now counts.now nets.now).keys (now counts.now nets.now).columns (value_held counts.now.cells) (value_among present.now)) places.now) }
+    ensures { IfOk result (λ lines. lines.items ≡ outer_lines label.now (before counts.now) (now counts.now nets.now) nets.now.keys.named.items nets.now.columns.named.items
+        ++ filter_map (place_line label.now (now counts.now nets.now).keys (now counts.now nets.now).columns (value_held counts.now.cells) (value_among present.now)) places.now) }
 {
     let mut lines = outer_lines(alloc, label, counts, nets)?;
     push_cells(alloc, &mut lines, label, counts, nets, present, places)?;
@@ -271,18 +273,19 @@ pub fn net_lines(
     constants: &Row,
     counts: &FactCounts,
     nets: &Nets,
-) -> Result<Vec<TableLine>, Stop>
+) -> Result<Vec<TableLine>, EvalFault>
     requires { CanMoveAll counts.now nets.now }
     ensures legal { IfOk result (λ lines. first_illegal label.now constants.now (filter (goes (now counts.now nets.now).columns (before counts.now).columns) nets.now.columns.named.items) ≡ None) }
     ensures none { IfOk result (λ lines. first_clash label.now (present_of counts.now nets.now) ≡ None) }
     ensures ok { IfOk result (λ lines. lines.items ≡ net_lines label.now counts.now nets.now) }
-    ensures err { IfErr result (λ s. StopsFor (first_illegal label.now constants.now (filter (goes (now counts.now nets.now).columns (before counts.now).columns) nets.now.columns.named.items)) (first_clash label.now (present_of counts.now nets.now)) s) }
+    ensures err { IfErr result (λ s. StopsFor (first_illegal label.now constants.now (filter (goes (now counts.now nets.now).columns (before counts.now).columns) nets.now.columns.named.items))
+        (first_clash label.now (present_of counts.now nets.now)) s) }
 {
     if let Some(found) = first_illegal(alloc, label, constants, counts, nets)? {
-        return Err(Stop::Illegal(found));
+        return Err(EvalFault::Illegal(found));
     }
     match clash_or_lines(alloc, label, counts, nets)? {
         Ok(lines) => Ok(lines),
-        Err(clash) => Err(Stop::Conflict(clash)),
+        Err(clash) => Err(EvalFault::Conflict(clash)),
     }
 }

@@ -164,7 +164,8 @@ pub fn reserve(alloc: Global, counts: &mut FactCounts, nets: &Nets) -> Result<Ne
 /// Moves what was made ready in. This takes no memory and cannot fail.
 pub fn commit(counts: &mut FactCounts, ready: NewCounts)
     requires { HasRoom counts.old ready }
-    ensures { (n : Nets) (label : Text) (constants : Row) (ms : List (Move Fact)) (old new : List Fact) → IsChange counts.old n label constants ms old new → conflict new ≡ None → IsReady counts.old n ready → Stands counts.new new }
+    ensures { (n : Nets) (label : Text) (constants : Row) (ms : List (Move Fact)) (old new : List Fact) → IsChange counts.old n label constants ms old new → conflict new ≡ None
+        → IsReady counts.old n ready → Stands counts.new new }
 {
     let NewCounts {
         keys,

@@ -14,13 +14,13 @@ use Rattle.ss_text.proofs.SetLemmas.{SameElements, ascending_of_same}
 use Rattle.flow_law.specs.declared.shape.Shape.{Shape}
 use Rattle.flow_law.specs.declared.refused.IllegalLabel.{IllegalLabel}
 use Rattle.flow_law.specs.declared.refused.Clash.{Clash}
-use Rattle.flow_law.specs.declared.refused.Stop.{Stop}
-use Rattle.flow_law.specs.declared.refused.Stop.TheVariants.{Illegal, Conflict, NoMemory}
+use Rattle.flow_law.specs.declared.refused.EvalFault.{EvalFault}
+use Rattle.flow_law.specs.declared.refused.EvalFault.TheVariants.{Illegal, Conflict, NoMemory}
 use Rattle.flow_law.specs.Facts.{Fact, illegal, conflict, first_refusal, refusal_by}
 use Rattle.flow_law.specs.FactOrder.{fact_cmp, fact_total}
 use Rattle.flow_law.specs.FactTables.{tables}
 use Rattle.flow_law.specs.Labelled.{BearLabel}
-use Rattle.flow_law.specs.Stops.{IsStop}
+use Rattle.flow_law.specs.Faults.{IsFaultOf}
 use Rattle.flow_law.proofs.SameFacts.{fact_same, in_order, tables_same, conflict_same}
 use Rattle.fact_tables.specs.Conflicts.{IsConflict}
 
@@ -58,7 +58,7 @@ module _ (shape : Shape) (fs : List Fact) where
           only_conflict (Some clash) = refl
           only_conflict None = refl
 
-      pub conflict_refused : (s : Stop) → IsConflict sorted s → IsStop shape fs s
+      pub conflict_refused : (s : EvalFault) → IsConflict sorted s → IsFaultOf shape fs s
       conflict_refused NoMemory h = tt
       conflict_refused (Illegal label) h = refusal_is ∙ h
       conflict_refused (Conflict clash) h = refusal_is ∙ h

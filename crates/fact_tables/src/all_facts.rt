@@ -5,15 +5,15 @@ ghost use Rattle.flow_law.specs.FactOrder.{fact_cmp};
 ghost use Rattle.flow_law.specs.FactTables.{tables};
 ghost use Rattle.flow_law.specs.InOrder.{AreTables};
 ghost use Rattle.flow_law.specs.Labelled.{BearLabel};
-ghost use Rattle.flow_law.specs.Stops.{IsStop};
-ghost use Rattle.flow_law.specs.declared.refused.Stop.TheVariants as stop;
+ghost use Rattle.flow_law.specs.Faults.{IsFaultOf};
+ghost use Rattle.flow_law.specs.declared.refused.EvalFault.TheVariants as eval;
 ghost use Rattle.fact_tables.specs.Counted.{EachAsOften, each_fact, repeats_in};
 
 use crate::fact::{Fact, facts_from};
 use crate::fact_cell::FactCell;
 use crate::ordered::{leave_once, sort_legal};
 use crate::table_facts::{TableFacts, table_facts};
-use flow_law::{Shape, Stop};
+use flow_law::{EvalFault, Shape};
 use ss_text::NoMemory;
 use std::alloc::Global;
 use std::marker::Model;
@@ -98,12 +98,12 @@ pub fn order_all_facts<'a, C: FactCell>(
     alloc: Global,
     shape: &'a Shape,
     mut facts: Vec<Fact<'a, C>>,
-) -> Result<AllFacts<'a, C>, Stop>
+) -> Result<AllFacts<'a, C>, EvalFault>
     requires { BearLabel shape.now.label facts.items }
     ensures tables { IfOk result (λ all. all.tables ≡ tables shape.now facts.entry.items) }
     ensures facts { IfOk result (λ all. EachAsOften facts.entry.items (each_fact all)) }
-    ensures allowed { OnOk result (refusal_by stop.Illegal stop.Conflict shape.now facts.entry.items ≡ None) }
-    ensures refused { IfErr result (IsStop shape.now facts.entry.items) }
+    ensures allowed { OnOk result (refusal_by eval.Illegal eval.Conflict shape.now facts.entry.items ≡ None) }
+    ensures refused { IfErr result (IsFaultOf shape.now facts.entry.items) }
 {
     sort_legal(shape, &mut facts)?;
     let repeats = repeats_in(alloc, &facts)?;

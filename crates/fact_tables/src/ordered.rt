@@ -7,8 +7,8 @@ ghost use Rattle.flow_law.specs.FactOrder.{fact_cmp};
 ghost use Rattle.flow_law.specs.FactTables.{tables};
 ghost use Rattle.flow_law.specs.InOrder.{AreTables};
 ghost use Rattle.flow_law.specs.Labelled.{BearLabel};
-ghost use Rattle.flow_law.specs.Stops.{IsStop};
-ghost use Rattle.flow_law.specs.declared.refused.Stop.TheVariants as stop;
+ghost use Rattle.flow_law.specs.Faults.{IsFaultOf};
+ghost use Rattle.flow_law.specs.declared.refused.EvalFault.TheVariants as eval;
 ghost use Rattle.fact_tables.specs.Conflicts.{IsConflict};
 
 use crate::fact::Fact;
@@ -16,7 +16,7 @@ use crate::fact_cell::FactCell;
 use crate::refused::{conflict, illegal};
 use crate::table_facts::{TableFacts, table_facts};
 use crate::tables::tables;
-use flow_law::{Shape, Stop, Tables};
+use flow_law::{EvalFault, Shape, Tables};
 use ss_text::NoMemory;
 use std::alloc::Global;
 use std::marker::Model;
@@ -66,11 +66,11 @@ pub fn order_facts<'a, C: FactCell>(
     alloc: Global,
     shape: &'a Shape,
     mut facts: Vec<Fact<'a, C>>,
-) -> Result<OrderedFacts<'a, C>, Stop>
+) -> Result<OrderedFacts<'a, C>, EvalFault>
     requires { BearLabel shape.now.label facts.items }
     ensures tables { IfOk result (λ ordered. ordered ≡ tables shape.now facts.entry.items) }
-    ensures allowed { OnOk result (refusal_by stop.Illegal stop.Conflict shape.now facts.entry.items ≡ None) }
-    ensures refused { IfErr result (IsStop shape.now facts.entry.items) }
+    ensures allowed { OnOk result (refusal_by eval.Illegal eval.Conflict shape.now facts.entry.items ≡ None) }
+    ensures refused { IfErr result (IsFaultOf shape.now facts.entry.items) }
 {
     sort_legal(shape, &mut facts)?;
     leave_once(alloc, &mut facts)?;
@@ -81,15 +81,15 @@ pub fn order_facts<'a, C: FactCell>(
 pub(crate) fn sort_legal<'a, C: FactCell>(
     shape: &Shape,
     facts: &mut Vec<Fact<'a, C>>,
-) -> Result<(), Stop>
+) -> Result<(), EvalFault>
     requires { BearLabel shape.now.label facts.old.items }
     ensures same { OnOk result (IsPermutation facts.old.items facts.new.items) }
     ensures sorted { OnOk result (IsSorted fact_cmp facts.new.items) }
     ensures legal { OnOk result (illegal shape.now facts.old.items ≡ None) }
-    ensures refused { IfErr result (IsStop shape.now facts.old.items) }
+    ensures refused { IfErr result (IsFaultOf shape.now facts.old.items) }
 {
     if let Some(label) = illegal(shape, facts)? {
-        return Err(Stop::Illegal(label));
+        return Err(EvalFault::Illegal(label));
     }
     facts.sort_unstable();
     Ok(())
@@ -100,7 +100,7 @@ pub(crate) fn sort_legal<'a, C: FactCell>(
 pub(crate) fn leave_once<'a, C: FactCell>(
     alloc: Global,
     facts: &mut Vec<Fact<'a, C>>,
-) -> Result<(), Stop>
+) -> Result<(), EvalFault>
     requires { IsSorted fact_cmp facts.old.items }
     ensures order { OnOk result (facts.new.items ≡ ascending fact_cmp facts.old.items) }
     ensures clean { OnOk result (conflict facts.old.items ≡ None) }
@@ -108,7 +108,7 @@ pub(crate) fn leave_once<'a, C: FactCell>(
 {
     facts.dedup();
     if let Some(clash) = conflict(alloc, facts)? {
-        return Err(Stop::Conflict(clash));
+        return Err(EvalFault::Conflict(clash));
     }
     Ok(())
 }

@@ -57,13 +57,3 @@ module _ (constants : Row) where
           → cons_option (option_and_then (λ (column : Text). if is_column_label column constants then None else Some (f.label, column)) c) (filter_map bad_column fs) ≡ kept (cons_option (option_map (λ (column : Text). (f.label, column)) c) (pairs_of fs))
       by_column None h = h
       by_column (Some column) h = by_label column (is_column_label column constants) h
-
--- what is made of a refusal may be made of its label and its conflict at once
-pub refusal_mapped : {A B : Type 0} (h : A → B) (label : IllegalLabel → A) (clash : Clash → A) (shape : Shape) (fs : List Fact) → refusal_by (λ (l : IllegalLabel). h (label l)) (λ (c : Clash). h (clash c)) shape fs ≡ option_map h (refusal_by label clash shape fs)
-unfolding refusal_by
-refusal_mapped h label clash shape fs = by_cases (illegal shape fs) (conflict fs)
-  where
-    by_cases : (l : Option IllegalLabel) (c : Option Clash) → first_refusal (λ (l : IllegalLabel). h (label l)) (λ (c : Clash). h (clash c)) l c ≡ option_map h (first_refusal label clash l c)
-    by_cases (Some l) c = refl
-    by_cases None (Some c) = refl
-    by_cases None None = refl

@@ -9,4 +9,4 @@ pub mod FactOrder
 pub mod Neighbours
 pub mod Labelled
 pub mod FactRows
-pub mod Stops
+pub mod Faults

@@ -12,7 +12,7 @@ mod table;
 mod tables;
 
 pub use line::TableLine;
-pub use refused::{Clash, IllegalLabel, Stop};
+pub use refused::{Clash, EvalFault, IllegalLabel};
 pub use shape::Shape;
 pub use table::Table;
 pub use tables::Tables;

@@ -11,7 +11,7 @@ use crate::entries::{column_rows, push_entries};
 use crate::header::{borrowed, renamed, with_last, with_text, without};
 use crate::moves::replaced;
 use crate::{Sheet, SheetChange, rows_of};
-use flow_law::Stop;
+use flow_law::EvalFault;
 use operator_law::{Delta, Operator};
 use ss_text::{NoMemory, Row, Steps, Text};
 use std::alloc::Global;
@@ -39,7 +39,7 @@ impl<S: Sheet> Fold<S> {
 }
 
 impl<S: Sheet> Operator for Fold<S> {
-    ghost use Rattle.flow_law.specs.declared.refused.Stop.TheVariants.{NoMemory};
+    ghost use Rattle.flow_law.specs.declared.refused.EvalFault.TheVariants.{NoMemory};
     ghost use Rattle.schema_model.specs.Placed.{placed_rows};
     ghost use Rattle.fold_op.specs.Sheets.{FitsSheet};
     ghost use Rattle.fold_op.specs.Flat.{fold_value, fold_moves};
@@ -68,7 +68,7 @@ impl<S: Sheet> Operator for Fold<S> {
         input: &S,
         change: &SheetChange,
         steps: &mut Steps<L>,
-    ) -> Result<Delta, Stop> {
+    ) -> Result<Delta, EvalFault> {
         let delta = fold_moves(alloc, &self.wanted, input, change)?;
         Ok(delta)
     }

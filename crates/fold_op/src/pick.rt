@@ -9,7 +9,7 @@ use crate::cells::{cells_at, has_all, places_of};
 use crate::header::{borrowed, renamed, with_last, with_text, without};
 use crate::moves::replaced;
 use crate::{Sheet, SheetChange, rows_of};
-use flow_law::Stop;
+use flow_law::EvalFault;
 use operator_law::{Delta, Operator};
 use ss_text::{NoMemory, Row, Steps, Text};
 use std::alloc::Global;
@@ -36,7 +36,7 @@ impl<S: Sheet> Pick<S> {
 }
 
 impl<S: Sheet> Operator for Pick<S> {
-    ghost use Rattle.flow_law.specs.declared.refused.Stop.TheVariants.{NoMemory};
+    ghost use Rattle.flow_law.specs.declared.refused.EvalFault.TheVariants.{NoMemory};
     ghost use Rattle.schema_model.specs.Placed.{placed_rows};
     ghost use Rattle.fold_op.specs.Sheets.{FitsSheet};
     ghost use Rattle.fold_op.specs.Flat.{pick_value, pick_moves};
@@ -65,7 +65,7 @@ impl<S: Sheet> Operator for Pick<S> {
         input: &S,
         change: &SheetChange,
         steps: &mut Steps<L>,
-    ) -> Result<Delta, Stop> {
+    ) -> Result<Delta, EvalFault> {
         let delta = pick_moves(alloc, &self.wanted, input, change)?;
         Ok(delta)
     }

@@ -40,7 +40,8 @@ fn add_beside<L: Ledger>(
     steps: &mut Steps<L>,
 ) -> Result<(), NoMemory>
     requires { 0 < length kept.now.keys }
-    ensures { let key = slice_index_or kept.now.keys 0 [] in OnOk result (out.new.items ≡ out.old.items ++ map (λ y. row.now ++ y) (filter (matches positions.now key row.now) (rows_of kept.now.live))) }
+    ensures { let key = slice_index_or kept.now.keys 0 [] in OnOk result (out.new.items ≡ out.old.items
+        ++ map (λ y. row.now ++ y) (filter (matches positions.now key row.now) (rows_of kept.now.live))) }
 {
     let mut at = kept.chain_like(0, positions, row);
     while let Some(place) = at {

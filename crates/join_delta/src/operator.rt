@@ -6,7 +6,7 @@ ghost use Rattle.join_delta.specs.Joined.{matches, joined, joined_moves, pairs_r
 use crate::Join;
 use crate::pairs::pairs;
 use crate::products::Keyed;
-use flow_law::Stop;
+use flow_law::EvalFault;
 use operator_law::{Delta, Operator};
 use ss_text::{NoMemory, Steps};
 use std::alloc::Global;
@@ -40,7 +40,7 @@ impl Join {
 }
 
 impl Operator for Join {
-    ghost use Rattle.flow_law.specs.declared.refused.Stop.TheVariants.{NoMemory};
+    ghost use Rattle.flow_law.specs.declared.refused.EvalFault.TheVariants.{NoMemory};
 
     type Input = ();
 
@@ -66,7 +66,7 @@ impl Operator for Join {
         input: &(),
         change: &(Delta, Delta),
         steps: &mut Steps<L>,
-    ) -> Result<Delta, Stop> {
+    ) -> Result<Delta, EvalFault> {
         let delta = self.moves(alloc, change, steps)?;
         Ok(delta)
     }

@@ -6,8 +6,8 @@ use Rattle.schema_model.specs.declared.refusal.Refusal.{Refusal}
 use Rattle.schema_model.specs.Changes.{after}
 use Rattle.schema_model.specs.Refusals.{fault}
 use Rattle.valuation_meaning.specs.Refusal.{refusal}
-use Rattle.valuation_meaning.specs.declared.evaluation.EvalFault.{EvalFault}
-use Rattle.valuation_meaning.specs.declared.evaluation.EvalFault.TheVariants as eval
+use Rattle.flow_law.specs.declared.refused.EvalFault.{EvalFault}
+use Rattle.flow_law.specs.declared.refused.EvalFault.TheVariants as eval
 use Rattle.view_session.specs.Session.{SessionState, moved, lines_to, IsAccepted, IsRefused}
 use Rattle.view_session.specs.declared.fault.Refused.{Refused}
 use Rattle.view_session.specs.declared.fault.Refused.TheVariants as refused

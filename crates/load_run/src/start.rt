@@ -7,12 +7,13 @@ ghost use Rattle.view_def.specs.Query.{query_of};
 ghost use Rattle.view_session.specs.Session.{opened};
 ghost use Rattle.load_run.specs.Start.{header, catalogue, query};
 
+use flow_law::EvalFault;
 use schema_model::Catalogue;
 use ss_text::{NoMemory, Row, Steps, Text};
 use std::alloc::Global;
 use std::sync::ledger::Ledger;
 use view_def::{Place, Range, Term, View};
-use view_session::{OpenFault, Session};
+use view_session::Session;
 
 // The view over the relation without rows, which has no facts and so is not refused.
 #[tactic(auto, using(crate::proofs::StartLemmas::not_refused))]
@@ -24,8 +25,8 @@ pub(crate) fn session<L: Ledger>(alloc: Global, steps: &mut Steps<L>) -> Result<
     let catalogue = catalogue(alloc)?;
     match Session::open(alloc, catalogue, view, steps) {
         Ok(session) => Ok(session),
-        Err(OpenFault::Illegal(_) | OpenFault::Conflict(_)) => unreachable!(),
-        Err(OpenFault::NoMemory) => Err(NoMemory),
+        Err(EvalFault::Illegal(_) | EvalFault::Conflict(_)) => unreachable!(),
+        Err(EvalFault::NoMemory) => Err(NoMemory),
     }
 }
 

@@ -2,14 +2,14 @@
 ghost use Rattle.std.specs.Prelude.{◌≡◌, ◌+◌, ◌≤◌, ℕ, IfOk, IfErr};
 
 use crate::Moves;
-use flow_law::Stop;
+use flow_law::EvalFault;
 use ss_text::Steps;
 use std::alloc::Global;
 use std::sync::ledger::Ledger;
 
 /// What has a value on a whole thing, and says how a change of the thing moves the value.
 pub trait Operator {
-    ghost use Rattle.flow_law.specs.declared.refused.Stop.{Stop};
+    ghost use Rattle.flow_law.specs.declared.refused.EvalFault.{EvalFault};
 
     /// What an operator that keeps nothing is given of the thing.
     type Input;
@@ -31,7 +31,7 @@ pub trait Operator {
     ghost gives: { Self → Self.Input → Self.Change → Self.Output → Type 0 };
 
     // Why `prepare` may stop.
-    ghost may_stop: { Self → Self.Input → Self.Change → Stop → Type 0 };
+    ghost may_stop: { Self → Self.Input → Self.Change → EvalFault → Type 0 };
 
     // That `prepare` takes at most so many steps.
     ghost is_bound: { Self → Self.Input → Self.Change → ℕ → Type 0 };
@@ -43,9 +43,10 @@ pub trait Operator {
         input: &Self::Input,
         change: &Self::Change,
         steps: &mut Steps<L>,
-    ) -> Result<Self::Output, Stop>
+    ) -> Result<Self::Output, EvalFault>
         requires { can_prepare self.now input.now change.now }
-        ensures law { IfOk result (λ out. (x y : Self.Change.Thing) → stands_for self.now input.now x → Self.Change.moves x change.now y → Self.Output.moves (value self.now x) out (value self.now y)) }
+        ensures law { IfOk result (λ out. (x y : Self.Change.Thing) → stands_for self.now input.now x → Self.Change.moves x change.now y
+            → Self.Output.moves (value self.now x) out (value self.now y)) }
         ensures gives { IfOk result (gives self.now input.now change.now) }
         ensures stops { IfErr result (may_stop self.now input.now change.now) }
         ensures cost { (n : ℕ) → is_bound self.now input.now change.now n → steps.new ≤ steps.old + n }

@@ -1,7 +1,7 @@
 //! Two operators, one after the other and side by side.
 ghost use Rattle.std.specs.Prelude.{◌≡◌, ◌+◌, ◌≤◌, ℕ, IfOk, IfErr, ◌⊎◌};
 
-use flow_law::Stop;
+use flow_law::EvalFault;
 use operator_law::Operator;
 use ss_text::Steps;
 use std::alloc::Global;
@@ -39,7 +39,7 @@ impl<A: Operator, B: Operator<Input = (), Change = A::Output>> Operator for Then
         input: &A::Input,
         change: &A::Change,
         steps: &mut Steps<L>,
-    ) -> Result<B::Output, Stop> {
+    ) -> Result<B::Output, EvalFault> {
         let between = self.first.prepare(alloc, input, change, steps)?;
         self.second.prepare(alloc, &(), &between, steps)
     }
@@ -77,7 +77,7 @@ impl<A: Operator, B: Operator> Operator for Side<A, B> {
         input: &(A::Input, B::Input),
         change: &(A::Change, B::Change),
         steps: &mut Steps<L>,
-    ) -> Result<(A::Output, B::Output), Stop> {
+    ) -> Result<(A::Output, B::Output), EvalFault> {
         let left = self.left.prepare(alloc, &input.0, &change.0, steps)?;
         let right = self.right.prepare(alloc, &input.1, &change.1, steps)?;
         Ok((left, right))

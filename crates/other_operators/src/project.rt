@@ -2,7 +2,7 @@
 ghost use Rattle.std.specs.Prelude.{◌≡◌, ◌+◌, ◌≤◌, ◌<◌, ℕ, IfOk, IfErr, All, map, length};
 ghost use Rattle.operator_law.specs.Rows.{cells_at, projected};
 
-use flow_law::Stop;
+use flow_law::EvalFault;
 use operator_law::{Delta, Moves, Operator, Signed};
 use ss_text::{NoMemory, Row, Steps};
 use std::alloc::Global;
@@ -41,7 +41,7 @@ impl Project {
 }
 
 impl Operator for Project {
-    ghost use Rattle.flow_law.specs.declared.refused.Stop.TheVariants.{NoMemory};
+    ghost use Rattle.flow_law.specs.declared.refused.EvalFault.TheVariants.{NoMemory};
 
     type Input = ();
 
@@ -68,10 +68,10 @@ impl Operator for Project {
         input: &(),
         change: &Delta,
         steps: &mut Steps<L>,
-    ) -> Result<Delta, Stop> {
+    ) -> Result<Delta, EvalFault> {
         match self.projected(alloc, change) {
             Ok(delta) => Ok(delta),
-            Err(NoMemory) => Err(Stop::NoMemory),
+            Err(NoMemory) => Err(EvalFault::NoMemory),
         }
     }
 }

@@ -2,7 +2,7 @@
 ghost use Rattle.std.specs.Prelude.{◌≡◌, ◌+◌, ◌≤◌, ◌<◌, ℕ, IfOk, IfErr, All, filter, length};
 ghost use Rattle.operator_law.specs.Rows.{passes, filtered};
 
-use flow_law::Stop;
+use flow_law::EvalFault;
 use operator_law::{Delta, Moves, Operator, Signed};
 use ss_text::{NoMemory, Row, Steps};
 use std::alloc::Global;
@@ -42,7 +42,7 @@ impl Select {
 }
 
 impl Operator for Select {
-    ghost use Rattle.flow_law.specs.declared.refused.Stop.TheVariants.{NoMemory};
+    ghost use Rattle.flow_law.specs.declared.refused.EvalFault.TheVariants.{NoMemory};
 
     type Input = ();
 
@@ -69,10 +69,10 @@ impl Operator for Select {
         input: &(),
         change: &Delta,
         steps: &mut Steps<L>,
-    ) -> Result<Delta, Stop> {
+    ) -> Result<Delta, EvalFault> {
         match self.filtered(alloc, change) {
             Ok(delta) => Ok(delta),
-            Err(NoMemory) => Err(Stop::NoMemory),
+            Err(NoMemory) => Err(EvalFault::NoMemory),
         }
     }
 }

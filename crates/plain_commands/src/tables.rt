@@ -6,11 +6,12 @@ ghost use Rattle.plain_commands.specs.Steps.{Shows, AreNamed};
 ghost use Rattle.view_stages.specs.Records.{HasRecords};
 
 use bumpalo::Bump;
+use flow_law::EvalFault;
 use schema_model::Catalogue;
 use ss_print::{clash_fields, illegal_fields};
 use ss_text::{NoMemory, Row, Text};
 use std::alloc::Global;
-use valuation_meaning::{EvalFault, ViewFacts, ordered_facts, shape_of};
+use valuation_meaning::{ViewFacts, ordered_facts, shape_of};
 use view_def::View;
 use view_folder::{File, TableTexts};
 

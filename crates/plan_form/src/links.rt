@@ -122,7 +122,8 @@ fn push_equalities(
     right: &[Term],
     links: &mut Vec<(Source, Source)>,
 ) -> Result<(), NoMemory>
-    ensures { OnOk result (map seen_link links.new.items ≡ map seen_link links.old.items ++ filter_map (equality_link (query_of view.now) left.now right.now) (equalities (query_of view.now).condition)) }
+    ensures { OnOk result (map seen_link links.new.items ≡ map seen_link links.old.items
+        ++ filter_map (equality_link (query_of view.now) left.now right.now) (equalities (query_of view.now).condition)) }
 {
     for member in members(&view.filter) {
         push_equality(view, left, right, member, links)?;

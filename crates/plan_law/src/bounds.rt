@@ -34,5 +34,6 @@ pub fn touched_are_combinations()
 /// Where no row moves both ways, the joins of an insert's or a delete's walk count at most two pairs for each touched
 /// combination, and no more moves come out than there are touched combinations.
 pub fn walk_is_bounded()
-    ensures bounded { (c : CatalogueValue) (q : Query) (g : Change) (up : Bool) (ks : List Sides) (ps : List SideMoves) (out : List Signed) → IsViewOfProfile q → OfRow g up → IsWalk c (after c g) q ks ps out → AreNet ps → IsNet out → IsBounded c q g ks ps out }
+    ensures bounded { (c : CatalogueValue) (q : Query) (g : Change) (up : Bool) (ks : List Sides) (ps : List SideMoves) (out : List Signed) → IsViewOfProfile q → OfRow g up
+        → IsWalk c (after c g) q ks ps out → AreNet ps → IsNet out → IsBounded c q g ks ps out }
 {}

@@ -10,7 +10,8 @@ ghost use Rattle.operator_law.specs.declared.delta.Signed.{Signed};
 
 /// What comes out of the walk of a change takes the facts of a view to those after the change, whatever the change.
 pub fn walk_moves_facts()
-    ensures moves { (c c' : CatalogueValue) (q : Query) (ks : List Sides) (ps : List SideMoves) (out : List Signed) → IsSound c → IsSound c' → IsViewOfProfile q → IsWalk c c' q ks ps out → FactsMove c c' q out }
+    ensures moves { (c c' : CatalogueValue) (q : Query) (ks : List Sides) (ps : List SideMoves) (out : List Signed) → IsSound c → IsSound c' → IsViewOfProfile q → IsWalk c c' q ks ps out
+        → FactsMove c c' q out }
 {}
 
 /// Sides that are moved by the walk stand for the catalogue after the change.

@@ -50,7 +50,8 @@ impl Plan {
         deltas: Vec<Delta>,
     ) -> Result<(Delta, Vec<Delta>), NoMemory>
         requires { length deltas.items ≡ length (specs_from (query_in self.now) 0 (query_in self.now).decls) }
-        ensures moves { let q = query_in self.now in IfOk result (λ r. (nets : List (List SignedValue)) × AllZip SameNet deltas.items nets × (r.0 ≡ first_moves q q.decls nets) × (r.1.items ≡ further_moves q q.decls nets)) }
+        ensures moves { let q = query_in self.now in IfOk result (λ r. (nets : List (List SignedValue)) × AllZip SameNet deltas.items nets × (r.0 ≡ first_moves q q.decls nets)
+            × (r.1.items ≡ further_moves q q.decls nets)) }
         ensures net { IfOk result (λ r. IsNet r.0 × AllByRecursion IsNet r.1.items) }
         ensures each { let q = query_in self.now in IfOk result (λ r. length r.1.items ≡ length (plan_joints q q.decls)) }
     {
@@ -107,7 +108,8 @@ impl Plan {
         steps: &mut Steps<L>,
     ) -> Result<WalkMoves, NoMemory>
         requires { let q = query_in self.now in length further.items ≡ length (plan_joints q q.decls) }
-        ensures walks { IfOk result (λ w. PlanStands catalogue.now.databases self.now → WalksOver catalogue.now.databases (query_in self.now) first further.items (map side_moves w.sides.items) w.out steps.old steps.new) }
+        ensures walks { IfOk result (λ w. PlanStands catalogue.now.databases self.now
+            → WalksOver catalogue.now.databases (query_in self.now) first further.items (map side_moves w.sides.items) w.out steps.old steps.new) }
         ensures each { let q = query_in self.now in IfOk result (λ w. length w.sides.items ≡ length (plan_joints q q.decls)) }
         ensures nets { IfOk result (λ w. IsNet first → AllByRecursion IsNet further.items → AreNet (map side_moves w.sides.items) × IsNet w.out) }
         ensures rises { steps.old ≤ steps.new }

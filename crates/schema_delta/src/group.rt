@@ -110,7 +110,8 @@ fn moved_on<L: Ledger>(
 ) -> Result<Vec<Delta>, NoMemory>
     requires accepted { fault present.now.databases change.now ≡ None }
     requires each { length deltas.items ≡ length specs.now }
-    ensures moved { IfOk result (λ all. (c : CatalogueValue) → AllZip (MovesBetween c present.now.databases) specs.now deltas.items → AllZip (MovesBetween c (after present.now.databases change.now)) specs.now all.items) }
+    ensures moved { IfOk result (λ all. (c : CatalogueValue) → AllZip (MovesBetween c present.now.databases) specs.now deltas.items
+        → AllZip (MovesBetween c (after present.now.databases change.now)) specs.now all.items) }
     ensures steps { steps.new ≡ steps.old }
 {
     let mut all = Vec::with_capacity(alloc, specs.len())?;

@@ -4,7 +4,7 @@ use Rattle.std.specs.List.{All}
 use Rattle.std.specs.Prelude.{is_some}
 use Rattle.ss_text.specs.Texts.{Text, Row}
 use Rattle.flow_law.specs.declared.shape.Shape.{Shape}
-use Rattle.flow_law.specs.declared.refused.Stop.{Stop}
+use Rattle.flow_law.specs.declared.refused.EvalFault.{EvalFault}
 use Rattle.flow_law.specs.Facts.{Fact, illegal_column, conflict}
 use Rattle.flow_law.specs.FactRows.{fact_in, fact_width, row_width, cell_behind, IsFactOf}
 use Rattle.flow_law.specs.Labelled.{AllBear}
@@ -66,5 +66,5 @@ module _ (a b : Shape) (s : SameColumns a b) where
     clean = ap conflict (same_facts rows) ∙ c.clean;
   }
 
-  pub stops_columns : (rows : List Row) (stop : Stop) → StopsFor (illegal_column b.constants (facts_in b rows)) (conflict (facts_in b rows)) stop → StopsFor (illegal_column a.constants (facts_in a rows)) (conflict (facts_in a rows)) stop
+  pub stops_columns : (rows : List Row) (stop : EvalFault) → StopsFor (illegal_column b.constants (facts_in b rows)) (conflict (facts_in b rows)) stop → StopsFor (illegal_column a.constants (facts_in a rows)) (conflict (facts_in a rows)) stop
   stops_columns rows stop h = rw (← same_illegal rows, ← same_facts rows) h

@@ -7,8 +7,8 @@ use Rattle.flow_law.specs.declared.shape.Shape.{Shape}
 use Rattle.flow_law.specs.declared.line.TableLine.{TableLine}
 use Rattle.flow_law.specs.declared.refused.Clash.{Clash}
 use Rattle.flow_law.specs.declared.refused.IllegalLabel.{IllegalLabel}
-use Rattle.flow_law.specs.declared.refused.Stop.{Stop}
-use Rattle.flow_law.specs.declared.refused.Stop.TheVariants as stop
+use Rattle.flow_law.specs.declared.refused.EvalFault.{EvalFault}
+use Rattle.flow_law.specs.declared.refused.EvalFault.TheVariants as eval
 use Rattle.fact_counts.specs.Stopped.{StopsFor}
 use Rattle.flow_law.specs.Facts.{Fact, facts_of, illegal_column, conflict}
 use Rattle.flow_law.specs.Script.{lines_for}
@@ -82,10 +82,10 @@ module _ (shape : Shape) (variable : shape.label ≡ None) (labels : List Text) 
 
 -- an answer that stops at once stops the whole
 pub stops_all : (shape : Shape) (new : List Row) (labels ls : List Text) (l : Text) (ks : List Text) → labels ≡ ls ++ l ∷ ks → first_illegal_column shape.constants (facts_in shape new) ls ≡ None
-    → (s : Stop) → StopsAtOnce shape (facts_in shape (rows_of l new)) s → StopsFor (first_illegal_column shape.constants (facts_in shape new) labels) (first_conflict (facts_in shape new) labels) s
-stops_all shape new labels ls l ks e none (stop.Illegal i) h = ap (first_illegal_column shape.constants (facts_in shape new)) e ∙ stops_there shape.constants (facts_in shape new) ls l ks i none (ap (illegal_column shape.constants) (facts_of_rows shape l new) ∙ h)
-stops_all shape new labels ls l ks e none (stop.Conflict c) h = absurd h
-stops_all shape new labels ls l ks e none stop.NoMemory h = tt
+    → (s : EvalFault) → StopsAtOnce shape (facts_in shape (rows_of l new)) s → StopsFor (first_illegal_column shape.constants (facts_in shape new) labels) (first_conflict (facts_in shape new) labels) s
+stops_all shape new labels ls l ks e none (eval.Illegal i) h = ap (first_illegal_column shape.constants (facts_in shape new)) e ∙ stops_there shape.constants (facts_in shape new) ls l ks i none (ap (illegal_column shape.constants) (facts_of_rows shape l new) ∙ h)
+stops_all shape new labels ls l ks e none (eval.Conflict c) h = absurd h
+stops_all shape new labels ls l ks e none eval.NoMemory h = tt
 
 pub none_judged : (shape : Shape) (old new : List Fact) (j : Judged) → j.lines.items ≡ [] → j.clash ≡ None → IsJudged shape [] old new j
 none_judged shape old new j lines clash = record { legal = refl; clash_is = sym clash; lines_are = λ none. lines }

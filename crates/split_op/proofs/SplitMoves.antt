@@ -10,12 +10,12 @@ use Rattle.ss_text.proofs.KeyLemmas.{text_order, equal_is}
 use Rattle.flow_law.specs.declared.shape.Shape.{Shape}
 use Rattle.flow_law.specs.declared.line.TableLine.{TableLine}
 use Rattle.flow_law.specs.declared.refused.IllegalLabel.{IllegalLabel}
-use Rattle.flow_law.specs.declared.refused.Stop.{Stop}
-use Rattle.flow_law.specs.declared.refused.Stop.TheVariants as stop
+use Rattle.flow_law.specs.declared.refused.EvalFault.{EvalFault}
+use Rattle.flow_law.specs.declared.refused.EvalFault.TheVariants as eval
 use Rattle.flow_law.specs.Facts.{Fact, illegal, illegal_table, illegal_column, conflict, refusal_by}
 use Rattle.flow_law.specs.FactRows.{fact_width}
 use Rattle.flow_law.specs.Labelled.{AllBear}
-use Rattle.flow_law.specs.Stops.{IsStop}
+use Rattle.flow_law.specs.Faults.{IsFaultOf}
 use Rattle.operator_law.specs.declared.delta.Signed.{Signed}
 use Rattle.operator_law.specs.Bags.{MovesBag, weigh}
 use Rattle.operator_law.proofs.SignedRows.{moves_filtered}
@@ -96,7 +96,7 @@ named_are shape ms = ap (ascending text_cmp) (same ms)
     same (n ∷ ns) = ap (λ (ls : List Text). label_in n.row ∷ ls) (same ns)
 
 -- an illegal table is the cause
-pub table_stops : (shape : Shape) (fs : List Fact) (l : IllegalLabel) → illegal_table fs ≡ Some l → IsStop shape fs (stop.Illegal l)
+pub table_stops : (shape : Shape) (fs : List Fact) (l : IllegalLabel) → illegal_table fs ≡ Some l → IsFaultOf shape fs (eval.Illegal l)
 unfolding refusal_by illegal
 table_stops shape fs l e = rw e refl
 
@@ -142,10 +142,10 @@ module _ {I : Type 0} (table : I → OneTableValue) (shape : Shape) (pattern : I
     lines_are = g.lines_are ∙ ap (flat_map (label_lines shape before after)) (sym labels_are) ∙ sym (script_touched shape named before after same_beyond);
   }
 
-  pub stops_with : (s : Stop) → None ≡ first_illegal_table after labels → StopsFor (first_illegal_column shape.constants after labels) (first_conflict after labels) s → IsStop shape after s
+  pub stops_with : (s : EvalFault) → None ≡ first_illegal_table after labels → StopsFor (first_illegal_column shape.constants after labels) (first_conflict after labels) s → IsFaultOf shape after s
   stops_with s none stops = stop_is shape after (table_is ∙ sym none) s (rw (column_is, conflict_is) stops)
 
-  pub stops_with_table : (l : IllegalLabel) → Some l ≡ first_illegal_table after labels → IsStop shape after (stop.Illegal l)
+  pub stops_with_table : (l : IllegalLabel) → Some l ≡ first_illegal_table after labels → IsFaultOf shape after (eval.Illegal l)
   stops_with_table l found = table_stops shape after l (table_is ∙ sym found)
 
 -- the bound of all is that of the groups

@@ -5,14 +5,14 @@ use Rattle.ss_text.specs.Texts.{Text, Row}
 use Rattle.ss_text.specs.Label.{is_table_label}
 use Rattle.flow_law.specs.declared.shape.Shape.{Shape}
 use Rattle.flow_law.specs.declared.line.TableLine.{TableLine}
-use Rattle.flow_law.specs.declared.refused.Stop.{Stop}
-use Rattle.flow_law.specs.declared.refused.Stop.TheVariants as stop
+use Rattle.flow_law.specs.declared.refused.EvalFault.{EvalFault}
+use Rattle.flow_law.specs.declared.refused.EvalFault.TheVariants as eval
 use Rattle.flow_law.specs.Facts.{Fact, illegal, illegal_table, illegal_column, conflict, refusal_by}
 use Rattle.flow_law.specs.FactTables.{fact_table, tables}
 use Rattle.flow_law.specs.Labelled.{AllBear}
 use Rattle.flow_law.specs.Lines.{fit_lines, after_lines}
 use Rattle.flow_law.specs.Script.{lines_between, script}
-use Rattle.flow_law.specs.Stops.{IsStop}
+use Rattle.flow_law.specs.Faults.{IsFaultOf}
 use Rattle.flow_law.proofs.FactTableLemmas.{constant_tables, tables_in_order}
 use Rattle.flow_law.proofs.ScriptLaw.{script_makes, script_fits}
 use Rattle.operator_law.specs.declared.delta.Signed.{Signed}
@@ -41,11 +41,11 @@ legal_table label legal fs h = rw (none fs h) refl
     none (g ∷ gs) i = rw (i.0, legal) (none gs i.1)
 
 -- where no table is illegal, an illegal column comes before a conflict
-pub stop_is : (shape : Shape) (fs : List Fact) → illegal_table fs ≡ None → (s : Stop) → StopsFor (illegal_column shape.constants fs) (conflict fs) s → IsStop shape fs s
+pub stop_is : (shape : Shape) (fs : List Fact) → illegal_table fs ≡ None → (s : EvalFault) → StopsFor (illegal_column shape.constants fs) (conflict fs) s → IsFaultOf shape fs s
 unfolding refusal_by illegal
-stop_is shape fs none (stop.Illegal l) h = rw (none, h) refl
-stop_is shape fs none (stop.Conflict c) h = rw (none, h.0, h.1) refl
-stop_is shape fs none stop.NoMemory h = tt
+stop_is shape fs none (eval.Illegal l) h = rw (none, h) refl
+stop_is shape fs none (eval.Conflict c) h = rw (none, h.0, h.1) refl
+stop_is shape fs none eval.NoMemory h = tt
 
 pub none_illegal : (shape : Shape) (fs : List Fact) → illegal_table fs ≡ None → illegal_column shape.constants fs ≡ None → illegal shape fs ≡ None
 unfolding illegal
@@ -85,7 +85,7 @@ module _ (label : Text) (t : OneTableValue) (ms : List Signed) (can : CanPrepare
       lines_are = e ∙ same_label ms moves can.bears.bear ∙ sym script_is;
     }
 
-    pub stops_whole : (s : Stop) → StopsFor (illegal_column t.shape.constants (facts_in t.shape new)) (conflict (facts_in t.shape new)) s → IsStop shape (facts_in t.shape new) s
+    pub stops_whole : (s : EvalFault) → StopsFor (illegal_column t.shape.constants (facts_in t.shape new)) (conflict (facts_in t.shape new)) s → IsFaultOf shape (facts_in t.shape new) s
     stops_whole s i = stop_is shape (facts_in t.shape new) (legal_table label h.legal (facts_in t.shape new) bear_new) s i
 
 -- a script takes the tables before to those after, each line fitting

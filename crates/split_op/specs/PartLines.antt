@@ -4,8 +4,8 @@ use Rattle.std.specs.Bool.{⊤}
 use Rattle.ss_text.specs.Texts.{Text, Row}
 use Rattle.flow_law.specs.declared.shape.Shape.{Shape}
 use Rattle.flow_law.specs.declared.line.TableLine.{TableLine}
-use Rattle.flow_law.specs.declared.refused.Stop.{Stop}
-use Rattle.flow_law.specs.declared.refused.Stop.TheVariants as stop
+use Rattle.flow_law.specs.declared.refused.EvalFault.{EvalFault}
+use Rattle.flow_law.specs.declared.refused.EvalFault.TheVariants as eval
 use Rattle.flow_law.specs.Facts.{Fact, illegal_column, conflict}
 use Rattle.flow_law.specs.FactTables.{fact_table}
 use Rattle.flow_law.specs.Script.{lines_for}
@@ -24,7 +24,7 @@ pub record GivesPart (shape : Shape) (label : Text) (old new : List Row) (lines 
   pub lines_are : lines ≡ lines_for label (table_if (facts_in shape old)) (table_if (facts_in shape new))
 
 -- the columns of a label are the cause to stop at once; a conflict is not
-abbrev pub StopsAtOnce : Shape → List Fact → Stop → Type 0
-StopsAtOnce shape own (stop.Illegal l) = illegal_column shape.constants own ≡ Some l
-StopsAtOnce shape own (stop.Conflict c) = ⊥
-StopsAtOnce shape own stop.NoMemory = ⊤
+abbrev pub StopsAtOnce : Shape → List Fact → EvalFault → Type 0
+StopsAtOnce shape own (eval.Illegal l) = illegal_column shape.constants own ≡ Some l
+StopsAtOnce shape own (eval.Conflict c) = ⊥
+StopsAtOnce shape own eval.NoMemory = ⊤

@@ -23,7 +23,8 @@ fn fresh_with<I: TableOperator>(
     cell: Option<(Text, Text)>,
 ) -> Result<I, NoMemory>
     requires { let fact : Fact = record { label = label.now; key = key; cell = cell } in (shape : Shape) × SameColumns shape (I.table pattern.now).shape × CanAddPart I.table shape None fact [] }
-    ensures { let fact : Fact = record { label = label.now; key = key; cell = cell } in IfOk result (λ t. (shape : Shape) → SameColumns shape (I.table pattern.now).shape → CanAddPart I.table shape None fact [] → KeepsPart I.table shape (Some t) (fact_row fact ∷ [])) }
+    ensures { let fact : Fact = record { label = label.now; key = key; cell = cell } in IfOk result (λ t. (shape : Shape) → SameColumns shape (I.table pattern.now).shape
+        → CanAddPart I.table shape None fact [] → KeepsPart I.table shape (Some t) (fact_row fact ∷ [])) }
 {
     let mut inner = pattern.fresh(alloc)?;
     inner.add(label, key, cell)?;
@@ -51,8 +52,10 @@ pub(crate) fn add_fact<I: TableOperator>(
     key: Row,
     cell: Option<(Text, Text)>,
 ) -> Result<(), NoMemory>
-    requires { let fact : Fact = record { label = label.now; key = key; cell = cell } in (shape : Shape) × (rows : List RowValue) × SameColumns shape (I.table pattern.now).shape × CanAddPart I.table shape (get text_eq parts.old label.now) fact rows }
-    ensures added { let fact : Fact = record { label = label.now; key = key; cell = cell } in OnOk result ((shape : Shape) (rows : List RowValue) → SameColumns shape (I.table pattern.now).shape → CanAddPart I.table shape (get text_eq parts.old label.now) fact rows → KeepsPart I.table shape (get text_eq parts.new label.now) (fact_row fact ∷ rows)) }
+    requires { let fact : Fact = record { label = label.now; key = key; cell = cell } in (shape : Shape) × (rows : List RowValue) × SameColumns shape (I.table pattern.now).shape
+        × CanAddPart I.table shape (get text_eq parts.old label.now) fact rows }
+    ensures added { let fact : Fact = record { label = label.now; key = key; cell = cell } in OnOk result ((shape : Shape) (rows : List RowValue) → SameColumns shape (I.table pattern.now).shape
+        → CanAddPart I.table shape (get text_eq parts.old label.now) fact rows → KeepsPart I.table shape (get text_eq parts.new label.now) (fact_row fact ∷ rows)) }
     ensures others { OnOk result ((q : TextValue) → text_eq label.now q ≡ false → get text_eq parts.new q ≡ get text_eq parts.old q) }
 {
     match parts.get_mut(label) {

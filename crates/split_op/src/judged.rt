@@ -1,10 +1,10 @@
 //! Lines of tables, judged label by label.
 ghost use Rattle.std.specs.Prelude.{◌≡◌, ◌++◌, ◌⊎◌, [], None, Some, Ok, Err, IfOk, IfErr, OnOk};
 ghost use Rattle.flow_law.specs.declared.refused.Clash.{Clash};
-ghost use Rattle.flow_law.specs.declared.refused.Stop.TheVariants as Stop;
+ghost use Rattle.flow_law.specs.declared.refused.EvalFault.TheVariants as EvalFault;
 ghost use Rattle.std.specs.Option.{option_or};
 
-use flow_law::{Clash, Stop, TableLine};
+use flow_law::{Clash, EvalFault, TableLine};
 use ss_text::NoMemory;
 use std::alloc::Global;
 
@@ -48,14 +48,14 @@ impl Judged {
     }
 
     /// The lines, where all labels were judged and there is no conflict.
-    pub(crate) fn finish(self, outcome: Result<(), Stop>) -> Result<Vec<TableLine>, Stop>
+    pub(crate) fn finish(self, outcome: Result<(), EvalFault>) -> Result<Vec<TableLine>, EvalFault>
         ensures lines { IfOk result (λ lines. (outcome ≡ Ok tt) × (self.clash ≡ None) × (lines ≡ self.lines)) }
-        ensures stops { IfErr result (λ stop. (outcome ≡ Err stop) ⊎ ((clash : Clash) × (outcome ≡ Ok tt) × (self.clash ≡ Some clash) × (stop ≡ Stop.Conflict clash))) }
+        ensures stops { IfErr result (λ stop. (outcome ≡ Err stop) ⊎ ((clash : Clash) × (outcome ≡ Ok tt) × (self.clash ≡ Some clash) × (stop ≡ EvalFault.Conflict clash))) }
     {
         let Judged { lines, clash } = self;
         match (outcome, clash) {
             (Err(stop), _) => Err(stop),
-            (Ok(()), Some(clash)) => Err(Stop::Conflict(clash)),
+            (Ok(()), Some(clash)) => Err(EvalFault::Conflict(clash)),
             (Ok(()), None) => Ok(lines),
         }
     }

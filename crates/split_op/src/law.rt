@@ -23,12 +23,14 @@ pub fn conflict_is_of_named_labels()
 
 /// The lines of the named labels take the old tables to the new ones, and each fits the tables that those before it leave.
 pub fn named_labels_move_tables()
-    ensures makes { (shape : Shape) (named old new : List Fact) → SameBeyond named old new → after_lines (tables shape old) (flat_map (label_lines shape old new) (labels_named named)) ≡ tables shape new }
+    ensures makes { (shape : Shape) (named old new : List Fact) → SameBeyond named old new
+        → after_lines (tables shape old) (flat_map (label_lines shape old new) (labels_named named)) ≡ tables shape new }
     ensures fits { (shape : Shape) (named old new : List Fact) → SameBeyond named old new → IsTrue (fit_lines (tables shape old) (flat_map (label_lines shape old new) (labels_named named))) }
 {}
 
 /// Where facts had legal labels alone, their least illegal label after a change is that of a named label.
 pub fn illegal_is_of_named_labels()
     ensures tables { (named old new : List Fact) → SameBeyond named old new → illegal_table old ≡ None → illegal_table new ≡ first_illegal_table new (labels_named named) }
-    ensures columns { (constants : Row) (named old new : List Fact) → SameBeyond named old new → illegal_column constants old ≡ None → illegal_column constants new ≡ first_illegal_column constants new (labels_named named) }
+    ensures columns { (constants : Row) (named old new : List Fact) → SameBeyond named old new → illegal_column constants old ≡ None
+        → illegal_column constants new ≡ first_illegal_column constants new (labels_named named) }
 {}

@@ -20,7 +20,7 @@ use crate::count::count_moved;
 use crate::groups::Group;
 use crate::judged::Judged;
 use crate::part::part_lines;
-use flow_law::{IllegalLabel, Stop, TableLine};
+use flow_law::{EvalFault, IllegalLabel, TableLine};
 use indexmap::IndexMap;
 use operator_law::Operator;
 use ss_text::{NoMemory, Steps, Text, table_label_legal};
@@ -49,7 +49,8 @@ fn count_after<I: TableOperator>(part: Option<&I>, group: &Group) -> u128
 // Whether there are facts of a label after its moves though it is illegal.
 fn is_illegal<I: TableOperator>(part: Option<&I>, group: &Group) -> bool
     requires { (shape : Shape) × (old : List RowValue) × (new : List RowValue) × FitsPart I.table shape (option_copied part) group.now old new }
-    ensures { (shape : Shape) (old new : List RowValue) → FitsPart I.table shape (option_copied part.entry) group.now old new → result ≡ (nat_lt 0 (length new) && not (is_table_label group.now.label)) }
+    ensures { (shape : Shape) (old new : List RowValue) → FitsPart I.table shape (option_copied part.entry) group.now old new
+        → result ≡ (nat_lt 0 (length new) && not (is_table_label group.now.label)) }
 {
     !table_label_legal(&group.label) && count_after(part, group) > 0
 }
@@ -60,7 +61,8 @@ pub(crate) fn first_illegal_table<I: TableOperator>(
     groups: &[Group],
 ) -> Result<Option<IllegalLabel>, NoMemory>
     requires { (shape : Shape) × (pattern : I) × (old : List RowValue) × (new : List RowValue) × FitsParts I.table shape pattern (get text_eq parts.now) groups.now old new }
-    ensures { IfOk result (λ found. (shape : Shape) (pattern : I) (old new : List RowValue) → FitsParts I.table shape pattern (get text_eq parts.now) groups.now old new → found ≡ first_illegal_table (facts_in shape new) (map group_label groups.now)) }
+    ensures { IfOk result (λ found. (shape : Shape) (pattern : I) (old new : List RowValue) → FitsParts I.table shape pattern (get text_eq parts.now) groups.now old new
+        → found ≡ first_illegal_table (facts_in shape new) (map group_label groups.now)) }
 {
     for group in groups {
         if is_illegal(parts.get(&group.label), group) {
@@ -81,10 +83,13 @@ fn judge_group<I: TableOperator, L: Ledger>(
     group: &Group,
     judged: &mut Judged,
     steps: &mut Steps<L>,
-) -> Result<(), Stop>
+) -> Result<(), EvalFault>
     requires { (shape : Shape) × (old : List RowValue) × (new : List RowValue) × SameColumns shape (I.table pattern.now).shape × FitsPart I.table shape (option_copied part) group.now old new }
-    ensures judged { OnOk result ((shape : Shape) (labels : List TextValue) (old new : List RowValue) → shape.label ≡ None → SameColumns shape (I.table pattern.now).shape → FitsPart I.table shape (option_copied part.entry) group.now (rows_of group.now.label old) (rows_of group.now.label new) → IsJudged shape labels (facts_in shape old) (facts_in shape new) judged.old → IsJudged shape (labels ++ group.now.label ∷ []) (facts_in shape old) (facts_in shape new) judged.new) }
-    ensures stops { IfErr result (λ s. (shape : Shape) (old new : List RowValue) → SameColumns shape (I.table pattern.now).shape → FitsPart I.table shape (option_copied part.entry) group.now old new → StopsAtOnce shape (facts_in shape new) s) }
+    ensures judged { OnOk result ((shape : Shape) (labels : List TextValue) (old new : List RowValue) → shape.label ≡ None → SameColumns shape (I.table pattern.now).shape
+        → FitsPart I.table shape (option_copied part.entry) group.now (rows_of group.now.label old) (rows_of group.now.label new)
+        → IsJudged shape labels (facts_in shape old) (facts_in shape new) judged.old → IsJudged shape (labels ++ group.now.label ∷ []) (facts_in shape old) (facts_in shape new) judged.new) }
+    ensures stops { IfErr result (λ s. (shape : Shape) (old new : List RowValue) → SameColumns shape (I.table pattern.now).shape → FitsPart I.table shape (option_copied part.entry) group.now old new
+        → StopsAtOnce shape (facts_in shape new) s) }
     ensures cost { (n : ℕ) → ((t : I) → (option_copied part.entry ≡ Some t) ⊎ I.alike pattern.now t → I.is_bound t tt group.now.moves n) → steps.new ≤ steps.old + n }
     ensures rises { steps.old ≤ steps.new }
 {
@@ -93,12 +98,12 @@ fn judge_group<I: TableOperator, L: Ledger>(
             judged.add_lines(lines)?;
             Ok(())
         }
-        Err(Stop::Conflict(clash)) => {
+        Err(EvalFault::Conflict(clash)) => {
             judged.add_clash(clash);
             Ok(())
         }
-        Err(Stop::Illegal(label)) => Err(Stop::Illegal(label)),
-        Err(Stop::NoMemory) => Err(Stop::NoMemory),
+        Err(EvalFault::Illegal(label)) => Err(EvalFault::Illegal(label)),
+        Err(EvalFault::NoMemory) => Err(EvalFault::NoMemory),
     }
 }
 
@@ -110,11 +115,15 @@ fn judge_groups<I: TableOperator, L: Ledger>(
     groups: &[Group],
     judged: &mut Judged,
     steps: &mut Steps<L>,
-) -> Result<(), Stop>
+) -> Result<(), EvalFault>
     requires { (shape : Shape) × (old : List RowValue) × (new : List RowValue) × FitsParts I.table shape pattern.now (get text_eq parts.now) groups.now old new }
-    ensures judged { OnOk result ((shape : Shape) (old new : List RowValue) → FitsParts I.table shape pattern.now (get text_eq parts.now) groups.now old new → IsJudged shape [] (facts_in shape old) (facts_in shape new) judged.old → IsJudged shape (map group_label groups.now) (facts_in shape old) (facts_in shape new) judged.new) }
-    ensures stops { IfErr result (λ s. (shape : Shape) (old new : List RowValue) → FitsParts I.table shape pattern.now (get text_eq parts.now) groups.now old new → IsJudged shape [] (facts_in shape old) (facts_in shape new) judged.old → StopsFor (first_illegal_column shape.constants (facts_in shape new) (map group_label groups.now)) (first_conflict (facts_in shape new) (map group_label groups.now)) s) }
-    ensures cost { (b : TextValue → ℕ) → AllByRecursion (λ g. (t : I) → (get text_eq parts.now g.label ≡ Some t) ⊎ I.alike pattern.now t → I.is_bound t tt g.moves (b g.label)) groups.now → steps.new ≤ steps.old + weigh (λ g. b g.label) groups.now }
+    ensures judged { OnOk result ((shape : Shape) (old new : List RowValue) → FitsParts I.table shape pattern.now (get text_eq parts.now) groups.now old new
+        → IsJudged shape [] (facts_in shape old) (facts_in shape new) judged.old → IsJudged shape (map group_label groups.now) (facts_in shape old) (facts_in shape new) judged.new) }
+    ensures stops { IfErr result (λ s. (shape : Shape) (old new : List RowValue) → FitsParts I.table shape pattern.now (get text_eq parts.now) groups.now old new
+        → IsJudged shape [] (facts_in shape old) (facts_in shape new) judged.old
+        → StopsFor (first_illegal_column shape.constants (facts_in shape new) (map group_label groups.now)) (first_conflict (facts_in shape new) (map group_label groups.now)) s) }
+    ensures cost { (b : TextValue → ℕ) → AllByRecursion (λ g. (t : I) → (get text_eq parts.now g.label ≡ Some t) ⊎ I.alike pattern.now t → I.is_bound t tt g.moves (b g.label)) groups.now
+        → steps.new ≤ steps.old + weigh (λ g. b g.label) groups.now }
     ensures rises { steps.old ≤ steps.new }
 {
     for group in groups {
@@ -141,11 +150,14 @@ pub(crate) fn lines_of<I: TableOperator, L: Ledger>(
     parts: &IndexMap<Text, I>,
     groups: &[Group],
     steps: &mut Steps<L>,
-) -> Result<Vec<TableLine>, Stop>
+) -> Result<Vec<TableLine>, EvalFault>
     requires { (shape : Shape) × (old : List RowValue) × (new : List RowValue) × FitsParts I.table shape pattern.now (get text_eq parts.now) groups.now old new }
-    ensures gives { IfOk result (λ lines. (shape : Shape) (old new : List RowValue) → FitsParts I.table shape pattern.now (get text_eq parts.now) groups.now old new → GivesParts shape (map group_label groups.now) (facts_in shape old) (facts_in shape new) lines.items) }
-    ensures stops { IfErr result (λ s. (shape : Shape) (old new : List RowValue) → FitsParts I.table shape pattern.now (get text_eq parts.now) groups.now old new → StopsFor (first_illegal_column shape.constants (facts_in shape new) (map group_label groups.now)) (first_conflict (facts_in shape new) (map group_label groups.now)) s) }
-    ensures cost { (b : TextValue → ℕ) → AllByRecursion (λ g. (t : I) → (get text_eq parts.now g.label ≡ Some t) ⊎ I.alike pattern.now t → I.is_bound t tt g.moves (b g.label)) groups.now → steps.new ≤ steps.old + weigh (λ g. b g.label) groups.now }
+    ensures gives { IfOk result (λ lines. (shape : Shape) (old new : List RowValue) → FitsParts I.table shape pattern.now (get text_eq parts.now) groups.now old new
+        → GivesParts shape (map group_label groups.now) (facts_in shape old) (facts_in shape new) lines.items) }
+    ensures stops { IfErr result (λ s. (shape : Shape) (old new : List RowValue) → FitsParts I.table shape pattern.now (get text_eq parts.now) groups.now old new
+        → StopsFor (first_illegal_column shape.constants (facts_in shape new) (map group_label groups.now)) (first_conflict (facts_in shape new) (map group_label groups.now)) s) }
+    ensures cost { (b : TextValue → ℕ) → AllByRecursion (λ g. (t : I) → (get text_eq parts.now g.label ≡ Some t) ⊎ I.alike pattern.now t → I.is_bound t tt g.moves (b g.label)) groups.now
+        → steps.new ≤ steps.old + weigh (λ g. b g.label) groups.now }
     ensures rises { steps.old ≤ steps.new }
 {
     let mut judged = Judged::new(alloc);

@@ -3,7 +3,7 @@ ghost use Rattle.std.specs.Prelude.{◌≡◌, ◌+◌, ◌≤◌, ℕ, List, le
 ghost use Rattle.ss_text.specs.Texts.{Text as TextValue, Row as RowValue, text_eq};
 ghost use Rattle.indexmap.specs.IndexMap.{get, spare};
 ghost use Rattle.flow_law.specs.declared.shape.Shape.{Shape};
-ghost use Rattle.flow_law.specs.Stops.{IsStop};
+ghost use Rattle.flow_law.specs.Faults.{IsFaultOf};
 ghost use Rattle.unfold_op.specs.FactMoves.{facts_in};
 ghost use Rattle.split_op.specs.Tables.{ScriptLines};
 ghost use Rattle.split_op.specs.Groups.{grouped};
@@ -15,7 +15,7 @@ ghost use Rattle.split_op.specs.Splits.{MovesAll, CanKeepSplit, IsSplitBound};
 use crate::groups::groups_of;
 use crate::lines::{first_illegal_table, lines_of};
 use crate::stages::{Stage, reserve_stages};
-use flow_law::{Stop, TableLine};
+use flow_law::{EvalFault, TableLine};
 use indexmap::IndexMap;
 use operator_law::{Delta, Kept, Operator};
 use ss_text::{NoMemory, Steps, Text};
@@ -31,16 +31,18 @@ pub(crate) fn moved_lines<I: TableOperator, L: Ledger>(
     parts: &IndexMap<Text, I>,
     change: &Delta,
     steps: &mut Steps<L>,
-) -> Result<Vec<TableLine>, Stop>
+) -> Result<Vec<TableLine>, EvalFault>
     requires { (shape : Shape) × (old : List RowValue) × (new : List RowValue) × MovesAll I.table shape pattern.now (get text_eq parts.now) change.now old new }
-    ensures gives { IfOk result (λ lines. (shape : Shape) (old new : List RowValue) → MovesAll I.table shape pattern.now (get text_eq parts.now) change.now old new → ScriptLines shape lines.items (facts_in shape old) (facts_in shape new)) }
-    ensures stops { IfErr result (λ s. (shape : Shape) (old new : List RowValue) → MovesAll I.table shape pattern.now (get text_eq parts.now) change.now old new → IsStop shape (facts_in shape new) s) }
+    ensures gives { IfOk result (λ lines. (shape : Shape) (old new : List RowValue) → MovesAll I.table shape pattern.now (get text_eq parts.now) change.now old new
+        → ScriptLines shape lines.items (facts_in shape old) (facts_in shape new)) }
+    ensures stops { IfErr result (λ s. (shape : Shape) (old new : List RowValue) → MovesAll I.table shape pattern.now (get text_eq parts.now) change.now old new
+        → IsFaultOf shape (facts_in shape new) s) }
     ensures cost { (n : ℕ) → IsSplitBound (λ t. I.is_bound t tt) I.alike pattern.now (get text_eq parts.now) change.now n → steps.new ≤ steps.old + n }
     ensures rises { steps.old ≤ steps.new }
 {
     let groups = groups_of(alloc, change)?;
     match first_illegal_table(parts, &groups)? {
-        Some(label) => Err(Stop::Illegal(label)),
+        Some(label) => Err(EvalFault::Illegal(label)),
         None => match lines_of(alloc, pattern, parts, &groups, steps) {
             Ok(lines) => Ok(lines),
             Err(stop) => Err(stop),

@@ -13,7 +13,7 @@ ghost use Rattle.split_op.specs.PartLines.{GivesPart};
 
 use crate::count::count_moved;
 use crate::groups::Group;
-use flow_law::{Stop, TableLine};
+use flow_law::{EvalFault, TableLine};
 use operator_law::Operator;
 use ss_text::{NoMemory, Steps, Text};
 use std::alloc::Global;
@@ -39,10 +39,12 @@ fn inner_lines<I: TableOperator, L: Ledger>(
     inner: &I,
     group: &Group,
     steps: &mut Steps<L>,
-) -> Result<Vec<TableLine>, Stop>
+) -> Result<Vec<TableLine>, EvalFault>
     requires { (shape : Shape) × (old : List RowValue) × (new : List RowValue) × KeepsRows I.table shape inner.now old × Fits shape group.now.label old group.now.moves new }
-    ensures gives { IfOk result (λ lines. (shape : Shape) (old new : List RowValue) → KeepsRows I.table shape inner.now old → Fits shape group.now.label old group.now.moves new → GivesPart shape group.now.label old new lines.items) }
-    ensures stops { IfErr result (λ s. (shape : Shape) (old new : List RowValue) → KeepsRows I.table shape inner.now old → Fits shape group.now.label old group.now.moves new → StopsFor (illegal_column shape.constants (facts_in shape new)) (conflict (facts_in shape new)) s) }
+    ensures gives { IfOk result (λ lines. (shape : Shape) (old new : List RowValue) → KeepsRows I.table shape inner.now old → Fits shape group.now.label old group.now.moves new
+        → GivesPart shape group.now.label old new lines.items) }
+    ensures stops { IfErr result (λ s. (shape : Shape) (old new : List RowValue) → KeepsRows I.table shape inner.now old → Fits shape group.now.label old group.now.moves new
+        → StopsFor (illegal_column shape.constants (facts_in shape new)) (conflict (facts_in shape new)) s) }
     ensures cost { (n : ℕ) → I.is_bound inner.now tt group.now.moves n → steps.new ≤ steps.old + n }
     ensures rises { steps.old ≤ steps.new }
 {
@@ -63,10 +65,12 @@ fn fresh_lines<I: TableOperator, L: Ledger>(
     pattern: &I,
     group: &Group,
     steps: &mut Steps<L>,
-) -> Result<Vec<TableLine>, Stop>
+) -> Result<Vec<TableLine>, EvalFault>
     requires { (shape : Shape) × (new : List RowValue) × SameColumns shape (I.table pattern.now).shape × Fits shape group.now.label [] group.now.moves new }
-    ensures gives { IfOk result (λ lines. (shape : Shape) (new : List RowValue) → SameColumns shape (I.table pattern.now).shape → Fits shape group.now.label [] group.now.moves new → GivesPart shape group.now.label [] new lines.items) }
-    ensures stops { IfErr result (λ s. (shape : Shape) (new : List RowValue) → SameColumns shape (I.table pattern.now).shape → Fits shape group.now.label [] group.now.moves new → StopsFor (illegal_column shape.constants (facts_in shape new)) (conflict (facts_in shape new)) s) }
+    ensures gives { IfOk result (λ lines. (shape : Shape) (new : List RowValue) → SameColumns shape (I.table pattern.now).shape → Fits shape group.now.label [] group.now.moves new
+        → GivesPart shape group.now.label [] new lines.items) }
+    ensures stops { IfErr result (λ s. (shape : Shape) (new : List RowValue) → SameColumns shape (I.table pattern.now).shape → Fits shape group.now.label [] group.now.moves new
+        → StopsFor (illegal_column shape.constants (facts_in shape new)) (conflict (facts_in shape new)) s) }
     ensures cost { (n : ℕ) → ((t : I) → I.alike pattern.now t → I.is_bound t tt group.now.moves n) → steps.new ≤ steps.old + n }
     ensures rises { steps.old ≤ steps.new }
 {
@@ -85,10 +89,12 @@ pub(crate) fn part_lines<I: TableOperator, L: Ledger>(
     part: Option<&I>,
     group: &Group,
     steps: &mut Steps<L>,
-) -> Result<Vec<TableLine>, Stop>
+) -> Result<Vec<TableLine>, EvalFault>
     requires { (shape : Shape) × (old : List RowValue) × (new : List RowValue) × SameColumns shape (I.table pattern.now).shape × FitsPart I.table shape (option_copied part) group.now old new }
-    ensures gives { IfOk result (λ lines. (shape : Shape) (old new : List RowValue) → SameColumns shape (I.table pattern.now).shape → FitsPart I.table shape (option_copied part.entry) group.now old new → GivesPart shape group.now.label old new lines.items) }
-    ensures stops { IfErr result (λ s. (shape : Shape) (old new : List RowValue) → SameColumns shape (I.table pattern.now).shape → FitsPart I.table shape (option_copied part.entry) group.now old new → StopsFor (illegal_column shape.constants (facts_in shape new)) (conflict (facts_in shape new)) s) }
+    ensures gives { IfOk result (λ lines. (shape : Shape) (old new : List RowValue) → SameColumns shape (I.table pattern.now).shape
+        → FitsPart I.table shape (option_copied part.entry) group.now old new → GivesPart shape group.now.label old new lines.items) }
+    ensures stops { IfErr result (λ s. (shape : Shape) (old new : List RowValue) → SameColumns shape (I.table pattern.now).shape → FitsPart I.table shape (option_copied part.entry) group.now old new
+        → StopsFor (illegal_column shape.constants (facts_in shape new)) (conflict (facts_in shape new)) s) }
     ensures cost { (n : ℕ) → ((t : I) → (option_copied part.entry ≡ Some t) ⊎ I.alike pattern.now t → I.is_bound t tt group.now.moves n) → steps.new ≤ steps.old + n }
     ensures rises { steps.old ≤ steps.new }
 {

@@ -10,7 +10,7 @@ ghost use Rattle.split_op.specs.Added.{CanAddSplit};
 use crate::add::add_fact;
 use crate::moved::{moved_lines, moved_stages};
 use crate::stages::{Stage, commit_stages};
-use flow_law::{Shape, Stop, TableLine};
+use flow_law::{EvalFault, Shape, TableLine};
 use indexmap::IndexMap;
 use operator_law::{Delta, Fresh, Kept, Operator};
 use ss_text::{NoMemory, Row, Steps, Text};
@@ -93,7 +93,8 @@ impl<I: TableOperator> Split<I> {
         cell: Option<(Text, Text)>,
     ) -> Result<(), NoMemory>
         requires { let fact : Fact = record { label = label.now; key = key; cell = cell } in (rows : List RowValue) × CanAddSplit I.table self.old fact rows }
-        ensures keeps { let fact : Fact = record { label = label.now; key = key; cell = cell } in OnOk result ((rows : List RowValue) → CanAddSplit I.table self.old fact rows → KeepsSplit I.table self.new (fact_row fact ∷ rows)) }
+        ensures keeps { let fact : Fact = record { label = label.now; key = key; cell = cell } in OnOk result ((rows : List RowValue) → CanAddSplit I.table self.old fact rows
+            → KeepsSplit I.table self.new (fact_row fact ∷ rows)) }
         ensures shape { self.new.shape ≡ self.old.shape }
         ensures pattern { self.new.pattern ≡ self.old.pattern }
         ensures waits { self.new.waiting ≡ None }
@@ -106,7 +107,7 @@ impl<I: TableOperator> Split<I> {
 
 impl<I: TableOperator> Operator for Split<I> {
     ghost use Rattle.flow_law.specs.FactTables.{tables};
-    ghost use Rattle.flow_law.specs.Stops.{IsStop};
+    ghost use Rattle.flow_law.specs.Faults.{IsFaultOf};
     ghost use Rattle.operator_law.specs.Bags.{MovesBag};
     ghost use Rattle.unfold_op.specs.FactMoves.{facts_in};
     ghost use Rattle.split_op.specs.Tables.{ScriptLines};
@@ -128,7 +129,7 @@ impl<I: TableOperator> Operator for Split<I> {
 
     ghost gives = { λ s i g lines. (old new : List RowValue) → KeepsSplit I.table s old → MovesBag old g new → ScriptLines s.shape lines.items (facts_in s.shape old) (facts_in s.shape new) };
 
-    ghost may_stop = { λ s i g stop. (old new : List RowValue) → KeepsSplit I.table s old → MovesBag old g new → IsStop s.shape (facts_in s.shape new) stop };
+    ghost may_stop = { λ s i g stop. (old new : List RowValue) → KeepsSplit I.table s old → MovesBag old g new → IsFaultOf s.shape (facts_in s.shape new) stop };
 
     ghost is_bound = { λ s i g n. IsSplitBound (λ t. I.is_bound t tt) I.alike s.pattern (part_of s.parts) g n };
 
@@ -138,7 +139,7 @@ impl<I: TableOperator> Operator for Split<I> {
         input: &(),
         change: &Delta,
         steps: &mut Steps<L>,
-    ) -> Result<Vec<TableLine>, Stop> {
+    ) -> Result<Vec<TableLine>, EvalFault> {
         match moved_lines(alloc, &self.pattern, &self.parts, change, steps) {
             Ok(lines) => Ok(lines),
             Err(stop) => Err(stop),

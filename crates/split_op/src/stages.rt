@@ -90,7 +90,8 @@ pub(crate) fn commit_stages<I: TableOperator>(parts: &mut IndexMap<Text, I>, sta
     requires ready { (form : Shape) × AllByRecursion (IsStage I.table I.waiting I.made_for form (get text_eq parts.old)) stages.items }
     requires ascend { IsStrictlySortedBy text_cmp (map (λ s. s.label) stages.items) }
     requires room { length stages.items ≤ spare parts.old }
-    ensures moved { (form : Shape) → AllByRecursion (IsStage I.table I.waiting I.made_for form (get text_eq parts.old)) stages.items → AllByRecursion (MovesPart I.table I.made_for form (get text_eq parts.old) (get text_eq parts.new)) stages.items }
+    ensures moved { (form : Shape) → AllByRecursion (IsStage I.table I.waiting I.made_for form (get text_eq parts.old)) stages.items
+        → AllByRecursion (MovesPart I.table I.made_for form (get text_eq parts.old) (get text_eq parts.new)) stages.items }
     ensures others { (q : TextValue) → list_any (λ s. text_eq q s.label) stages.items ≡ false → get text_eq parts.new q ≡ get text_eq parts.old q }
 {
     let mut left = stages;
@@ -110,7 +111,8 @@ fn reserve_kept<I: TableOperator>(
     ensures others { (q : TextValue) → text_eq group.now.label q ≡ false → get text_eq parts.new q ≡ get text_eq parts.old q }
     ensures room { spare parts.old ≤ spare parts.new }
     ensures none { IfOk result (λ found. IfNone found ((get text_eq parts.old group.now.label ≡ None) × (get text_eq parts.new group.now.label ≡ None))) }
-    ensures some { IfOk result (λ found. IfSome found (λ ready. (t : I) × (get text_eq parts.new group.now.label ≡ Some t) × (I.waiting t ≡ Some (I.made_for ready)) × (I.made_for ready ≡ group.now.moves))) }
+    ensures some { IfOk result (λ found. IfSome found (λ ready. (t : I) × (get text_eq parts.new group.now.label ≡ Some t) × (I.waiting t ≡ Some (I.made_for ready))
+        × (I.made_for ready ≡ group.now.moves))) }
 {
     match parts.get_mut(&group.label) {
         Some(inner) => {
@@ -144,7 +146,8 @@ fn reserve_stage<I: TableOperator>(
     parts: &mut IndexMap<Text, I>,
     group: &Group,
 ) -> Result<Stage<I>, NoMemory>
-    requires { (shape : Shape) × (x : List RowValue) × (y : List RowValue) × SameColumns shape (I.table pattern.now).shape × FitsPart I.table shape (get text_eq parts.old group.now.label) group.now x y × CanKeep shape y }
+    requires { (shape : Shape) × (x : List RowValue) × (y : List RowValue) × SameColumns shape (I.table pattern.now).shape
+        × FitsPart I.table shape (get text_eq parts.old group.now.label) group.now x y × CanKeep shape y }
     ensures same { (shape : Shape) (q : TextValue) (rows : List RowValue) → KeepsPart I.table shape (get text_eq parts.old q) rows → KeepsPart I.table shape (get text_eq parts.new q) rows }
     ensures others { (q : TextValue) → text_eq group.now.label q ≡ false → get text_eq parts.new q ≡ get text_eq parts.old q }
     ensures room { spare parts.old ≤ spare parts.new }

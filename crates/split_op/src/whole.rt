@@ -12,7 +12,7 @@ ghost use Rattle.ss_text.specs.Texts.{Text as TextValue};
 ghost use Rattle.split_op.specs.Wholes.{KeepsWhole, CanAddWhole};
 
 use crate::count::count_moved;
-use flow_law::{Stop, TableLine};
+use flow_law::{EvalFault, TableLine};
 use operator_law::{Delta, Kept, Operator};
 use ss_text::{NoMemory, Row, Steps, Text};
 use std::alloc::Global;
@@ -60,7 +60,8 @@ impl<I: TableOperator> Whole<I> {
     /// column. After `NoMemory` it keeps no facts that are known.
     pub fn add(&mut self, key: Row, cell: Option<(Text, Text)>) -> Result<(), NoMemory>
         requires { let fact : Fact = record { label = self.old.label; key = key; cell = cell } in (rows : List RowValue) × CanAddWhole self.old.label (I.table self.old.inner) fact rows }
-        ensures keeps { let fact : Fact = record { label = self.old.label; key = key; cell = cell } in OnOk result ((rows : List RowValue) → CanAddWhole self.old.label (I.table self.old.inner) fact rows → KeepsWhole self.new.label (I.table self.new.inner) (fact_row fact ∷ rows)) }
+        ensures keeps { let fact : Fact = record { label = self.old.label; key = key; cell = cell } in OnOk result ((rows : List RowValue)
+            → CanAddWhole self.old.label (I.table self.old.inner) fact rows → KeepsWhole self.new.label (I.table self.new.inner) (fact_row fact ∷ rows)) }
         ensures label { self.new.label ≡ self.old.label }
         ensures shape { (I.table self.new.inner).shape ≡ (I.table self.old.inner).shape }
     {
@@ -71,7 +72,7 @@ impl<I: TableOperator> Whole<I> {
 
 impl<I: TableOperator> Operator for Whole<I> {
     ghost use Rattle.flow_law.specs.FactTables.{tables};
-    ghost use Rattle.flow_law.specs.Stops.{IsStop};
+    ghost use Rattle.flow_law.specs.Faults.{IsFaultOf};
     ghost use Rattle.operator_law.specs.Bags.{MovesBag};
     ghost use Rattle.unfold_op.specs.FactMoves.{facts_in};
     ghost use Rattle.split_op.specs.Tables.{ScriptLines};
@@ -91,9 +92,11 @@ impl<I: TableOperator> Operator for Whole<I> {
 
     ghost can_prepare = { λ w i g. CanPrepareWhole w.label (I.table w.inner) g };
 
-    ghost gives = { λ w i g lines. (old new : List RowValue) → KeepsWhole w.label (I.table w.inner) old → MovesBag old g new → ScriptLines (labelled w.label (I.table w.inner).shape) lines.items (facts_in (I.table w.inner).shape old) (facts_in (I.table w.inner).shape new) };
+    ghost gives = { λ w i g lines. (old new : List RowValue) → KeepsWhole w.label (I.table w.inner) old → MovesBag old g new
+        → ScriptLines (labelled w.label (I.table w.inner).shape) lines.items (facts_in (I.table w.inner).shape old) (facts_in (I.table w.inner).shape new) };
 
-    ghost may_stop = { λ w i g stop. (old new : List RowValue) → KeepsWhole w.label (I.table w.inner) old → MovesBag old g new → IsStop (labelled w.label (I.table w.inner).shape) (facts_in (I.table w.inner).shape new) stop };
+    ghost may_stop = { λ w i g stop. (old new : List RowValue) → KeepsWhole w.label (I.table w.inner) old → MovesBag old g new
+        → IsFaultOf (labelled w.label (I.table w.inner).shape) (facts_in (I.table w.inner).shape new) stop };
 
     ghost is_bound = { λ w i g n. I.is_bound w.inner tt g n };
 
@@ -103,7 +106,7 @@ impl<I: TableOperator> Operator for Whole<I> {
         input: &(),
         change: &Delta,
         steps: &mut Steps<L>,
-    ) -> Result<Vec<TableLine>, Stop> {
+    ) -> Result<Vec<TableLine>, EvalFault> {
         let before = self.inner.count();
         let after = count_moved(before, change);
         match self.inner.prepare(alloc, &(), change, steps) {

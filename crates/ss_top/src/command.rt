@@ -67,7 +67,8 @@ pub(crate) fn run_command<F: Folders, S: Source, K: Sink, L: Ledger>(
         → RanSome (course_of (asked_by command.entry) t d) (world_of (F.state store.old) (K.state output.old)) (world_of (F.state store.new) (K.state output.new)) result }
     ensures took { (t : Tree) (bytes : List ℕ) (d : DefinitionOrRefusal) → Told (uses_store (asked_by command.entry)) (F.state store.old).tree t
         → reads_input (asked_by command.entry) ≡ true → S.rest input.old ≡ Some bytes → IsAsked (asked_by command.entry) t d
-        → OnErr result (Took (course_of (asked_by command.entry) t d) bytes (S.rest input.new) (world_of (F.state store.old) (K.state output.old)) (world_of (F.state store.new) (K.state output.new))) }
+        → OnErr result (Took (course_of (asked_by command.entry) t d) bytes (S.rest input.new) (world_of (F.state store.old) (K.state output.old))
+        (world_of (F.state store.new) (K.state output.new))) }
     ensures idle { IdleRun result (world_of (F.state store.old) (K.state output.old)) (world_of (F.state store.new) (K.state output.new)) }
     ensures whole { (bytes : List ℕ) → reads_input (asked_by command.entry) ≡ true → S.rest input.old ≡ Some bytes → IsWholeInput bytes (S.rest input.new) result }
     ensures only_read { only_reads (asked_by command.entry) ≡ true → OnlyRead (F.state store.old) (F.state store.new) }

@@ -137,7 +137,8 @@ impl Lines {
 
     // The line before the first LF. Memory lacks only where there is one.
     fn whole_line(&mut self) -> Result<Option<Text>, NoMemory>
-        ensures found { IfOk result (λ found. MatchOption found ((has_feed self.old.left ≡ false) × (self.new ≡ self.old)) (λ line. (has_feed line ≡ false) × (self.old.left ≡ line ++ 10 ∷ self.new.left))) }
+        ensures found { IfOk result (λ found. MatchOption found ((has_feed self.old.left ≡ false) × (self.new ≡ self.old)) (λ line. (has_feed line ≡ false)
+            × (self.old.left ≡ line ++ 10 ∷ self.new.left))) }
         ensures count { self.new.taken ≡ self.old.taken }
         ensures ended { self.new.ended ≡ self.old.ended }
         ensures most { IsWithinLimit self.new }

@@ -6,18 +6,18 @@ use Rattle.ss_text.specs.Texts.{Text, Row}
 use Rattle.flow_law.specs.declared.shape.Shape.{Shape}
 use Rattle.flow_law.specs.declared.refused.Clash.{Clash}
 use Rattle.flow_law.specs.declared.refused.IllegalLabel.{IllegalLabel}
-use Rattle.flow_law.specs.declared.refused.Stop.{Stop}
-use Rattle.flow_law.specs.declared.refused.Stop.TheVariants as stop
+use Rattle.flow_law.specs.declared.refused.EvalFault.{EvalFault}
+use Rattle.flow_law.specs.declared.refused.EvalFault.TheVariants as eval
 use Rattle.flow_law.specs.Facts.{Fact, Pair, Spot, column_of, illegal_column, conflict}
 use Rattle.fact_counts.specs.Stopped.{StopsFor}
 use Rattle.unfold_op.specs.FactMoves.{facts_in}
 use Rattle.unfold_op.specs.OneTables.{OneTableValue, CanPrepare, MayStop}
 use Rattle.operator_law.specs.declared.delta.Signed.{Signed}
 
-only_memory : (s : Stop) → StopsFor None None s → s ≡ stop.NoMemory
-only_memory (stop.Illegal l) h = absurd (cc)
-only_memory (stop.Conflict c) h = absurd (let e = h.1 in cc)
-only_memory stop.NoMemory h = refl
+only_memory : (s : EvalFault) → StopsFor None None s → s ≡ eval.NoMemory
+only_memory (eval.Illegal l) h = absurd (cc)
+only_memory (eval.Conflict c) h = absurd (let e = h.1 in cc)
+only_memory eval.NoMemory h = refl
 
 module _ (shape : Shape) (plain : shape.spot ≡ None) where
   -- nothing is made of columns that are not there
@@ -32,6 +32,6 @@ module _ (shape : Shape) (plain : shape.spot ≡ None) where
   unfolding conflict
   no_conflict rows = rw (none_made (λ (f : Fact) (column : Text). let s : Spot = (f.label, f.key, column) in s) rows) refl
 
-pub never_refused : (t : OneTableValue) (ms : List Signed) (s : Stop) → t.shape.spot ≡ None → CanPrepare t ms → MayStop t ms s → s ≡ stop.NoMemory
+pub never_refused : (t : OneTableValue) (ms : List Signed) (s : EvalFault) → t.shape.spot ≡ None → CanPrepare t ms → MayStop t ms s → s ≡ eval.NoMemory
 never_refused t ms s plain can h =
     only_memory s (subst (λ (p : Option IllegalLabel × Option Clash). StopsFor p.0 p.1 s) (λ i. (no_illegal t.shape plain can.new i, no_conflict t.shape plain can.new i)) (h can.old can.new can.keeps can.moves))

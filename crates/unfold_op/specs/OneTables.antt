@@ -5,7 +5,7 @@ use Rattle.ss_text.specs.Texts.{Text, Row}
 use Rattle.flow_law.specs.declared.shape.Shape.{Shape}
 use Rattle.flow_law.specs.declared.line.TableLine.{TableLine}
 use Rattle.flow_law.specs.declared.line.TableLine.TheVariants.{TableMinus, TablePlus}
-use Rattle.flow_law.specs.declared.refused.Stop.{Stop}
+use Rattle.flow_law.specs.declared.refused.EvalFault.{EvalFault}
 use Rattle.flow_law.specs.Facts.{Fact, illegal_column, conflict}
 use Rattle.flow_law.specs.FactRows.{fact_row, fact_in, fact_width, IsFactOf}
 use Rattle.flow_law.specs.FactTables.{fact_table, tables}
@@ -91,7 +91,7 @@ abbrev pub Gives : OneTableValue → List Signed → List TableLine → Type 0
 Gives t ms lines = (old new : List Row) → KeepsFacts t old → MovesBag old ms new → GivesLines t ms lines old new
 
 -- the facts after the moves are refused so
-abbrev pub MayStop : OneTableValue → List Signed → Stop → Type 0
+abbrev pub MayStop : OneTableValue → List Signed → EvalFault → Type 0
 MayStop t ms stop =
     (old new : List Row) → KeepsFacts t old → MovesBag old ms new
     → StopsFor (illegal_column t.shape.constants (facts_in t.shape new)) (conflict (facts_in t.shape new)) stop

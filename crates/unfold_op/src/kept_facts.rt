@@ -7,7 +7,7 @@ ghost use Rattle.unfold_op.specs.OneTables.{KeepsFacts, CanAdd, CanKeep, BearsOn
 
 use crate::form::{FactForm, KeyAlone, KeyAndCell};
 use crate::one_table::{OneTable, TableReady};
-use flow_law::{Stop, TableLine};
+use flow_law::{EvalFault, TableLine};
 use operator_law::{Delta, Fresh, Kept, Operator};
 use ss_text::{NoMemory, Row, Steps, Text};
 use std::alloc::Global;
@@ -79,7 +79,8 @@ impl<F: FactForm> KeptFacts<F> {
         cell: Option<(Text, Text)>,
     ) -> Result<(), NoMemory>
         requires { let fact : Fact = record { label = label.now; key = key; cell = cell } in (rows : List RowValue) × CanAdd self.old fact rows }
-        ensures keeps { let fact : Fact = record { label = label.now; key = key; cell = cell } in OnOk result ((rows : List RowValue) → CanAdd self.old fact rows → KeepsFacts self.new (fact_row fact ∷ rows)) }
+        ensures keeps { let fact : Fact = record { label = label.now; key = key; cell = cell } in OnOk result ((rows : List RowValue) → CanAdd self.old fact rows
+            → KeepsFacts self.new (fact_row fact ∷ rows)) }
         ensures shape { self.new.shape ≡ self.old.shape }
         ensures none { self.new.waiting ≡ None }
     {
@@ -97,7 +98,7 @@ impl<F: FactForm> KeptFacts<F> {
 
 impl<F: FactForm> Operator for KeptFacts<F> {
     ghost use Rattle.std.specs.Prelude.{◌≡◌, None};
-    ghost use Rattle.flow_law.specs.declared.refused.Stop.TheVariants.{NoMemory};
+    ghost use Rattle.flow_law.specs.declared.refused.EvalFault.TheVariants.{NoMemory};
     ghost use Rattle.unfold_op.specs.OneTables.{table_value, KeepsFacts, CanPrepare, Gives, MayStop};
 
     type Input = ();
@@ -124,7 +125,7 @@ impl<F: FactForm> Operator for KeptFacts<F> {
         input: &(),
         change: &Delta,
         steps: &mut Steps<L>,
-    ) -> Result<Vec<TableLine>, Stop> {
+    ) -> Result<Vec<TableLine>, EvalFault> {
         match self.table.lines(alloc, change) {
             Ok(lines) => Ok(lines),
             Err(stop) => Err(stop),

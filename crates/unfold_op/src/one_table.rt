@@ -16,7 +16,7 @@ ghost use Rattle.unfold_op.specs.OneTables.{KeepsFacts, CanAdd, CanKeep, BearsOn
 use crate::delta::nets_of;
 use crate::frame::{framed, total_after};
 use fact_counts::{FactCounts, NewCounts, commit, prepare, reserve};
-use flow_law::{Shape, Stop, TableLine};
+use flow_law::{EvalFault, Shape, TableLine};
 use operator_law::{Delta, Signed};
 use ss_text::{NoMemory, Row, Text};
 use std::alloc::Global;
@@ -164,7 +164,8 @@ impl OneTable {
     ) -> Result<(), NoMemory>
         requires whole { IsOneTable self.old }
         requires fits { let fact : Fact = record { label = label.now; key = key; cell = cell } in (rows : List RowValue) × CanAdd (seen self.old) fact rows }
-        ensures keeps { let fact : Fact = record { label = label.now; key = key; cell = cell } in OnOk result ((rows : List RowValue) → CanAdd (seen self.old) fact rows → KeepsFacts (seen self.new) (fact_row fact ∷ rows)) }
+        ensures keeps { let fact : Fact = record { label = label.now; key = key; cell = cell } in OnOk result ((rows : List RowValue) → CanAdd (seen self.old) fact rows
+            → KeepsFacts (seen self.new) (fact_row fact ∷ rows)) }
         ensures shape { self.new.shape ≡ self.old.shape }
         ensures whole { IsOneTable self.new }
         ensures none { self.new.waiting ≡ None }
@@ -177,12 +178,19 @@ impl OneTable {
     }
 
     // The lines between the table of the facts before and that of the facts after, or why the latter are refused.
-    fn changed(&self, alloc: Global, label: &Text, change: &Delta) -> Result<Vec<TableLine>, Stop>
+    fn changed(
+        &self,
+        alloc: Global,
+        label: &Text,
+        change: &Delta,
+    ) -> Result<Vec<TableLine>, EvalFault>
         requires can { CanPrepare (seen self.now) change.now }
         requires label { label.now ≡ label_for self.now.shape self.now.label change.now }
-        ensures legal { IfOk result (λ lines. (old new : List RowValue) → KeepsFacts (seen self.now) old → MovesBag old change.now new → illegal_column self.now.shape.constants (facts_in self.now.shape new) ≡ None) }
+        ensures legal { IfOk result (λ lines. (old new : List RowValue) → KeepsFacts (seen self.now) old → MovesBag old change.now new
+            → illegal_column self.now.shape.constants (facts_in self.now.shape new) ≡ None) }
         ensures clean { IfOk result (λ lines. (old new : List RowValue) → KeepsFacts (seen self.now) old → MovesBag old change.now new → conflict (facts_in self.now.shape new) ≡ None) }
-        ensures lines { IfOk result (λ lines. (old new : List RowValue) → KeepsFacts (seen self.now) old → MovesBag old change.now new → lines.items ≡ lines_between label.now (fact_table (facts_in self.now.shape old)) (fact_table (facts_in self.now.shape new))) }
+        ensures lines { IfOk result (λ lines. (old new : List RowValue) → KeepsFacts (seen self.now) old → MovesBag old change.now new
+            → lines.items ≡ lines_between label.now (fact_table (facts_in self.now.shape old)) (fact_table (facts_in self.now.shape new))) }
         ensures stops { IfErr result (MayStop (seen self.now) change.now) }
     {
         let nets = nets_of(alloc, &self.shape, &change.moves)?;
@@ -193,7 +201,7 @@ impl OneTable {
     }
 
     /// The lines by which the table changes, or why the facts after the change are refused.
-    pub(crate) fn lines(&self, alloc: Global, change: &Delta) -> Result<Vec<TableLine>, Stop>
+    pub(crate) fn lines(&self, alloc: Global, change: &Delta) -> Result<Vec<TableLine>, EvalFault>
         requires whole { IsOneTable self.now }
         requires can { CanPrepare (seen self.now) change.now }
         ensures law { IfOk result (λ lines. Makes (seen self.now) change.now lines.items) }
@@ -239,7 +247,8 @@ impl OneTable {
     /// Moves the facts by the change that waits. It takes no memory.
     pub(crate) fn commit(&mut self)
         requires { IsOneTable self.old }
-        ensures moved { (ms : List SignedValue) (x y : List RowValue) → (seen self.old).waiting ≡ Some ms → KeepsFacts (seen self.old) x → MovesBag x ms y → CanKeep self.old.shape y → KeepsFacts (seen self.new) y }
+        ensures moved { (ms : List SignedValue) (x y : List RowValue) → (seen self.old).waiting ≡ Some ms → KeepsFacts (seen self.old) x → MovesBag x ms y → CanKeep self.old.shape y
+            → KeepsFacts (seen self.new) y }
         ensures shape { self.new.shape ≡ self.old.shape }
         ensures whole { IsOneTable self.new }
         ensures none { self.new.waiting ≡ None }

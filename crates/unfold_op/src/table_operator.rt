@@ -2,7 +2,7 @@
 ghost use Rattle.std.specs.Prelude.{◌≡◌, ◌∷◌, List, OnOk};
 ghost use Rattle.std.specs.Vec.{vec_items};
 ghost use Rattle.ss_text.specs.Texts.{Row as RowValue};
-ghost use Rattle.flow_law.specs.declared.refused.Stop.{Stop};
+ghost use Rattle.flow_law.specs.declared.refused.EvalFault.{EvalFault};
 ghost use Rattle.flow_law.specs.Facts.{Fact};
 ghost use Rattle.flow_law.specs.FactRows.{fact_row};
 ghost use Rattle.operator_law.specs.declared.delta.Signed.{Signed as SignedValue};
@@ -30,7 +30,8 @@ pub trait TableOperator: Fresh
     /// column. After `NoMemory` it keeps no facts that are known.
     fn add(&mut self, label: &Text, key: Row, cell: Option<(Text, Text)>) -> Result<(), NoMemory>
         requires { let fact : Fact = record { label = label.now; key = key; cell = cell } in (rows : List RowValue) × CanAdd (table self.old) fact rows }
-        ensures keeps { let fact : Fact = record { label = label.now; key = key; cell = cell } in OnOk result ((rows : List RowValue) → CanAdd (table self.old) fact rows → KeepsFacts (table self.new) (fact_row fact ∷ rows)) }
+        ensures keeps { let fact : Fact = record { label = label.now; key = key; cell = cell } in OnOk result ((rows : List RowValue) → CanAdd (table self.old) fact rows
+            → KeepsFacts (table self.new) (fact_row fact ∷ rows)) }
         ensures shape { (table self.new).shape ≡ (table self.old).shape };
 
     // What it keeps are the facts of rows.
@@ -48,7 +49,7 @@ pub trait TableOperator: Fresh
     // The lines are those of the table, and it stops just where the facts after the change are refused.
     ghost answers: { (s : Self) (ms : List SignedValue) (out : _) → Self.gives s tt ms out → Gives (table s) ms (vec_items out) };
 
-    ghost stops: { (s : Self) (ms : List SignedValue) (stop : Stop) → Self.may_stop s tt ms stop → MayStop (table s) ms stop };
+    ghost stops: { (s : Self) (ms : List SignedValue) (stop : EvalFault) → Self.may_stop s tt ms stop → MayStop (table s) ms stop };
 
     // The form depends on the constants alone.
     ghost same_form: { (s t : Self) → Self.alike s t → (table s).shape ≡ (table t).shape };

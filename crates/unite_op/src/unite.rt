@@ -4,7 +4,7 @@ ghost use Rattle.std.specs.Option.{option_copied};
 ghost use Rattle.unite_op.specs.NamedThings.{bearer};
 
 use crate::{Named, moves_behind};
-use flow_law::Stop;
+use flow_law::EvalFault;
 use operator_law::{Delta, Operator};
 use ss_text::{Row, Steps};
 use std::alloc::Global;
@@ -20,7 +20,7 @@ pub struct Unite<I> {
 
 impl<I: Operator<Output = Delta>> Operator for Unite<I> {
     ghost use Rattle.std.specs.Prelude.{Some, List, ◌⊎◌, ◌≡◌};
-    ghost use Rattle.flow_law.specs.declared.refused.Stop.TheVariants.{NoMemory};
+    ghost use Rattle.flow_law.specs.declared.refused.EvalFault.TheVariants.{NoMemory};
     ghost use Rattle.operator_law.specs.declared.delta.Signed.{Signed};
     ghost use Rattle.unite_op.specs.declared.named.Named.{Named};
     ghost use Rattle.unite_op.specs.NamedThings.{united, Stand, bearer, OneBears, moves_behind};
@@ -49,7 +49,7 @@ impl<I: Operator<Output = Delta>> Operator for Unite<I> {
         inputs: &Vec<Named<I::Input>>,
         change: &Named<I::Change>,
         steps: &mut Steps<L>,
-    ) -> Result<Delta, Stop> {
+    ) -> Result<Delta, EvalFault> {
         let Some(input) = bearer(inputs, &change.names) else {
             unreachable!()
         };

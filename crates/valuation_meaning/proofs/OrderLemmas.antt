@@ -29,7 +29,7 @@ use Rattle.valuation_meaning.specs.Terms.{value_of, Reading}
 use Rattle.valuation_meaning.specs.Valuations.{assignments, counts, valuations}
 use Rattle.valuation_meaning.specs.Meaning.{given, fact_of, facts, shape_of, meaning}
 use Rattle.valuation_meaning.specs.Refusal.{refusal}
-use Rattle.valuation_meaning.specs.declared.evaluation.EvalFault.TheVariants as fault
+use Rattle.flow_law.specs.declared.refused.EvalFault.TheVariants as eval
 use Rattle.valuation_meaning.specs.Orders.{text_under, row_under, rows_under, SameRelation, SameRelations, SameDatabase, DifferInOrder}
 
 -- ---- elements of lists
@@ -650,4 +650,4 @@ module _ (c d : CatalogueValue) (q : Query) (sound : IsSound c) (also : IsSound 
 
   pub refusal_same : refusal c q ≡ refusal d q
   unfolding refusal
-  refusal_same = refused_same fault.Illegal fault.Conflict
+  refusal_same = refused_same eval.Illegal eval.Conflict

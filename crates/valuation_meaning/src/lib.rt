@@ -25,7 +25,7 @@ mod truth;
 mod value;
 
 pub use early::members;
-pub use evaluation::{AllViewFacts, EvalFault, ViewFacts, all_facts, evaluate, ordered_facts};
+pub use evaluation::{AllViewFacts, ViewFacts, all_facts, evaluate, ordered_facts};
 pub use order::order_means_nothing;
 pub use shape::shape_of;
 pub use truth::compares;

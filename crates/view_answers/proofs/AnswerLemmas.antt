@@ -23,11 +23,10 @@ use Rattle.valuation_meaning.specs.Refusal.{refusal}
 use Rattle.schema_model.specs.declared.pair.Pair.{Pair}
 use Rattle.csv_catalog.specs.Saved.{saved}
 use Rattle.source_law.specs.Synced.{saving}
-use Rattle.view_session.specs.Session.{SessionState, IsOpenFault, IsAccepted, IsRefused, IsHoldRefused, IsGroupStop, lines_to, working}
-use Rattle.view_session.specs.declared.fault.OpenFault.{OpenFault}
-use Rattle.view_session.specs.declared.fault.OpenFault.TheVariants as opening
-use Rattle.view_session.specs.declared.fault.GroupStop.{GroupStop}
-use Rattle.view_session.specs.declared.fault.GroupStop.TheVariants as stop
+use Rattle.view_session.specs.Session.{SessionState, IsAccepted, IsRefused, IsHoldRefused, lines_to, working}
+use Rattle.flow_law.specs.declared.refused.EvalFault.{EvalFault}
+use Rattle.flow_law.specs.declared.refused.EvalFault.TheVariants as eval
+use Rattle.flow_law.specs.Faults.{IsFault}
 use Rattle.view_session.specs.declared.fault.HoldRefused.{HoldRefused}
 use Rattle.view_session.specs.declared.fault.HoldRefused.TheVariants as hold
 use Rattle.view_session.specs.declared.fault.Refused.{Refused}
@@ -40,14 +39,14 @@ use Rattle.view_stages.specs.Syncs.{sync_effects}
 use Rattle.view_stages.proofs.StageLemmas.{not_refused, refused_label, refused_clash}
 use Rattle.view_answers.specs.declared.opening.Viewing.TheVariants as viewing
 use Rattle.view_answers.specs.declared.word.Word.{Word}
-use Rattle.view_answers.specs.Steps.{IsFieldsOf, IsHoldFieldsOf, IsStopFieldsOf, IsOpenFieldsOf, Views}
+use Rattle.view_answers.specs.Steps.{IsFieldsOf, IsHoldFieldsOf, IsFaultFieldsOf, Views}
 use Rattle.view_answers.specs.Answers.{Answer, answer, by_spelling, by_row, by_first, by_fields, by_word, by_broken, by_group, by_open, by_change, by_fault, by_view, refusing, giving_up, keeping, changing, committing, word_in, end_effects, end_view, finish}
 
 -- a view that is refused over a catalogue
-pub refused_views : (f : OpenFault) (row : Row) (c : CatalogueValue) (q : Query) → IsOpenFault (refusal c q) f → IsOpenFieldsOf f row → Views (viewing.Refused row) q c (refusal_of c q)
-refused_views (opening.Illegal e) row c q h is = rw (refused_label c q e h) is
-refused_views (opening.Conflict e) row c q h is = rw (refused_clash c q e h) is
-refused_views opening.NoMemory row c q h is = absurd is
+pub refused_views : (f : EvalFault) (row : Row) (c : CatalogueValue) (q : Query) → IsFault (refusal c q) f → IsFaultFieldsOf f row → Views (viewing.Refused row) q c (refusal_of c q)
+refused_views (eval.Illegal e) row c q h is = rw (refused_label c q e h) is
+refused_views (eval.Conflict e) row c q h is = rw (refused_clash c q e h) is
+refused_views eval.NoMemory row c q h is = absurd is
 
 -- a change where no group is open
 own_catalogue : (s : SessionState) (g : Change) → s.held ≡ None → fault (working s) g ≡ fault s.catalogue g
@@ -79,10 +78,10 @@ unheld_is o g hold.NoMemory row h f = absurd f
 made_is : (o : OpenValue) → refusal (working o.session) o.session.query ≡ None → by_group o (refusal_of (working o.session) o.session.query) ≡ committing o
 made_is o h = ap (by_group o) (not_refused (working o.session) o.session.query h)
 
-stopped_is : (o : OpenValue) (e : GroupStop) (row : Row) → IsGroupStop (refusal (working o.session) o.session.query) e → IsStopFieldsOf e row → by_group o (refusal_of (working o.session) o.session.query) ≡ giving_up o row
-stopped_is o (stop.Illegal e) row h f = ap (by_group o) (refused_label (working o.session) o.session.query e h) ∙ ap (giving_up o) (sym f)
-stopped_is o (stop.Conflict e) row h f = ap (by_group o) (refused_clash (working o.session) o.session.query e h) ∙ ap (giving_up o) (sym f)
-stopped_is o stop.NoMemory row h f = absurd f
+stopped_is : (o : OpenValue) (e : EvalFault) (row : Row) → IsFault (refusal (working o.session) o.session.query) e → IsFaultFieldsOf e row → by_group o (refusal_of (working o.session) o.session.query) ≡ giving_up o row
+stopped_is o (eval.Illegal e) row h f = ap (by_group o) (refused_label (working o.session) o.session.query e h) ∙ ap (giving_up o) (sym f)
+stopped_is o (eval.Conflict e) row h f = ap (by_group o) (refused_clash (working o.session) o.session.query e h) ∙ ap (giving_up o) (sym f)
+stopped_is o eval.NoMemory row h f = absurd f
 
 -- a word alone, and with further fields
 one_word : (o : OpenValue) (row : Row) (w : Word) → length row ≡ 1 → by_fields o row w ≡ by_word o row w
@@ -147,7 +146,7 @@ module _ {A : Type 0} (before v : World) (r : Result A Stop) where
   pub made_does : (o : OpenValue) (lines : List TableLine) → refusal (working o.session) o.session.query ≡ None → lines ≡ lines_to o.session (working o.session) → Does (prints_script lines ∷ []) before v r → DoesBy (by_group o (refusal_of (working o.session) o.session.query))
   made_does o lines h e d = subst DoesBy (sym (made_is o h)) (subst (λ (ls : List TableLine). Does (prints_script ls ∷ []) before v r) e d)
 
-  pub stopped_does : (o : OpenValue) (e : GroupStop) (row : Row) → IsGroupStop (refusal (working o.session) o.session.query) e → IsStopFieldsOf e row → Does (refuses row ∷ []) before v r → DoesBy (by_group o (refusal_of (working o.session) o.session.query))
+  pub stopped_does : (o : OpenValue) (e : EvalFault) (row : Row) → IsFault (refusal (working o.session) o.session.query) e → IsFaultFieldsOf e row → Does (refuses row ∷ []) before v r → DoesBy (by_group o (refusal_of (working o.session) o.session.query))
   stopped_does o e row h f d = subst DoesBy (sym (stopped_is o e row h f)) d
 
   pub read_does : (o : OpenValue) (row : Row) (g : Change) → Ok g ≡ change_of row → DoesBy (by_fault o g (fault (working o.session) g)) → DoesBy (by_change o row (change_of row))
@@ -207,5 +206,5 @@ unheld_view o n g e row h f is = is ∙ ap (λ (a : Answer). a.view) (sym (unhel
 pub made_view : (o n : OpenValue) → refusal (working o.session) o.session.query ≡ None → n ≡ (committing o).view → n ≡ (by_group o (refusal_of (working o.session) o.session.query)).view
 made_view o n h e = e ∙ ap (λ (a : Answer). a.view) (sym (made_is o h))
 
-pub stopped_view : (o n : OpenValue) (e : GroupStop) (row : Row) → IsGroupStop (refusal (working o.session) o.session.query) e → IsStopFieldsOf e row → n ≡ (giving_up o row).view → n ≡ (by_group o (refusal_of (working o.session) o.session.query)).view
+pub stopped_view : (o n : OpenValue) (e : EvalFault) (row : Row) → IsFault (refusal (working o.session) o.session.query) e → IsFaultFieldsOf e row → n ≡ (giving_up o row).view → n ≡ (by_group o (refusal_of (working o.session) o.session.query)).view
 stopped_view o n e row h f is = is ∙ ap (λ (a : Answer). a.view) (sym (stopped_is o e row h f))

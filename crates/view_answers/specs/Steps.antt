@@ -7,10 +7,8 @@ use Rattle.effects.specs.Effects.{World, contents, performed, Partly}
 use Rattle.effects.specs.declared.stop.Stop.{Stop}
 use Rattle.course.specs.Answering.{Reply, Continues, Finishes, effects_of}
 use Rattle.schema_model.specs.declared.change.Change.{Change}
-use Rattle.view_session.specs.declared.fault.OpenFault.{OpenFault}
-use Rattle.view_session.specs.declared.fault.OpenFault.TheVariants as open_fault
-use Rattle.view_session.specs.declared.fault.GroupStop.{GroupStop}
-use Rattle.view_session.specs.declared.fault.GroupStop.TheVariants as group_stop
+use Rattle.flow_law.specs.declared.refused.EvalFault.{EvalFault}
+use Rattle.flow_law.specs.declared.refused.EvalFault.TheVariants as eval
 use Rattle.view_session.specs.declared.fault.HoldRefused.{HoldRefused}
 use Rattle.view_session.specs.declared.fault.HoldRefused.TheVariants as hold
 use Rattle.view_session.specs.declared.fault.Refused.{Refused}
@@ -30,11 +28,11 @@ Views (viewing.View v) q c (Some fields) = ⊥
 Views (viewing.Refused row) q c None = ⊥
 Views (viewing.Refused row) q c (Some fields) = row ≡ fields
 
--- the fields of a view that is not opened
-abbrev pub IsOpenFieldsOf : OpenFault → Row → Type 0
-IsOpenFieldsOf (open_fault.Illegal e) row = row ≡ illegal_fields e
-IsOpenFieldsOf (open_fault.Conflict e) row = row ≡ clash_fields e
-IsOpenFieldsOf open_fault.NoMemory row = ⊥
+-- the fields of a view that has no tables
+abbrev pub IsFaultFieldsOf : EvalFault → Row → Type 0
+IsFaultFieldsOf (eval.Illegal e) row = row ≡ illegal_fields e
+IsFaultFieldsOf (eval.Conflict e) row = row ≡ clash_fields e
+IsFaultFieldsOf eval.NoMemory row = ⊥
 
 -- the fields of a change that is refused
 abbrev pub IsFieldsOf : Change → Refused → Row → Type 0
@@ -43,15 +41,10 @@ IsFieldsOf g (refused.Illegal e) row = row ≡ illegal_fields e
 IsFieldsOf g (refused.Conflict e) row = row ≡ clash_fields e
 IsFieldsOf g refused.NoMemory row = ⊥
 
--- the fields of a change that is not held, and of a group that is refused
+-- the fields of a change that is not held
 abbrev pub IsHoldFieldsOf : Change → HoldRefused → Row → Type 0
 IsHoldFieldsOf g (hold.Change r) row = row ≡ refusal_fields g r
 IsHoldFieldsOf g hold.NoMemory row = ⊥
-
-abbrev pub IsStopFieldsOf : GroupStop → Row → Type 0
-IsStopFieldsOf (group_stop.Illegal e) row = row ≡ illegal_fields e
-IsStopFieldsOf (group_stop.Conflict e) row = row ≡ clash_fields e
-IsStopFieldsOf group_stop.NoMemory row = ⊥
 
 -- a run that an opening ended was refused
 abbrev pub IsRefusal : Opened → Type 0

@@ -7,19 +7,20 @@ ghost use Rattle.view_def.specs.Query.{query_of};
 ghost use Rattle.view_stages.specs.Stages.{refusal_of, loaded_or_refused};
 ghost use Rattle.view_stages.specs.Stages.{DefinitionOrRefusal};
 ghost use Rattle.view_stages.specs.Opening.{IsDefinition, definition_bytes, opening, with_catalogue, with_view};
-ghost use Rattle.view_answers.specs.Steps.{Opens, Views, IsOpenFieldsOf, IsRefusal};
+ghost use Rattle.view_answers.specs.Steps.{Opens, Views, IsFaultFieldsOf, IsRefusal};
 ghost use Rattle.run_course.specs.Idle.{IdleUnread};
 
 use crate::view::OpenView;
 use course::Verdict;
 use effects::Stop;
+use flow_law::EvalFault;
 use outside::{Folders, Sink};
 use schema_model::Catalogue;
 use ss_print::{clash_fields, illegal_fields, refuse};
 use ss_text::{NoMemory, Row, Steps, Text};
 use std::alloc::Global;
 use std::sync::ledger::Ledger;
-use view_session::{OpenFault, Session};
+use view_session::Session;
 use view_stages::{Definition, Loading, Understood, load_sources, read_definition};
 
 /// What an opening gives: an open view, or the end of the run.
@@ -75,7 +76,8 @@ fn open_view<F: Folders, K: Sink, L: Ledger>(
     steps: &mut Steps<L>,
 ) -> Result<Opened, Stop>
     ensures opens { (t : Tree) → (F.state store.old).tree ≡ Some t
-        → Opens (with_catalogue t (query_of definition.view.value) (loaded_or_refused t)) (world_of (F.state store.old) (K.state output.old)) (world_of (F.state store.new) (K.state output.new)) result }
+        → Opens (with_catalogue t (query_of definition.view.value) (loaded_or_refused t)) (world_of (F.state store.old) (K.state output.old))
+        (world_of (F.state store.new) (K.state output.new)) result }
     ensures refused { IfOk result IsRefusal }
     ensures idle { IdleUnread result (world_of (F.state store.old) (K.state output.old)) (world_of (F.state store.new) (K.state output.new)) }
     ensures blames { Blames (world_of (F.state store.old) (K.state output.old)) (world_of (F.state store.new) (K.state output.new)) result }
@@ -153,13 +155,13 @@ fn view_over<L: Ledger>(
     }
 }
 
-// The fields of a view that is not opened.
-fn fault_fields(alloc: Global, fault: &OpenFault) -> Result<Row, NoMemory>
-    ensures { IfOk result (λ row. IsOpenFieldsOf fault.now row) }
+// The fields of a view that has no tables.
+pub(crate) fn fault_fields(alloc: Global, fault: &EvalFault) -> Result<Row, NoMemory>
+    ensures { IfOk result (λ row. IsFaultFieldsOf fault.now row) }
 {
     match fault {
-        OpenFault::Illegal(label) => illegal_fields(alloc, label),
-        OpenFault::Conflict(clash) => clash_fields(alloc, clash),
-        OpenFault::NoMemory => Err(NoMemory),
+        EvalFault::Illegal(label) => illegal_fields(alloc, label),
+        EvalFault::Conflict(clash) => clash_fields(alloc, clash),
+        EvalFault::NoMemory => Err(NoMemory),
     }
 }

@@ -3,10 +3,10 @@ use Rattle.std.proofs.Common.{◌≡◌, ◌≤◌, ◌∷◌, List, Option, sym
 use Rattle.ss_text.specs.Texts.{Text, Row}
 use Rattle.flow_law.specs.declared.shape.Shape.{Shape}
 use Rattle.flow_law.specs.declared.line.TableLine.{TableLine}
-use Rattle.flow_law.specs.declared.refused.Stop.{Stop}
+use Rattle.flow_law.specs.declared.refused.EvalFault.{EvalFault}
 use Rattle.flow_law.specs.Facts.{Fact}
 use Rattle.flow_law.specs.FactRows.{fact_row, IsFactOf}
-use Rattle.flow_law.specs.Stops.{IsStop}
+use Rattle.flow_law.specs.Faults.{IsFaultOf}
 use Rattle.operator_law.specs.declared.delta.Signed.{Signed}
 use Rattle.operator_law.specs.Bags.{weigh}
 use Rattle.operator_law.proofs.Weights.{weigh-none}
@@ -25,8 +25,8 @@ module _ (shape : Shape) (s : SplitValue OneTableValue) (old : List Row) (h : Ke
   pub script_each : (new : List Row) (lines : List TableLine) → ScriptLines s.shape lines (facts_in s.shape old) (facts_in s.shape new) → ScriptLines shape lines (facts_in shape old) (facts_in shape new)
   script_each new lines l = subst (λ (f : Shape). ScriptLines f lines (facts_in f old) (facts_in f new)) h.shape_is l
 
-  pub stop_each : (new : List Row) (e : Stop) → IsStop s.shape (facts_in s.shape new) e → IsStop shape (facts_in shape new) e
-  stop_each new e i = subst (λ (f : Shape). IsStop f (facts_in f new) e) h.shape_is i
+  pub stop_each : (new : List Row) (e : EvalFault) → IsFaultOf s.shape (facts_in s.shape new) e → IsFaultOf shape (facts_in shape new) e
+  stop_each new e i = subst (λ (f : Shape). IsFaultOf f (facts_in f new) e) h.shape_is i
 
   pub wide_each : (ms : List Signed) (new : List Row) → MovesForm shape ms old new → AreWide s.shape ms
   wide_each ms new m = subst (λ (f : Shape). AreWide f ms) (sym h.shape_is) m.wide

@@ -12,12 +12,12 @@ use Rattle.flow_law.specs.declared.shape.Shape.{Shape}
 use Rattle.flow_law.specs.declared.line.TableLine.{TableLine}
 use Rattle.flow_law.specs.declared.refused.IllegalLabel.{IllegalLabel}
 use Rattle.flow_law.specs.declared.refused.Clash.{Clash}
-use Rattle.flow_law.specs.declared.refused.Stop.{Stop}
+use Rattle.flow_law.specs.declared.refused.EvalFault.{EvalFault}
 use Rattle.flow_law.specs.Facts.{Fact, illegal, conflict, first_refusal, refusal_by}
 use Rattle.flow_law.specs.FactRows.{fact_width, fact_in}
 use Rattle.flow_law.specs.Labelled.{BearLabel}
 use Rattle.flow_law.specs.Script.{script}
-use Rattle.flow_law.specs.Stops.{IsStop}
+use Rattle.flow_law.specs.Faults.{IsFaultOf}
 use Rattle.valuation_meaning.specs.Meaning.{facts, meaning, shape_of}
 use Rattle.valuation_meaning.specs.Refusal.{refusal}
 use Rattle.valuation_meaning.proofs.EvalLemmas.{bear}
@@ -32,7 +32,7 @@ use Rattle.unfold_op.specs.FactMoves.{facts_in, facts_moved}
 use Rattle.unfold_op.proofs.BagMoves.{facts_length}
 use Rattle.split_op.specs.Tables.{ScriptLines}
 use Rattle.view_engine.specs.Forms.{CanKeepTables, MovesForm}
-use Rattle.view_engine.specs.Engines.{IsViewStop}
+use Rattle.view_engine.specs.Engines.{IsViewFault}
 use Rattle.view_engine.proofs.NetRows.{rows_moved}
 
 -- a view is refused for no facts that have neither an illegal label nor a conflict, and only for such
@@ -90,8 +90,8 @@ module _ (c : CatalogueValue) (q : Query) (profile : IsViewOfProfile q) where
       let both = allowed_facts c q allowed in
       record { few = few_rows sound; legal = ap (illegal (shape_of q)) in_rows ∙ both.0; clean = ap conflict in_rows ∙ both.1; bear = bear_rows }
 
-  pub stop_rows : (s : Stop) → IsStop (shape_of q) (facts_in (shape_of q) (fact_rows c q)) s → IsViewStop c q s
-  stop_rows s h = subst (λ (fs : List Fact). IsStop (shape_of q) fs s) in_rows h
+  pub stop_rows : (s : EvalFault) → IsFaultOf (shape_of q) (facts_in (shape_of q) (fact_rows c q)) s → IsViewFault c q s
+  stop_rows s h = subst (λ (fs : List Fact). IsFaultOf (shape_of q) fs s) in_rows h
 
 module _ (c c' : CatalogueValue) (q : Query) (profile : IsViewOfProfile q) where
   pub move_form : IsSound c' → (ms : List Signed) → MovesFacts c c' q ms → MovesForm (shape_of q) ms (fact_rows c q) (fact_rows c' q)

@@ -6,15 +6,15 @@ use Rattle.std.specs.Prelude.{Result, Ok, Err, IfOk, IfErr}
 use Rattle.ss_text.specs.Texts.{Text, Row}
 use Rattle.flow_law.specs.declared.shape.Shape.{Shape}
 use Rattle.flow_law.specs.declared.line.TableLine.{TableLine}
-use Rattle.flow_law.specs.declared.refused.Stop.{Stop}
-use Rattle.flow_law.specs.declared.refused.Stop.TheVariants as stop
+use Rattle.flow_law.specs.declared.refused.EvalFault.{EvalFault}
+use Rattle.flow_law.specs.declared.refused.EvalFault.TheVariants as eval
 use Rattle.flow_law.specs.declared.refused.IllegalLabel.{IllegalLabel}
 use Rattle.flow_law.specs.Facts.{Fact, illegal, illegal_table, illegal_column, conflict, refusal_by}
 use Rattle.flow_law.specs.FactRows.{row_width, fact_width, cell_behind, fact_row, fact_in, IsFactOf}
 use Rattle.flow_law.specs.FactTables.{tables}
 use Rattle.flow_law.specs.Labelled.{AllBear, BearLabel}
 use Rattle.flow_law.specs.Script.{script}
-use Rattle.flow_law.specs.Stops.{IsStop}
+use Rattle.flow_law.specs.Faults.{IsFaultOf}
 use Rattle.operator_law.specs.declared.delta.Signed.{Signed}
 use Rattle.unfold_op.specs.FactMoves.{facts_in, facts_moved}
 use Rattle.unfold_op.specs.OneTables.{OneTableValue}
@@ -60,11 +60,11 @@ tables_alike : (a b : Shape) → a.label ≡ b.label → (fs : List Fact) → ta
 unfolding tables
 tables_alike a b e fs = rw e refl
 
-stop_alike : (a b : Shape) (fs gs : List Fact) → illegal a fs ≡ illegal b gs → conflict fs ≡ conflict gs → (s : Stop) → IsStop a fs s → IsStop b gs s
+stop_alike : (a b : Shape) (fs gs : List Fact) → illegal a fs ≡ illegal b gs → conflict fs ≡ conflict gs → (s : EvalFault) → IsFaultOf a fs s → IsFaultOf b gs s
 unfolding refusal_by
-stop_alike a b fs gs i k stop.NoMemory h = tt
-stop_alike a b fs gs i k (stop.Illegal l) h = rw (sym i, sym k) h
-stop_alike a b fs gs i k (stop.Conflict l) h = rw (sym i, sym k) h
+stop_alike a b fs gs i k eval.NoMemory h = tt
+stop_alike a b fs gs i k (eval.Illegal l) h = rw (sym i, sym k) h
+stop_alike a b fs gs i k (eval.Conflict l) h = rw (sym i, sym k) h
 
 -- no column is illegal where no label is
 legal_column : (shape : Shape) (fs : List Fact) → illegal shape fs ≡ None → illegal_column shape.constants fs ≡ None
@@ -98,7 +98,7 @@ module _ (shape : Shape) (label : Text) (t : OneTableValue) where
           lines_are = s.lines_are ∙ (λ i. script (tables_same old i) (tables_same new i));
         }
 
-    pub stop_one : (new : List Row) (s : Stop) → IsStop (labelled label t.shape) (facts_in t.shape new) s → IsStop shape (facts_in shape new) s
+    pub stop_one : (new : List Row) (s : EvalFault) → IsFaultOf (labelled label t.shape) (facts_in t.shape new) s → IsFaultOf shape (facts_in shape new) s
     stop_one new s i =
         let form = labelled label t.shape in
         stop_alike form shape (facts_in t.shape new) (facts_in shape new)

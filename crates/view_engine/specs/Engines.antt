@@ -7,9 +7,9 @@ use Rattle.schema_model.specs.declared.change.Change.TheVariants.{Insert, Delete
 use Rattle.view_def.specs.Query.{Query}
 use Rattle.view_def.specs.Profile.{IsViewOfProfile}
 use Rattle.flow_law.specs.declared.line.TableLine.{TableLine}
-use Rattle.flow_law.specs.declared.refused.Stop.{Stop}
+use Rattle.flow_law.specs.declared.refused.EvalFault.{EvalFault}
 use Rattle.flow_law.specs.Script.{script}
-use Rattle.flow_law.specs.Stops.{IsStop}
+use Rattle.flow_law.specs.Faults.{IsFaultOf}
 use Rattle.valuation_meaning.specs.Meaning.{facts, meaning, shape_of}
 use Rattle.valuation_meaning.specs.Refusal.{refusal}
 use Rattle.plan_law.specs.PlanMoves.{fact_rows}
@@ -32,8 +32,8 @@ pub record EngineStands (c : CatalogueValue) (e : Engine) : Type 0 where
   pub allowed : refusal c (view_in e) ≡ None
 
 -- why a view has no tables over a catalogue, or there was no memory
-abbrev pub IsViewStop : CatalogueValue → Query → Stop → Type 0
-IsViewStop c q stop = IsStop (shape_of q) (facts c q) stop
+abbrev pub IsViewFault : CatalogueValue → Query → EvalFault → Type 0
+IsViewFault c q stop = IsFaultOf (shape_of q) (facts c q) stop
 
 -- the lines of a move
 abbrev pub lines_in : EngineMove → List TableLine

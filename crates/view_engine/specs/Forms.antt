@@ -4,11 +4,11 @@ use Rattle.std.specs.List.{All, AllByRecursion}
 use Rattle.ss_text.specs.Texts.{Text, Row}
 use Rattle.flow_law.specs.declared.shape.Shape.{Shape}
 use Rattle.flow_law.specs.declared.line.TableLine.{TableLine}
-use Rattle.flow_law.specs.declared.refused.Stop.{Stop}
+use Rattle.flow_law.specs.declared.refused.EvalFault.{EvalFault}
 use Rattle.flow_law.specs.Facts.{Fact, illegal, conflict}
 use Rattle.flow_law.specs.FactRows.{fact_row, fact_width, IsFactOf}
 use Rattle.flow_law.specs.Labelled.{BearLabel}
-use Rattle.flow_law.specs.Stops.{IsStop}
+use Rattle.flow_law.specs.Faults.{IsFaultOf}
 use Rattle.operator_law.specs.declared.delta.Signed.{Signed}
 use Rattle.operator_law.specs.Bags.{MovesBag}
 use Rattle.unfold_op.specs.FactMoves.{facts_in, facts_moved}
@@ -80,9 +80,9 @@ TellsLines t ms lines =
     (shape : Shape) (old new : List Row) → KeepsTables shape t old → MovesBag old ms new → ScriptLines shape lines (facts_in shape old) (facts_in shape new)
 
 -- and those facts are refused so
-abbrev pub StopsSo : ViewTables → List Signed → Stop → Type 0
+abbrev pub StopsSo : ViewTables → List Signed → EvalFault → Type 0
 StopsSo t ms stop =
-    (shape : Shape) (old new : List Row) → KeepsTables shape t old → MovesBag old ms new → IsStop shape (facts_in shape new) stop
+    (shape : Shape) (old new : List Row) → KeepsTables shape t old → MovesBag old ms new → IsFaultOf shape (facts_in shape new) stop
 
 -- the moves that tables were made ready for, and those that wait in tables
 abbrev pub made_for : TablesReady → List Signed

@@ -8,10 +8,10 @@ ghost use Rattle.schema_model.specs.Refusals.{fault, group_fault};
 ghost use Rattle.schema_model.specs.Sound.{IsSound};
 ghost use Rattle.plan_translate.specs.Plans.{PlanMoves};
 ghost use Rattle.plan_translate.specs.Costs.{CountsPairs};
-ghost use Rattle.view_engine.specs.Engines.{view_in, EngineStands, EngineMoves, IsViewStop, row_limit};
+ghost use Rattle.view_engine.specs.Engines.{view_in, EngineStands, EngineMoves, IsViewFault, row_limit};
 
 use crate::{Engine, EngineMove};
-use flow_law::Stop;
+use flow_law::EvalFault;
 use plan_translate::PlanMove;
 use schema_model::{Catalogue, Change};
 use ss_text::Steps;
@@ -25,11 +25,11 @@ impl Engine {
         alloc: Global,
         plan: PlanMove,
         steps: &mut Steps<L>,
-    ) -> Result<EngineMove, Stop>
+    ) -> Result<EngineMove, EvalFault>
         requires { (c : CatalogueValue) × (c' : CatalogueValue) × IsSound c' × EngineStands c self.now × PlanMoves c c' (view_in self.now) plan }
         ensures moves { IfOk result (λ m. (c c' : CatalogueValue) → IsSound c' → EngineStands c self.now → PlanMoves c c' (view_in self.now) plan → EngineMoves c c' (view_in self.now) m) }
         ensures plan { IfOk result (λ m. m.plan ≡ plan) }
-        ensures stops { IfErr result (λ stop. (c c' : CatalogueValue) → IsSound c' → EngineStands c self.now → PlanMoves c c' (view_in self.now) plan → IsViewStop c' (view_in self.now) stop) }
+        ensures stops { IfErr result (λ stop. (c c' : CatalogueValue) → IsSound c' → EngineStands c self.now → PlanMoves c c' (view_in self.now) plan → IsViewFault c' (view_in self.now) stop) }
         ensures steps { steps.new ≡ steps.old }
     {
         match self.tables.prepare(alloc, plan.facts(), steps) {
@@ -46,14 +46,14 @@ impl Engine {
         catalogue: &Catalogue,
         change: &Change,
         steps: &mut Steps<L>,
-    ) -> Result<EngineMove, Stop>
+    ) -> Result<EngineMove, EvalFault>
         requires well_formed { IsTrue (is_well_formed change.now) }
         requires accepted { fault catalogue.now.databases change.now ≡ None }
         requires stands { EngineStands catalogue.now.databases self.now }
         ensures moves { IfOk result (EngineMoves catalogue.now.databases (after catalogue.now.databases change.now) (view_in self.now)) }
-        ensures stops { IfErr result (IsViewStop (after catalogue.now.databases change.now) (view_in self.now)) }
+        ensures stops { IfErr result (IsViewFault (after catalogue.now.databases change.now) (view_in self.now)) }
         ensures cost { IfOk result (λ m. CountsPairs catalogue.now.databases (after catalogue.now.databases change.now) (view_in self.now) m.plan steps.old steps.new) }
-        ensures within { result ≢ Err Stop.NoMemory → ForSome (row_limit catalogue.now.databases (view_in self.now) change.now) (λ n. steps.new ≤ steps.old + n) }
+        ensures within { result ≢ Err EvalFault.NoMemory → ForSome (row_limit catalogue.now.databases (view_in self.now) change.now) (λ n. steps.new ≤ steps.old + n) }
         ensures rises { steps.old ≤ steps.new }
     {
         let _databases = catalogue.databases();
@@ -69,12 +69,12 @@ impl Engine {
         catalogue: &Catalogue,
         changes: &[Change],
         steps: &mut Steps<L>,
-    ) -> Result<EngineMove, Stop>
+    ) -> Result<EngineMove, EvalFault>
         requires well_formed { AllByRecursion (λ g. IsTrue (is_well_formed g)) changes.now }
         requires accepted { group_fault catalogue.now.databases changes.now ≡ None }
         requires stands { EngineStands catalogue.now.databases self.now }
         ensures moves { IfOk result (EngineMoves catalogue.now.databases (after_all catalogue.now.databases changes.now) (view_in self.now)) }
-        ensures stops { IfErr result (IsViewStop (after_all catalogue.now.databases changes.now) (view_in self.now)) }
+        ensures stops { IfErr result (IsViewFault (after_all catalogue.now.databases changes.now) (view_in self.now)) }
         ensures cost { IfOk result (λ m. CountsPairs catalogue.now.databases (after_all catalogue.now.databases changes.now) (view_in self.now) m.plan steps.old steps.new) }
         ensures rises { steps.old ≤ steps.new }
     {

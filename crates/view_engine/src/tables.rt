@@ -10,7 +10,7 @@ ghost use Rattle.operator_law.specs.Bags.{MovesBag};
 ghost use Rattle.view_engine.specs.Forms.{KeepsTables, CanKeepTables, CanAddTables, CanFillTables, MovesTables, TellsLines, StopsSo, IsReadyFor, made_for, is_one};
 
 use fact_tables::{AllFacts, Fact, FactCell};
-use flow_law::{Shape, Stop, TableLine};
+use flow_law::{EvalFault, Shape, TableLine};
 use operator_law::{Delta, Kept, Operator};
 use split_op::{Split, SplitReady, Whole};
 use ss_text::{NoMemory, Row, Steps, Text};
@@ -144,7 +144,7 @@ impl ViewTables {
         alloc: Global,
         facts: &Delta,
         steps: &mut Steps<L>,
-    ) -> Result<Vec<TableLine>, Stop>
+    ) -> Result<Vec<TableLine>, EvalFault>
         requires { (shape : ShapeValue) × (old : List RowValue) × (new : List RowValue) × MovesTables shape self.now facts.now old new }
         ensures lines { IfOk result (λ lines. TellsLines self.now facts.now lines.items) }
         ensures stops { IfErr result (StopsSo self.now facts.now) }

@@ -32,9 +32,11 @@ pub fn sync<F: Folders, T: TableTexts>(
 ) -> Result<usize, Stop>
     requires { FitShape shape.now (T.tables tables.now) }
     ensures performs { Performs (later_sync (view_folder view_db.now) shape.now (T.tables tables.now) labels.now) (F.state store.old) (F.state store.new) result }
-    ensures holds { IfOk result (λ _. (t u : Tree) → (F.state store.old).tree ≡ Some t → (F.state store.new).tree ≡ Some u → HoldsNamed (view_folder view_db.now) shape.now (T.tables tables.now) labels.now t u) }
+    ensures holds { IfOk result (λ _. (t u : Tree) → (F.state store.old).tree ≡ Some t → (F.state store.new).tree ≡ Some u
+        → HoldsNamed (view_folder view_db.now) shape.now (T.tables tables.now) labels.now t u) }
     ensures writes { IfOk result (λ n. (F.state store.new).writes ≡ risen ((F.state store.old).writes) n) }
-    ensures count { IfOk result (λ n. (t : Tree) → (F.state store.old).tree ≡ Some t → IsStrictlySortedBy text_cmp labels.now → n ≡ later_count (view_folder view_db.now) (T.tables tables.now) labels.now t) }
+    ensures count { IfOk result (λ n. (t : Tree) → (F.state store.old).tree ≡ Some t → IsStrictlySortedBy text_cmp labels.now
+        → n ≡ later_count (view_folder view_db.now) (T.tables tables.now) labels.now t) }
 {
     let folder = folder_of_view(alloc, view_db)?;
     let ordered = tables_first(alloc, tables, labels)?;

@@ -31,8 +31,11 @@ pub fn sync_all<F: Folders, T: TableTexts>(
     tables: &T,
 ) -> Result<usize, Stop>
     requires { FitShape shape.now (T.tables tables.now) }
-    ensures does { (o : _) (t : Tree) → (F.state store.old).tree ≡ Some t → Does (opening_sync (view_folder view_db.now) (table_files shape.now (T.tables tables.now)) (files_of t (view_folder view_db.now))) (world_of (F.state store.old) o) (world_of (F.state store.new) o) result }
-    ensures holds { IfOk result (λ _. (t u : Tree) → (F.state store.old).tree ≡ Some t → (F.state store.new).tree ≡ Some u → HoldsExactly (view_folder view_db.now) (table_files shape.now (T.tables tables.now)) t u) }
+    ensures does { (o : _) (t : Tree) → (F.state store.old).tree ≡ Some t
+        → Does (opening_sync (view_folder view_db.now) (table_files shape.now (T.tables tables.now)) (files_of t (view_folder view_db.now))) (world_of (F.state store.old) o)
+        (world_of (F.state store.new) o) result }
+    ensures holds { IfOk result (λ _. (t u : Tree) → (F.state store.old).tree ≡ Some t → (F.state store.new).tree ≡ Some u
+        → HoldsExactly (view_folder view_db.now) (table_files shape.now (T.tables tables.now)) t u) }
     ensures count { IfOk result (λ n. (t : Tree) → (F.state store.old).tree ≡ Some t → n ≡ opening_count (table_files shape.now (T.tables tables.now)) (files_of t (view_folder view_db.now))) }
     ensures writes { IfOk result (λ n. (F.state store.new).writes ≡ risen ((F.state store.old).writes) n) }
     ensures read_first { IsErrOf result Stop.ReadFault → OnlyRead (F.state store.old) (F.state store.new) }
@@ -54,7 +57,8 @@ pub fn sync_files<F: Folders>(
     files: &[File],
 ) -> Result<usize, Stop>
     requires { AreViewFiles files.now }
-    ensures does { (o : _) (t : Tree) → (F.state store.old).tree ≡ Some t → Does (opening_sync folder.now files.now (files_of t folder.now)) (world_of (F.state store.old) o) (world_of (F.state store.new) o) result }
+    ensures does { (o : _) (t : Tree) → (F.state store.old).tree ≡ Some t
+        → Does (opening_sync folder.now files.now (files_of t folder.now)) (world_of (F.state store.old) o) (world_of (F.state store.new) o) result }
     ensures holds { IfOk result (λ _. (t u : Tree) → (F.state store.old).tree ≡ Some t → (F.state store.new).tree ≡ Some u → HoldsExactly folder.now files.now t u) }
     ensures count { IfOk result (λ n. (t : Tree) → (F.state store.old).tree ≡ Some t → n ≡ opening_count files.now (files_of t folder.now)) }
     ensures writes { IfOk result (λ n. (F.state store.new).writes ≡ risen ((F.state store.old).writes) n) }

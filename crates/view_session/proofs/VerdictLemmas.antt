@@ -24,14 +24,14 @@ use Rattle.change_script.specs.Fits.{IsForm, TablesFit}
 use Rattle.change_script.proofs.FitLemmas.{FactFits, tables_fit}
 use Rattle.valuation_meaning.specs.Meaning.{facts, meaning, shape_of}
 use Rattle.valuation_meaning.specs.Refusal.{refusal}
-use Rattle.valuation_meaning.specs.declared.evaluation.EvalFault.TheVariants as eval
+use Rattle.flow_law.specs.declared.refused.EvalFault.{EvalFault}
+use Rattle.flow_law.specs.declared.refused.EvalFault.TheVariants as eval
+use Rattle.flow_law.specs.Faults.{IsFault}
 use Rattle.view_engine.proofs.FactsForm.{have_form, legal_label}
-use Rattle.apply_law.specs.Verdicts.{Verdict, Makes, IsIllegal, Clashes, tables_in, IsScriptTo, IsGroupRefused}
+use Rattle.apply_law.specs.Verdicts.{Verdict, Makes, IsIllegal, Clashes, tables_in, IsScriptTo, IsGroupRefused, all_refused}
 use Rattle.apply_law.specs.declared.refused.GroupRefused.{GroupRefused}
-use Rattle.view_session.specs.Session.{IsRefusedOver, IsGroupStop}
-use Rattle.view_session.specs.Verdicts.{verdict_of, first_refused, all_refused}
-use Rattle.view_session.specs.declared.fault.GroupStop.{GroupStop}
-use Rattle.view_session.specs.declared.fault.GroupStop.TheVariants as stop
+use Rattle.view_session.specs.Session.{IsRefusedOver}
+use Rattle.view_session.specs.Verdicts.{verdict_of, first_refused}
 use Rattle.view_session.specs.declared.fault.Refused.{Refused}
 use Rattle.view_session.specs.declared.fault.Refused.TheVariants as refused
 use Rattle.view_session.proofs.UpkeepLemmas.{meaning_in_order}
@@ -83,10 +83,10 @@ one_refused c q g (refused.Illegal label) h = (no_first c g h.0, verdict_illegal
 one_refused c q g (refused.Conflict clash) h = (no_first c g h.0, verdict_clash q (after c g) clash h.1)
 one_refused c q g refused.NoMemory h = tt
 
-pub group_refused : (c : CatalogueValue) (q : Query) (gs : List Change) (e : GroupStop) → group_fault c gs ≡ None → IsGroupStop (refusal (after_all c gs) q) e → IsGroupRefused (verdict_of q) c gs (all_refused e)
-group_refused c q gs (stop.Illegal label) accepted h = (accepted, verdict_illegal q (after_all c gs) label h)
-group_refused c q gs (stop.Conflict clash) accepted h = (accepted, verdict_clash q (after_all c gs) clash h)
-group_refused c q gs stop.NoMemory accepted h = tt
+pub group_refused : (c : CatalogueValue) (q : Query) (gs : List Change) (e : EvalFault) → group_fault c gs ≡ None → IsFault (refusal (after_all c gs) q) e → IsGroupRefused (verdict_of q) c gs (all_refused e)
+group_refused c q gs (eval.Illegal label) accepted h = (accepted, verdict_illegal q (after_all c gs) label h)
+group_refused c q gs (eval.Conflict clash) accepted h = (accepted, verdict_clash q (after_all c gs) clash h)
+group_refused c q gs eval.NoMemory accepted h = tt
 
 -- the form of a view of the profile, and the facts that fit it
 module _ (q : Query) (p : IsViewOfProfile q) where

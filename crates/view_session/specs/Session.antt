@@ -10,13 +10,9 @@ use Rattle.flow_law.specs.Tables.{TablesValue}
 use Rattle.flow_law.specs.Script.{script}
 use Rattle.valuation_meaning.specs.Meaning.{meaning}
 use Rattle.valuation_meaning.specs.Refusal.{refusal}
-use Rattle.valuation_meaning.specs.declared.evaluation.EvalFault.{EvalFault}
-use Rattle.valuation_meaning.specs.declared.evaluation.EvalFault.TheVariants as eval
+use Rattle.flow_law.specs.declared.refused.EvalFault.{EvalFault}
+use Rattle.flow_law.specs.declared.refused.EvalFault.TheVariants as eval
 use Rattle.view_session.specs.Named.{Names, no_names, with_change, with_changes, with_lines}
-use Rattle.view_session.specs.declared.fault.OpenFault.{OpenFault}
-use Rattle.view_session.specs.declared.fault.OpenFault.TheVariants as opening
-use Rattle.view_session.specs.declared.fault.GroupStop.{GroupStop}
-use Rattle.view_session.specs.declared.fault.GroupStop.TheVariants as stop
 use Rattle.view_session.specs.declared.fault.HoldRefused.{HoldRefused}
 use Rattle.view_session.specs.declared.fault.HoldRefused.TheVariants as hold
 use Rattle.view_session.specs.declared.fault.Refused.{Refused}
@@ -91,27 +87,11 @@ accepted s = made s (unwrap_or s.proposed [])
 abbrev pub dismissed : SessionState → SessionState
 dismissed s = record s { proposed = None }
 
--- the fault of an opening, of a change and of a group, where a view is refused
-abbrev pub open_fault : EvalFault → OpenFault
-open_fault (eval.Illegal e) = opening.Illegal e
-open_fault (eval.Conflict e) = opening.Conflict e
-open_fault eval.NoMemory = opening.NoMemory
-
+-- the fault of a change, where the view is refused over the changed catalogue
 abbrev pub refused_by : EvalFault → Refused
 refused_by (eval.Illegal e) = refused.Illegal e
 refused_by (eval.Conflict e) = refused.Conflict e
 refused_by eval.NoMemory = refused.NoMemory
-
-abbrev pub stopped_by : EvalFault → GroupStop
-stopped_by (eval.Illegal e) = stop.Illegal e
-stopped_by (eval.Conflict e) = stop.Conflict e
-stopped_by eval.NoMemory = stop.NoMemory
-
--- a view is not opened for this fault, or there was no memory
-abbrev pub IsOpenFault : Option EvalFault → OpenFault → Type 0
-IsOpenFault expected opening.NoMemory = ⊤
-IsOpenFault expected (opening.Illegal e) = expected ≡ Some (eval.Illegal e)
-IsOpenFault expected (opening.Conflict e) = expected ≡ Some (eval.Conflict e)
 
 -- a change of a session is made: the catalogue does not refuse it, and the view over the changed one is not refused
 pub record IsAccepted (s : SessionState) (g : Change) : Type 0 where
@@ -141,9 +121,3 @@ IsNotHeld c g hold.NoMemory = ⊤
 
 abbrev pub IsHoldRefused : SessionState → Change → HoldRefused → Type 0
 IsHoldRefused s g e = IsNotHeld (working s) g e
-
--- a group is refused for this fault of the view over the catalogue after its changes, or there was no memory
-abbrev pub IsGroupStop : Option EvalFault → GroupStop → Type 0
-IsGroupStop expected (stop.Illegal e) = expected ≡ Some (eval.Illegal e)
-IsGroupStop expected (stop.Conflict e) = expected ≡ Some (eval.Conflict e)
-IsGroupStop expected stop.NoMemory = ⊤

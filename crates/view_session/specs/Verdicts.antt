@@ -14,8 +14,6 @@ use Rattle.apply_law.specs.declared.refused.GroupRefused.{GroupRefused}
 use Rattle.apply_law.specs.declared.refused.GroupRefused.TheVariants as group
 use Rattle.view_session.specs.Limits.{limit_over}
 use Rattle.view_session.specs.Session.{SessionState}
-use Rattle.view_session.specs.declared.fault.GroupStop.{GroupStop}
-use Rattle.view_session.specs.declared.fault.GroupStop.TheVariants as stop
 use Rattle.view_session.specs.declared.fault.Refused.{Refused}
 use Rattle.view_session.specs.declared.fault.Refused.TheVariants as refused
 
@@ -40,14 +38,9 @@ waiting_by (Some hs) proposed = Busy
 abbrev pub waiting_of : SessionState → Waiting
 waiting_of s = waiting_by s.held s.proposed
 
--- why the one change of several is refused, and why all together are
+-- why the one change of several is refused
 abbrev pub first_refused : Refused → GroupRefused
 first_refused (refused.Change r) = group.Change 0 r
 first_refused (refused.Illegal label) = group.Illegal label
 first_refused (refused.Conflict clash) = group.Conflict clash
 first_refused refused.NoMemory = group.NoMemory
-
-abbrev pub all_refused : GroupStop → GroupRefused
-all_refused (stop.Illegal label) = group.Illegal label
-all_refused (stop.Conflict clash) = group.Conflict clash
-all_refused stop.NoMemory = group.NoMemory

@@ -5,23 +5,24 @@ ghost use Rattle.schema_model.specs.Catalogue.{CatalogueValue};
 ghost use Rattle.schema_model.specs.Changes.{after_all, is_well_formed};
 ghost use Rattle.schema_model.specs.Refusals.{group_fault};
 ghost use Rattle.flow_law.specs.Script.{script};
+ghost use Rattle.flow_law.specs.Faults.{IsFault};
 ghost use Rattle.valuation_meaning.specs.Meaning.{meaning};
 ghost use Rattle.valuation_meaning.specs.Refusal.{refusal};
 ghost use Rattle.view_engine.specs.Engines.{EngineMoves};
 ghost use Rattle.apply_law.specs.Verdicts.{Verdict, IsGroupRefused};
 ghost use Rattle.view_session.specs.Group.{IsOver};
 ghost use Rattle.view_session.specs.Proposals.{proposed_in, CanMake};
-ghost use Rattle.view_session.specs.Session.{IsGroupStop};
 ghost use Rattle.view_session.specs.Upkeeps.{view_of, IsKept, KeptAs};
 ghost use Rattle.view_session.specs.Verdicts.{verdict_of};
 
+use crate::HoldRefused;
 use crate::changed::Changed;
 use crate::group::Group;
 use crate::proposal::{CatalogueReady, Proposal};
 use crate::upkeep::Upkeep;
-use crate::{GroupStop, HoldRefused};
 use apply_law::GroupRefused;
 use change_script::Script;
+use flow_law::EvalFault;
 use schema_model::{Catalogue, Change};
 use ss_text::{NoMemory, Steps};
 use std::alloc::Global;
@@ -66,7 +67,8 @@ fn reserve(
     ensures names { changed.new.names ≡ changed.old.names }
     ensures changes { IfOk result (λ told. proposed_in told.0 ≡ group.draft.changes) }
     ensures can { IfOk result (λ told. CanMake catalogue.new upkeep.new changed.new told.0) }
-    ensures script { IfOk result (λ told. told.1 ≡ script (meaning catalogue.old.databases (view_of upkeep.old)) (meaning (after_all catalogue.old.databases group.draft.changes) (view_of upkeep.old))) }
+    ensures script { IfOk result (λ told. told.1
+        ≡ script (meaning catalogue.old.databases (view_of upkeep.old)) (meaning (after_all catalogue.old.databases group.draft.changes) (view_of upkeep.old))) }
 {
     let (draft, names) = group.into_parts();
     changed.expect_all(alloc, names, moved.lines())?;
@@ -85,7 +87,7 @@ pub(crate) fn propose_group<L: Ledger>(
     changed: &mut Changed,
     group: Group,
     steps: &mut Steps<L>,
-) -> Result<(Proposal, Script), GroupStop>
+) -> Result<(Proposal, Script), EvalFault>
     requires kept { IsKept catalogue.old.databases upkeep.old }
     requires over { IsOver group catalogue.old.databases }
     ensures catalogue { catalogue.new.databases ≡ catalogue.old.databases }
@@ -94,8 +96,9 @@ pub(crate) fn propose_group<L: Ledger>(
     ensures changes { IfOk result (λ told. proposed_in told.0 ≡ group.draft.changes) }
     ensures can { IfOk result (λ told. CanMake catalogue.new upkeep.new changed.new told.0) }
     ensures allowed { OnOk result (refusal (after_all catalogue.old.databases group.draft.changes) (view_of upkeep.old) ≡ None) }
-    ensures script { IfOk result (λ told. told.1 ≡ script (meaning catalogue.old.databases (view_of upkeep.old)) (meaning (after_all catalogue.old.databases group.draft.changes) (view_of upkeep.old))) }
-    ensures refused { IfErr result (IsGroupStop (refusal (after_all catalogue.old.databases group.draft.changes) (view_of upkeep.old))) }
+    ensures script { IfOk result (λ told. told.1
+        ≡ script (meaning catalogue.old.databases (view_of upkeep.old)) (meaning (after_all catalogue.old.databases group.draft.changes) (view_of upkeep.old))) }
+    ensures refused { IfErr result (IsFault (refusal (after_all catalogue.old.databases group.draft.changes) (view_of upkeep.old))) }
     ensures rises { steps.old ≤ steps.new }
 {
     let engine = &upkeep.engine;

@@ -16,5 +16,5 @@ mod session;
 mod upkeep;
 mod waits;
 
-pub use fault::{GroupStop, HoldRefused, OpenFault, Refused};
+pub use fault::{HoldRefused, Refused};
 pub use session::Session;

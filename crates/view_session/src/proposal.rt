@@ -58,7 +58,8 @@ impl Proposal {
         ensures catalogue { catalogue.new.databases ≡ after_all catalogue.old.databases (proposed_in self) }
         ensures kept { IsKept catalogue.new.databases upkeep.new }
         ensures view { view_of upkeep.new ≡ view_of upkeep.old }
-        ensures names { changed.new.names ≡ with_lines (with_changes changed.old.names catalogue.old.databases (proposed_in self)) (script (meaning catalogue.old.databases (view_of upkeep.old)) (meaning catalogue.new.databases (view_of upkeep.old))) }
+        ensures names { changed.new.names ≡ with_lines (with_changes changed.old.names catalogue.old.databases (proposed_in self))
+            (script (meaning catalogue.old.databases (view_of upkeep.old)) (meaning catalogue.new.databases (view_of upkeep.old))) }
     {
         let Proposal {
             catalogue: changes,

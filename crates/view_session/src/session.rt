@@ -11,13 +11,14 @@ ghost use Rattle.schema_model.specs.declared.change.Change.{Change as ChangeValu
 ghost use Rattle.view_def.specs.Query.{query_of};
 ghost use Rattle.view_def.specs.Profile.{IsViewOfProfile};
 ghost use Rattle.flow_law.specs.Script.{script};
+ghost use Rattle.flow_law.specs.Faults.{IsFault};
 ghost use Rattle.valuation_meaning.specs.Meaning.{meaning, shape_of};
-ghost use Rattle.valuation_meaning.specs.Refusal.{refusal, IsRefusal};
+ghost use Rattle.valuation_meaning.specs.Refusal.{refusal};
 ghost use Rattle.apply_law.specs.Verdicts.{IsGroupRefused};
 ghost use Rattle.view_session.specs.Limits.{limit_of, limit_over};
 ghost use Rattle.view_session.specs.Proposals.{proposed_in, CanMake};
 ghost use Rattle.view_session.specs.Upkeeps.{view_of, IsKept, KeptAs};
-ghost use Rattle.view_session.specs.Session.{opened, cleared, begun, holding, closed, working, committed, proposing, accepted, dismissed, tables_of, lines_to, moved, IsOpenFault, IsAccepted, IsRefused, IsHoldRefused, IsGroupStop};
+ghost use Rattle.view_session.specs.Session.{opened, cleared, begun, holding, closed, working, committed, proposing, accepted, dismissed, tables_of, lines_to, moved, IsAccepted, IsRefused, IsHoldRefused};
 ghost use Rattle.view_session.specs.Verdicts.{verdict_of};
 
 use crate::changed::Changed;
@@ -27,10 +28,10 @@ use crate::moving::{propose_first, propose_one};
 use crate::proposal::Proposal;
 use crate::upkeep::Upkeep;
 use crate::waits::Waits;
-use crate::{GroupStop, HoldRefused, OpenFault, Refused};
+use crate::{HoldRefused, Refused};
 use apply_law::GroupRefused;
 use change_script::Script;
-use flow_law::Shape;
+use flow_law::{EvalFault, Shape};
 use kept_tables::KeptTables;
 use schema_model::{Catalogue, Change, Pair};
 use ss_text::{Steps, Text};
@@ -38,7 +39,7 @@ use std::alloc::Global;
 use std::marker::Model;
 use std::mem;
 use std::sync::ledger::Ledger;
-use valuation_meaning::{EvalFault, shape_of};
+use valuation_meaning::shape_of;
 use view_def::View;
 
 /// A view that is kept up to date, which contracts see as the view, the catalogue that it stands for, what was named
@@ -103,7 +104,7 @@ fn kept_over<L: Ledger>(
     ensures shape { IfOk result (λ told. told.0 ≡ shape_of (query_of view.value)) }
     ensures view { IfOk result (λ told. view_of told.1 ≡ query_of view.value) }
     ensures kept { IfOk result (λ told. IsKept catalogue.now.databases told.1) }
-    ensures refused { IfErr result (λ fault. IsRefusal (refusal catalogue.now.databases (query_of view.value)) fault) }
+    ensures refused { IfErr result (λ fault. IsFault (refusal catalogue.now.databases (query_of view.value)) fault) }
     ensures steps { result ≢ Err EvalFault.NoMemory → steps.new ≡ steps.old }
     ensures rises { steps.old ≤ steps.new }
 {
@@ -132,7 +133,8 @@ fn propose<L: Ledger>(
     ensures allowed { OnOk result (refusal (after_all catalogue.old.databases changes.now) (view_of upkeep.old) ≡ None) }
     ensures script { IfOk result (λ told. told.1 ≡ script (meaning catalogue.old.databases (view_of upkeep.old)) (meaning (after_all catalogue.old.databases changes.now) (view_of upkeep.old))) }
     ensures refused { IfErr result (IsGroupRefused (verdict_of (view_of upkeep.old)) catalogue.old.databases changes.now) }
-    ensures within { (g : ChangeValue) → changes.now ≡ g ∷ [] → result ≢ Err GroupRefused.NoMemory → ForSome (limit_over (view_of upkeep.old) catalogue.old.databases g) (λ n. steps.new ≤ steps.old + n) }
+    ensures within { (g : ChangeValue) → changes.now ≡ g ∷ [] → result ≢ Err GroupRefused.NoMemory
+        → ForSome (limit_over (view_of upkeep.old) catalogue.old.databases g) (λ n. steps.new ≤ steps.old + n) }
     ensures rises { steps.old ≤ steps.new }
 {
     if let [change] = changes {
@@ -149,12 +151,12 @@ impl Session {
         catalogue: Catalogue,
         view: Box<View>,
         steps: &mut Steps<L>,
-    ) -> Result<Session, OpenFault>
+    ) -> Result<Session, EvalFault>
         requires profile { IsViewOfProfile (query_of view.value) }
         ensures session { IfOk result (λ session. session ≡ opened (query_of view.value) catalogue.databases) }
         ensures allowed { OnOk result (refusal catalogue.databases (query_of view.value) ≡ None) }
-        ensures refused { IfErr result (λ e. IsOpenFault (refusal catalogue.databases (query_of view.value)) e) }
-        ensures steps { result ≢ Err OpenFault.NoMemory → steps.new ≡ steps.old }
+        ensures refused { IfErr result (λ e. IsFault (refusal catalogue.databases (query_of view.value)) e) }
+        ensures steps { result ≢ Err EvalFault.NoMemory → steps.new ≡ steps.old }
         ensures rises { steps.old ≤ steps.new }
     {
         match kept_over(alloc, &catalogue, view, steps) {
@@ -233,12 +235,12 @@ impl Session {
         &mut self,
         alloc: Global,
         steps: &mut Steps<L>,
-    ) -> Result<Script, GroupStop>
+    ) -> Result<Script, EvalFault>
         requires { is_some self.old.held ≡ true }
         ensures script { IfOk result (λ lines. lines ≡ lines_to self.old (working self.old)) }
         ensures allowed { OnOk result (refusal (working self.old) self.old.query ≡ None) }
         ensures moved { OnOk result (self.new ≡ committed self.old) }
-        ensures refused { IfErr result (λ e. IsGroupStop (refusal (working self.old) self.old.query) e) }
+        ensures refused { IfErr result (λ e. IsFault (refusal (working self.old) self.old.query) e) }
         ensures closed { OnErr result (self.new ≡ closed self.old) }
         ensures rises { steps.old ≤ steps.new }
     {
@@ -339,7 +341,7 @@ impl Session {
         &mut self,
         alloc: Global,
         steps: &mut Steps<L>,
-    ) -> Result<Script, GroupStop>
+    ) -> Result<Script, EvalFault>
         requires { is_some self.old.held ≡ true }
         ensures script { IfOk result (λ lines. lines ≡ lines_to self.old (working self.old)) }
         ensures allowed { OnOk result (refusal (working self.old) self.old.query ≡ None) }

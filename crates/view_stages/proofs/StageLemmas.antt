@@ -6,8 +6,8 @@ use Rattle.view_def.specs.Query.{Query}
 use Rattle.flow_law.specs.Facts.{illegal, conflict, first_refusal, refusal_by}
 use Rattle.valuation_meaning.specs.Meaning.{facts, shape_of, meaning}
 use Rattle.valuation_meaning.specs.Refusal.{refusal}
-use Rattle.valuation_meaning.specs.declared.evaluation.EvalFault.{EvalFault}
-use Rattle.valuation_meaning.specs.declared.evaluation.EvalFault.TheVariants as fault
+use Rattle.flow_law.specs.declared.refused.EvalFault.{EvalFault}
+use Rattle.flow_law.specs.declared.refused.EvalFault.TheVariants as fault
 use Rattle.view_folder.specs.Files.{AreViewFiles}
 use Rattle.view_folder.proofs.OpeningLemmas.{are_view_files as tables_files}
 use Rattle.view_folder.specs.TableFiles.{FitShape}

@@ -1,7 +1,7 @@
 //! Two inputs, of which the second changes, by hand.
 ghost use Rattle.std.specs.Prelude.{◌≡◌, ◌∷◌, ◌<◌, [], IfOk, All, length, map};
 
-use flow_law::Stop;
+use flow_law::EvalFault;
 use operator_law::{Delta, Operator, Signed};
 use other_operators::Select;
 use ss_text::{NoMemory, Row, Steps, Text};
@@ -62,7 +62,7 @@ fn change(alloc: Global) -> Result<Named<Delta>, NoMemory>
     Ok(Named { names, value })
 }
 
-fn moved<L: Ledger>(alloc: Global, blank: Blank) -> Result<Delta, Stop>
+fn moved<L: Ledger>(alloc: Global, blank: Blank) -> Result<Delta, EvalFault>
     requires name { blank.name ≡ L.name }
     requires parts { blank.parts ≡ L.parts }
     requires some { 0 < L.parts }
@@ -82,7 +82,7 @@ fn moved<L: Ledger>(alloc: Global, blank: Blank) -> Result<Delta, Stop>
     Ok(delta)
 }
 
-fn moved_once(alloc: Global) -> Result<Delta, Stop> {
+fn moved_once(alloc: Global) -> Result<Delta, EvalFault> {
     moved::<Brand>(alloc, Blank::new(1))
 }
 
@@ -97,7 +97,7 @@ fn written(alloc: Global, delta: &Delta) -> Result<Vec<u8>, NoMemory> {
     Ok(out)
 }
 
-fn shown(alloc: Global) -> Result<Vec<u8>, Stop> {
+fn shown(alloc: Global) -> Result<Vec<u8>, EvalFault> {
     let delta = moved_once(alloc)?;
     let out = written(alloc, &delta)?;
     Ok(out)

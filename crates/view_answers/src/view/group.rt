@@ -8,26 +8,26 @@ ghost use Rattle.view_session.specs.Session.{working};
 ghost use Rattle.ss_print.specs.Printing.{refuses};
 ghost use Rattle.ss_print.specs.Fields.{in_group_fields, no_group_fields};
 ghost use Rattle.view_stages.specs.Stages.{refusal_of};
-ghost use Rattle.view_answers.specs.Steps.{IsHoldFieldsOf, IsStopFieldsOf};
+ghost use Rattle.view_answers.specs.Steps.{IsHoldFieldsOf};
 ghost use Rattle.view_answers.specs.Limits as limits;
 ghost use Rattle.view_answers.specs.Limits.{IsWithin};
 ghost use Rattle.view_answers.specs.Answers.{by_fields, by_word, by_broken, by_group, by_fault, beginning, aborting, giving_up, refusing, end_effects, end_view};
 ghost use Rattle.view_answers.specs.declared.word.Word.TheVariants as word;
 
+use crate::opening::fault_fields;
 use crate::view::OpenView;
 use crate::word::Word;
 use effects::Stop;
 use outside::{Folders, Sink};
 use schema_model::{Change, ChangeFault};
 use ss_print::{
-    clash_fields, group_broken_fields, illegal_fields, in_group_fields, line_fields,
-    no_group_fields, open_group_fields, print_aborted, print_begun, print_held, print_script,
-    refusal_fields, refuse,
+    group_broken_fields, in_group_fields, line_fields, no_group_fields, open_group_fields,
+    print_aborted, print_begun, print_held, print_script, refusal_fields, refuse,
 };
 use ss_text::{NoMemory, Row, Steps};
 use std::alloc::Global;
 use std::sync::ledger::Ledger;
-use view_session::{GroupStop, HoldRefused};
+use view_session::HoldRefused;
 
 impl OpenView {
     // Refuses a line that does not stand in a group.
@@ -163,8 +163,8 @@ impl OpenView {
                 self.broken = 0;
                 print_script(alloc, output, &script)
             }
-            Err(stop) => {
-                let fields = stop_fields(alloc, &stop)?;
+            Err(fault) => {
+                let fields = fault_fields(alloc, &fault)?;
                 self.refuse_group(alloc, output, &fields)
             }
         }
@@ -338,16 +338,5 @@ fn held_fields(alloc: Global, change: &Change, refused: &HoldRefused) -> Result<
     match refused {
         HoldRefused::Change(refusal) => refusal_fields(alloc, change, *refusal),
         HoldRefused::NoMemory => Err(NoMemory),
-    }
-}
-
-// The fields of a refused group.
-fn stop_fields(alloc: Global, stop: &GroupStop) -> Result<Row, NoMemory>
-    ensures { IfOk result (λ row. IsStopFieldsOf stop.now row) }
-{
-    match stop {
-        GroupStop::Illegal(label) => illegal_fields(alloc, label),
-        GroupStop::Conflict(clash) => clash_fields(alloc, clash),
-        GroupStop::NoMemory => Err(NoMemory),
     }
 }

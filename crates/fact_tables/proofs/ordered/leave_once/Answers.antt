@@ -1,6 +1,6 @@
 use Rattle.std.proofs.Common.{◌∙◌, sym, ap}
 use Rattle.std.specs.Prelude.{option_map}
-use Rattle.flow_law.specs.declared.refused.Stop.TheVariants.{Conflict}
+use Rattle.flow_law.specs.declared.refused.EvalFault.TheVariants.{Conflict}
 use Rattle.fact_tables.proofs.OrderLemmas.{left_once, strict, conflict_once}
 use Rattle.fact_tables.proofs.ordered.leave_once.Goals as goal
 

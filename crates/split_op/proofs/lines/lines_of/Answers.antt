@@ -1,5 +1,5 @@
 use Rattle.std.proofs.Common.{◌∙◌, ⊎_elim, ap, sym, subst, map}
-use Rattle.flow_law.specs.declared.refused.Stop.{Stop}
+use Rattle.flow_law.specs.declared.refused.EvalFault.{EvalFault}
 use Rattle.fact_counts.specs.Stopped.{StopsFor}
 use Rattle.unfold_op.specs.FactMoves.{facts_in}
 use Rattle.split_op.specs.LabelLines.{first_conflict, first_illegal_column}
@@ -22,5 +22,5 @@ returns-in-Err-clause-stops g c = λ shape old new h.
     (λ e.
     let judged = rw e.1 at c.judge_groups-outcome.ensures.judged in
     let j = judged shape old new h none in
-    subst (λ (s : Stop). StopsFor (first_illegal_column shape.constants (facts_in shape new) (map group_label c.args.groups.now)) (first_conflict (facts_in shape new) (map group_label c.args.groups.now)) s) (sym e.3) (j.legal, j.clash_is ∙ e.2))
+    subst (λ (s : EvalFault). StopsFor (first_illegal_column shape.constants (facts_in shape new) (map group_label c.args.groups.now)) (first_conflict (facts_in shape new) (map group_label c.args.groups.now)) s) (sym e.3) (j.legal, j.clash_is ∙ e.2))
     c.in-Err.ensures.stops

@@ -4,11 +4,11 @@ use Rattle.schema_model.specs.Changes.{after_all}
 use Rattle.schema_model.specs.Refusals.{group_fault}
 use Rattle.schema_model.specs.declared.change.Change.{Change}
 use Rattle.valuation_meaning.specs.Refusal.{refusal}
-use Rattle.view_session.specs.Session.{IsGroupStop}
 use Rattle.view_session.specs.Upkeeps.{view_of}
 use Rattle.view_session.specs.Verdicts.{verdict_of}
 use Rattle.view_session.proofs.VerdictLemmas.{group_refused}
 use Rattle.view_session.proofs.grouped.propose_all.Goals as goal
+use Rattle.flow_law.specs.Faults.{IsFault}
 
 pub returns-in_err-group-clause-refused : goal.returns-in_err-group-clause-refused
 returns-in_err-group-clause-refused g c =
@@ -24,4 +24,4 @@ returns-in_err-propose_group-clause-refused g c =
     let p = err_from_is_err_and c.from_residual-in_err-propose_group.result c.from_residual-in_err-propose_group.ensures.1 in
     rw (p.1, p.2)
     (group_refused a q c.args.changes.now stop (subst (λ (gs : List Change). group_fault a gs ≡ None) same c.in_ok-group.ensures.over.draft.accepted)
-    (subst (λ (gs : List Change). IsGroupStop (refusal (after_all a gs) q) stop) same c.in_err-propose_group.ensures.refused))
+    (subst (λ (gs : List Change). IsFault (refusal (after_all a gs) q) stop) same c.in_err-propose_group.ensures.refused))

@@ -1,5 +1,5 @@
 use Rattle.std.proofs.Common.{sym, subst}
-use Rattle.flow_law.specs.Stops.{IsStop}
+use Rattle.flow_law.specs.Faults.{IsFaultOf}
 use Rattle.unfold_op.specs.FactMoves.{facts_in}
 use Rattle.split_op.specs.Tables.{ScriptLines}
 use Rattle.split_op.specs.Splits.{SplitValue, KeepsSplit, CanPrepareSplit, IsSplitBound, part_of}
@@ -39,7 +39,7 @@ returns-in-Err-clause-stops g c = λ old new k m.
     let ms = c.args.change.now in
     let can = subst (λ (u : SplitValue _). CanPrepareSplit table u ms) (sym c.self.view_is) c.requires in
     let kept = subst (λ (u : SplitValue _). KeepsSplit table u old) (sym c.self.view_is) k in
-    subst (λ (u : SplitValue _). IsStop u.shape (facts_in u.shape new) c.in-Err.stop) c.self.view_is
+    subst (λ (u : SplitValue _). IsFaultOf u.shape (facts_in u.shape new) c.in-Err.stop) c.self.view_is
     (c.in-Err.ensures.stops c.self.inside.shape old new (moves_any table ms _ c.self.invariant.label c.self.invariant.columns can old new kept m))
 
 pub returns-in-Ok-clause-cost : goal.returns-in-Ok-clause-cost
