@@ -194,7 +194,7 @@ fn rename_and_come(alloc: Global, catalogue: &mut Catalogue, come: &str) -> Resu
     }
 }
 
-// Writes the rows of a relation of `d`, and how many equal this one.
+// Writes the rows of a relation of `d`, and how many equal this one, up to four.
 fn show(
     catalogue: &Catalogue,
     rel: &str,
@@ -214,8 +214,10 @@ fn show(
         }
         out.push(b' ')?;
     }
-    for _ in 0..relation.copies_of(counted) {
-        out.push(b'+')?;
+    for count in 0..4 {
+        if relation.has_more(counted, count) {
+            out.push(b'+')?;
+        }
     }
     out.push(b';')?;
     Ok(())
