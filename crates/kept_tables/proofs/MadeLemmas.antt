@@ -1,6 +1,6 @@
 -- What a line that is made at its slot comes to.
 use Rattle.std.proofs.Common.{◌≡◌, ◌<◌, ◌∙◌, ℕ, Bool, true, false, List, Some, None, refl, sym, ap, length, get_or}
-use Rattle.std.specs.Prelude.{not, cond}
+use Rattle.std.specs.Prelude.{cond}
 use Rattle.std.specs.Option.{option_map_or}
 use Rattle.std.proofs.lemmas.Bool.{false≢true, not-true}
 use Rattle.ss_text.specs.Places.{at_place}

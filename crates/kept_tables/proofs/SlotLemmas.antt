@@ -1,5 +1,5 @@
 -- What a change of one slot comes to for the tables that are there.
-use Rattle.std.proofs.Common.{◌≡◌, ◌≤◌, ◌∷◌, [], ℕ, Bool, true, false, List, Some, None, refl, sym, ap, subst, zero, suc, length, map, get_or, arith}
+use Rattle.std.proofs.Common.{◌≡◌, ◌∷◌, [], ℕ, Bool, true, false, List, Some, None, refl, sym, ap, subst, zero, suc, map, get_or, arith}
 use Rattle.std.specs.Prelude.{option_map, cond, filter, insert}
 use Rattle.std.specs.List.{AllByRecursion}
 use Rattle.std.specs.List.Sorted.{IsStrictlySortedBy}

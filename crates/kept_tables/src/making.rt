@@ -4,7 +4,7 @@ ghost use Rattle.flow_law.specs.Lines.{fits_line, fit_lines, after_line, after_l
 ghost use Rattle.flow_law.specs.declared.line.TableLine.{TableLine as Line};
 ghost use Rattle.kept_tables.specs.Slots.{tables_in, AreSlots, HaveRoom};
 
-use crate::slot::{Slot, drop_gone, find};
+use crate::slot::{Slot, drop_many_gone, find};
 use flow_law::TableLine;
 
 // Makes the step of a line.
@@ -36,19 +36,23 @@ fn make_lines(slots: &mut Vec<Slot>, lines: Vec<TableLine>)
     }
 }
 
-/// Makes the steps of all lines, each of which fits those before it. It takes no memory.
-pub(crate) fn make_all(slots: &mut Vec<Slot>, lines: Vec<TableLine>)
+/// Makes the steps of all lines, each of which fits those before it. It takes no memory. So many slots may be without a
+/// table before, and as many as it answers afterwards.
+pub(crate) fn make_all(slots: &mut Vec<Slot>, lines: Vec<TableLine>, gone: usize) -> usize
     requires order { AreSlots slots.old.items }
     requires fit { IsTrue (fit_lines (tables_in slots.old.items) lines.items) }
     requires memory { HaveRoom lines.items slots.old.items }
     ensures order { AreSlots slots.new.items }
     ensures tables { tables_in slots.new.items ≡ after_lines (tables_in slots.old.items) lines.items }
 {
-    let goes = lines.iter().any(takes_table);
+    let gone = gone.saturating_add(tables_that_go(&lines));
     make_lines(slots, lines);
-    if goes {
-        drop_gone(slots);
-    }
+    drop_many_gone(slots, gone)
+}
+
+// How many of the lines take a table away.
+fn tables_that_go(lines: &[TableLine]) -> usize {
+    lines.iter().filter(|line| takes_table(line)).count()
 }
 
 fn takes_table(line: &TableLine) -> bool {

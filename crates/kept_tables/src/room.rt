@@ -53,16 +53,28 @@ fn expect_lines(alloc: Global, slots: &mut Vec<Slot>, lines: &[TableLine]) -> Re
     Ok(())
 }
 
-/// Gives the memory for lines back.
-pub(crate) fn forget(slots: &mut Vec<Slot>)
+// Gives the memory that a table has for lines back.
+fn forget_label(slots: &mut Vec<Slot>, label: &Text)
     requires { AreSlots slots.old.items }
     ensures order { AreSlots slots.new.items }
     ensures tables { tables_in slots.new.items ≡ tables_in slots.old.items }
 {
-    for slot in slots.iter_mut() {
-        slot.table.forget();
+    let Ok(place) = find(slots, label) else {
+        return;
+    };
+    let slot = &mut slots[place];
+    slot.table.forget();
+}
+
+/// Gives the memory for lines back. It looks at their tables alone, and leaves slots of tables that are not there.
+pub(crate) fn forget(slots: &mut Vec<Slot>, lines: &[TableLine])
+    requires { AreSlots slots.old.items }
+    ensures order { AreSlots slots.new.items }
+    ensures tables { tables_in slots.new.items ≡ tables_in slots.old.items }
+{
+    for line in lines {
+        forget_label(slots, line.label());
     }
-    drop_gone(slots);
 }
 
 /// Takes the memory for what all lines add, or after `NoMemory` none of it.
@@ -79,7 +91,8 @@ pub(crate) fn expect_all(
     match expect_lines(alloc, slots, lines) {
         Ok(()) => Ok(()),
         Err(fault) => {
-            forget(slots);
+            forget(slots, lines);
+            drop_gone(slots);
             Err(fault)
         }
     }

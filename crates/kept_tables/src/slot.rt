@@ -103,3 +103,17 @@ pub(crate) fn drop_gone(slots: &mut Vec<Slot>)
 {
     slots.retain(|slot| slot.there);
 }
+
+/// The same where more than half of the slots may be such, which so many of them are at most. It answers how many may be
+/// left. So a table that comes or goes walks over no others, in the mean.
+pub(crate) fn drop_many_gone(slots: &mut Vec<Slot>, gone: usize) -> usize
+    requires { AreSlots slots.old.items }
+    ensures order { AreSlots slots.new.items }
+    ensures tables { tables_in slots.new.items ≡ tables_in slots.old.items }
+{
+    if gone <= slots.len() / 2 {
+        return gone;
+    }
+    drop_gone(slots);
+    0
+}

@@ -18,7 +18,7 @@ use crate::labels::labels_of;
 use crate::making::make_all;
 use crate::opening::slots_of;
 use crate::room::{expect_all, forget};
-use crate::slot::{Slot, find};
+use crate::slot::{Slot, drop_many_gone, find};
 use fact_tables::{FactCell, TableFacts};
 use flow_law::TableLine;
 use ss_text::{NoMemory, Text};
@@ -33,15 +33,21 @@ pub(crate) struct Waiting {
     pub lines: Vec<TableLine>,
 }
 
-/// Tables by their labels, in ascending order. Contracts see them, and the lines that wait.
+/// Tables by their labels, in ascending order, and how many slots at most are without one. Contracts see the tables, and
+/// the lines that wait.
 pub struct KeptTables {
     slots: Vec<Slot>,
+    gone: usize,
     waiting: Option<Waiting>,
 }
 
 impl Drop for KeptTables {
     fn drop(self) {
-        let KeptTables { slots, waiting } = self;
+        let KeptTables {
+            slots,
+            gone: _,
+            waiting,
+        } = self;
         drop(slots);
         drop(waiting);
     }
@@ -67,6 +73,7 @@ impl KeptTables {
     {
         KeptTables {
             slots: Vec::new(alloc),
+            gone: 0,
             waiting: None,
         }
     }
@@ -82,6 +89,7 @@ impl KeptTables {
         let slots = slots_of(alloc, tables)?;
         Ok(KeptTables {
             slots,
+            gone: 0,
             waiting: None,
         })
     }
@@ -117,9 +125,10 @@ impl KeptTables {
     pub fn drop_waiting(&mut self)
         ensures { self.new ≡ kept_tables self.old.tables None }
     {
-        if self.waiting.is_some() {
-            self.waiting = None;
-            forget(&mut self.slots);
+        if let Some(waiting) = self.waiting.take() {
+            forget(&mut self.slots, &waiting.lines);
+            let gone = self.gone.saturating_add(waiting.lines.len());
+            self.gone = drop_many_gone(&mut self.slots, gone);
         }
     }
 
@@ -150,7 +159,7 @@ impl KeptTables {
         ensures none { self.new.waiting ≡ None }
     {
         if let Some(waiting) = self.waiting.take() {
-            make_all(&mut self.slots, waiting.lines);
+            self.gone = make_all(&mut self.slots, waiting.lines, self.gone);
         }
     }
 }
