@@ -1,10 +1,14 @@
 -- The lines of an entry, one after another.
-use Rattle.std.proofs.Common.{◌≡◌, ℕ, ◌==◌, false, List, [], ◌∷◌, ◌++◌, Option, None, Some, refl, sym, ap, ◌∙◌, append_assoc}
-use Rattle.std.specs.Prelude.{option_map}
+use Rattle.std.proofs.Common.{◌≡◌, ℕ, ◌==◌, true, false, List, [], ◌∷◌, ◌++◌, Option, None, Some, refl, sym, ap, ◌∙◌, append_assoc}
+use Rattle.std.specs.Prelude.{option_map, IsTrue}
+use Rattle.std.specs.List.{AllByRecursion, list_all}
+use Rattle.std.proofs.lemmas.Bool.{and_parts}
 use Rattle.tab_lines.specs.Parts.{has, parts_at}
 use Rattle.tab_lines.proofs.PartLemmas.{parts_first, one_part}
 use Rattle.schema_model.specs.declared.change.Change.{Change}
+use Rattle.schema_model.specs.Changes.{is_well_formed}
 use Rattle.change_journal.specs.Spelled.{Group, said_by_line, put_first, said_by_lines, group_of}
+use Rattle.change_journal.proofs.Spellings.{parts_clear, lines_spelled}
 
 -- the changes that were read, and those that the rest says
 abbrev pub behind : Group → List ℕ → Option Group
@@ -45,3 +49,11 @@ module _ (rest : List ℕ) (clear : has 10 rest ≡ false) where
   pub last_refused : (text : List ℕ) (done : Group) → None ≡ said_by_line rest → behind done rest ≡ group_of text → None ≡ group_of text
   last_refused text done said so_far =
       ap (λ (o : Option Change). option_map (λ more. done ++ more) (put_first o (Some []))) said ∙ ap (option_map (λ more. done ++ more)) (sym last) ∙ so_far
+
+-- each change of a text can be said by a line
+pub formed : (text : List ℕ) (group : Group) → group_of text ≡ Some group → AllByRecursion (λ (g : Change). IsTrue (is_well_formed g)) group
+formed text group e = each group (lines_spelled (parts_at 10 text) group (parts_clear text) e).1
+  where
+    each : (gs : Group) → list_all is_well_formed gs ≡ true → AllByRecursion (λ (g : Change). IsTrue (is_well_formed g)) gs
+    each [] h = tt
+    each (g ∷ gs) h = let p = and_parts (is_well_formed g) (list_all is_well_formed gs) h in (p.0, each gs p.1)

@@ -1,5 +1,7 @@
 -- How a journal is read, entry by entry.
-use Rattle.std.specs.Prelude.{◌≡◌, ℕ, ◌+◌, ◌<◌, ◌≤◌, ◌==◌, false, List, [], ◌∷◌, ◌++◌, length, take, drop, Option, None, Some, option_map, Result, Ok, Err, ⊤, if◌then◌else◌}
+use Rattle.std.specs.Prelude.{◌≡◌, ℕ, ◌+◌, ◌<◌, ◌≤◌, ◌==◌, false, List, [], ◌∷◌, ◌++◌, length, take, drop, Option, None, Some, option_map, Result, Ok, Err, IsTrue, ⊤, if◌then◌else◌}
+use Rattle.std.specs.List.{AllByRecursion}
+use Rattle.schema_model.specs.Changes.{is_well_formed}
 use Rattle.disk.specs.Disk.{Content}
 use Rattle.change_journal.specs.States.{WindowState}
 use Rattle.change_journal.specs.Spelled.{Group, group_of}
@@ -46,6 +48,11 @@ abbrev pub GoesOn : WindowState → WindowState → Result NextEntry JournalFaul
 GoesOn old new (Ok (Entry group)) = (old.place < new.place) × (new.place ≤ new.size)
 GoesOn old new (Ok (End journal)) = (new.place ≡ old.place) × (journal.is_shut ≡ false)
 GoesOn old new (Err e) = new.place ≡ old.place
+
+-- a line can say each change that was read
+abbrev pub IsFormed : NextEntry → Type 0
+IsFormed (Entry group) = AllByRecursion (λ g. IsTrue (is_well_formed g)) group.items
+IsFormed (End journal) = ⊤
 
 -- what the disk holds says this as a journal
 abbrev pub Says : Result Reading ℕ → Option Content → Type 0

@@ -4,7 +4,7 @@ ghost use Rattle.outside.specs.Counts.{Rose};
 ghost use Rattle.disk.specs.Disk.{Content};
 ghost use Rattle.disk.specs.Moments.{Elapses};
 ghost use Rattle.change_journal.specs.Spelled.{Group};
-ghost use Rattle.change_journal.specs.Opening.{IsReading, IsNextOf, GoesOn, HasRead, ReadsOn, read_at};
+ghost use Rattle.change_journal.specs.Opening.{IsReading, IsNextOf, GoesOn, IsFormed, HasRead, ReadsOn, read_at};
 
 use crate::mark::Mark;
 use crate::reading::read_group;
@@ -62,6 +62,7 @@ impl Entries {
         ensures read { (groups : List Group) → HasRead groups self.old ((D.state disk.old).content) → ReadsOn groups self.new ((D.state disk.new).content) result }
         ensures reading { IsReading self.new ((D.state disk.new).content) }
         ensures goes_on { GoesOn self.old self.new result }
+        ensures formed { IfOk result IsFormed }
         ensures size { self.new.size ≡ self.old.size }
         ensures content { (D.state disk.new).content ≡ (D.state disk.old).content }
         ensures time { Elapses (D.state disk.old) (D.state disk.new) (D.left_since disk.old) (D.left_since disk.new) }
@@ -83,6 +84,7 @@ fn read_next<D: Disk>(
     ensures next { (held : Content) → (D.state disk.old).content ≡ Some held → IsNextOf (read_at window.old.place held.bytes) (read_at window.new.place held.bytes) result }
     ensures reading { IsReading window.new ((D.state disk.new).content) }
     ensures goes_on { GoesOn window.old window.new result }
+    ensures formed { IfOk result IsFormed }
     ensures size { window.new.size ≡ window.old.size }
     ensures content { (D.state disk.new).content ≡ (D.state disk.old).content }
     ensures time { Elapses (D.state disk.old) (D.state disk.new) (D.left_since disk.old) (D.left_since disk.new) }

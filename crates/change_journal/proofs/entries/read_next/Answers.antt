@@ -4,6 +4,7 @@ use Rattle.change_journal.specs.Spelled.{group_of}
 use Rattle.change_journal.specs.Entries.{with_group}
 use Rattle.change_journal.specs.Opening.{IsAhead, read_at, mark_of}
 use Rattle.change_journal.specs.declared.mark.Mark.TheVariants as mark
+use Rattle.change_journal.proofs.GroupLemmas.{formed}
 use Rattle.change_journal.proofs.OpeningLemmas.{known, next_entry, gone_past}
 use Rattle.change_journal.proofs.entries.read_next.Goals as goal
 
@@ -31,3 +32,6 @@ returns-in-Some-clause-next g c =
 pub returns-in-Some-clause-reading : goal.returns-in-Some-clause-reading
 returns-in-Some-clause-reading g c = λ held told.
     subst (λ (w : WindowState). IsAhead w held.bytes) (sym c.pass.ensures) (gone_past c.fill-in-Sized.new.self held.bytes (5 + c.in-Sized.n) (c.in_ok-fill-in-Sized.ensures.reading held told) c.in_ok-fill-in-Sized.ensures.enough)
+
+pub returns-in-Some-clause-formed : goal.returns-in-Some-clause-formed
+returns-in-Some-clause-formed g c = formed (take (5 + c.in-Sized.n - 5) (drop 5 c.ahead-in-Sized.result.now)) c.in-Some.group.items (sym (rw c.in-Some.is at c.in_ok-group-in-Sized.ensures))
