@@ -34,6 +34,11 @@ pub trait Applies {
     // What waits in it: nothing, changes that are proposed, or something else that has to end first.
     ghost waits: { Self → Waiting };
 
+    // What it is where changes are proposed, and where what is proposed is made.
+    ghost after_propose: { Self → List ChangeValue → Self };
+
+    ghost after_accept: { Self → Self };
+
     /// The catalogue that it stands for.
     fn catalogue(&self) -> &Catalogue
         ensures catalogue { result.now.databases ≡ (state self.now).catalogue }
@@ -67,6 +72,8 @@ pub trait Applies {
         ensures script { IfOk result (IsScriptTo (tables_of (state self.old)) (verdict_after (state self.old) changes.now)) }
         ensures refused { IfErr result (IsGroupRefused (state self.old).verdict (state self.old).catalogue changes.now) }
         ensures same { state self.new ≡ state self.old }
+        ensures proposed { OnOk result (self.new ≡ after_propose self.old changes.now) }
+        ensures unchanged { OnErr result (self.new ≡ self.old) }
         ensures proposes { OnOk result (waits self.new ≡ Proposes changes.now) }
         ensures idle { OnErr result (waits self.new ≡ Idle) }
         ensures within { (g : ChangeValue) → changes.now ≡ g ∷ [] → result ≢ Err GroupRefused.NoMemory
@@ -77,6 +84,7 @@ pub trait Applies {
     fn accept(&mut self)
         requires { IsProposal (waits self.old) }
         ensures made { (gs : List ChangeValue) → waits self.old ≡ Proposes gs → state self.new ≡ made (state self.old) gs }
+        ensures accepted { self.new ≡ after_accept self.old }
         ensures idle { waits self.new ≡ Idle };
 
     /// Drops what is proposed. It takes no memory.

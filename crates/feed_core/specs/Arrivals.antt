@@ -4,7 +4,7 @@ use Rattle.ss_text.specs.Texts.{Text, text_eq, row_eq}
 use Rattle.schema_model.specs.Reading.{line_of}
 use Rattle.schema_model.specs.declared.change.Change.{Change}
 use Rattle.apply_law.specs.Standing.{Standing}
-use Rattle.feed_core.specs.Replies.{ReplyValue, reply_to, standing_by}
+use Rattle.feed_core.specs.Replies.{ReplyValue, reply_to, standing_by, taken_by}
 use Rattle.feed_core.specs.declared.arrival.Arrival.{Arrival}
 use Rattle.feed_core.specs.declared.arrival.Handled.{Handled}
 use Rattle.feed_core.specs.declared.answer.Answer.{Answer}
@@ -58,3 +58,7 @@ handled_after r hs a = if is_fresh (arrivals_of hs) a then hs ++ record { arriva
 -- and what stands
 abbrev pub standing_after : Standing → List Handled → Arrival → Standing
 standing_after s hs a = if is_fresh (arrivals_of hs) a then standing_by (reply_to s a.change) s a.change else s
+
+-- and what takes the changes then is
+abbrev pub taken_after : {A : Type 0} → (A → List Change → A) → (A → A) → Standing → A → List Handled → Arrival → A
+taken_after after_propose after_accept s to hs a = if is_fresh (arrivals_of hs) a then taken_by after_propose after_accept (reply_to s a.change) to a.change else to

@@ -40,3 +40,8 @@ reply_to s g = by_fault (fault s.catalogue g) (by_verdict (tables_of s) (s.verdi
 abbrev pub standing_by : ReplyValue → Standing → Change → Standing
 standing_by (Ok lines) s g = made s (g ∷ [])
 standing_by (Err e) s g = s
+
+-- what takes the change, by what it is where changes are proposed and where what is proposed is made
+abbrev pub taken_by : {A : Type 0} → (A → List Change → A) → (A → A) → ReplyValue → A → Change → A
+taken_by after_propose after_accept (Ok lines) to g = after_accept (after_propose to (g ∷ []))
+taken_by after_propose after_accept (Err e) to g = to

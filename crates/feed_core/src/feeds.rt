@@ -1,10 +1,10 @@
 //! What several sources sent, and what was replied.
-ghost use Rattle.std.specs.Prelude.{◌≡◌, ◌≢◌, ◌+◌, ◌^◌, ◌<◌, ◌≤◌, [], suc, length, IfOk, IfSome, OnOk, OnErr, IsTrue, option_and_then, slice_get};
+ghost use Rattle.std.specs.Prelude.{◌≡◌, ◌≢◌, ◌+◌, ◌^◌, ◌<◌, ◌≤◌, [], suc, length, IfOk, IfSome, OnOk, OnErr, IsTrue, Some, option_and_then, slice_get};
 ghost use Rattle.std.specs.Option.{ForSome, option_copied};
 ghost use Rattle.schema_model.specs.Changes.{is_well_formed};
 ghost use Rattle.apply_law.specs.Standing.{Idle};
 ghost use Rattle.feed_core.specs.Replies.{reply_to};
-ghost use Rattle.feed_core.specs.Arrivals.{arrivals_of, is_fresh, count_of, handled_at, by_handled, answer_to, handled_after, standing_after};
+ghost use Rattle.feed_core.specs.Arrivals.{arrivals_of, is_fresh, count_of, handled_at, by_handled, answer_to, handled_after, standing_after, taken_after};
 
 use crate::places::{add_place, make_room, place_in};
 use crate::replying::reply_of;
@@ -63,10 +63,13 @@ impl Feeds {
         requires idle { A.waits to.old ≡ Idle }
         ensures answer { IfOk result (λ answer. answer ≡ answer_to self.old arrival) }
         ensures handled { OnOk result (self.new ≡ handled_after (reply_to (A.state to.old) arrival.change) self.old arrival) }
+        ensures found { IfOk result (λ answer. answer ≡ Answer.Fresh
+            → handled_at arrival.source arrival.number self.new ≡ Some (record { arrival = arrival; reply = reply_to (A.state to.old) arrival.change })) }
         ensures stands { OnOk result (A.state to.new ≡ standing_after (A.state to.old) self.old arrival) }
+        ensures taken { OnOk result (to.new ≡ taken_after A.after_propose A.after_accept (A.state to.old) to.old self.old arrival) }
         ensures idle { A.waits to.new ≡ Idle }
         ensures same { OnErr result (self.new ≡ self.old) }
-        ensures unused { OnErr result (A.state to.new ≡ A.state to.old) }
+        ensures unused { OnErr result (to.new ≡ to.old) }
         ensures lacks { OnErr result (IsTrue (is_fresh (arrivals_of self.old) arrival)) }
 
         // Only one that is handled counts steps, as its change does.
@@ -139,10 +142,12 @@ impl Feeds {
         requires well_formed { IsTrue (is_well_formed arrival.change) }
         requires idle { A.waits to.old ≡ Idle }
         ensures handled { OnOk result (self.new ≡ handled_after (reply_to (A.state to.old) arrival.change) self.old arrival) }
+        ensures found { OnOk result (handled_at arrival.source arrival.number self.new ≡ Some (record { arrival = arrival; reply = reply_to (A.state to.old) arrival.change })) }
         ensures stands { OnOk result (A.state to.new ≡ standing_after (A.state to.old) self.old arrival) }
+        ensures taken { OnOk result (to.new ≡ taken_after A.after_propose A.after_accept (A.state to.old) to.old self.old arrival) }
         ensures idle { A.waits to.new ≡ Idle }
         ensures same { OnErr result (self.new ≡ self.old) }
-        ensures unused { OnErr result (A.state to.new ≡ A.state to.old) }
+        ensures unused { OnErr result (to.new ≡ to.old) }
         ensures within { OnOk result (ForSome ((A.state to.old).limit (A.state to.old).catalogue arrival.change) (λ n. steps.new ≤ steps.old + n)) }
         ensures rises { steps.old ≤ steps.new }
     {

@@ -3,7 +3,7 @@ ghost use Rattle.std.specs.Prelude.{◌≡◌, ◌≤◌, ◌+◌, ◌∷◌, []
 ghost use Rattle.std.specs.Option.{ForSome};
 ghost use Rattle.schema_model.specs.Changes.{is_well_formed};
 ghost use Rattle.apply_law.specs.Standing.{Idle};
-ghost use Rattle.feed_core.specs.Replies.{reply_to, standing_by};
+ghost use Rattle.feed_core.specs.Replies.{reply_to, standing_by, taken_by};
 
 use crate::Reply;
 use apply_law::{Applies, GroupRefused};
@@ -24,8 +24,9 @@ pub(crate) fn reply_of<A: Applies, L: Ledger>(
     requires idle { A.waits to.old ≡ Idle }
     ensures reply { IfOk result (λ reply. reply ≡ reply_to (A.state to.old) change.now) }
     ensures stands { OnOk result (A.state to.new ≡ standing_by (reply_to (A.state to.old) change.now) (A.state to.old) change.now) }
+    ensures taken { OnOk result (to.new ≡ taken_by A.after_propose A.after_accept (reply_to (A.state to.old) change.now) to.old change.now) }
     ensures idle { A.waits to.new ≡ Idle }
-    ensures unused { OnErr result (A.state to.new ≡ A.state to.old) }
+    ensures unused { OnErr result (to.new ≡ to.old) }
     ensures within { OnOk result (ForSome ((A.state to.old).limit (A.state to.old).catalogue change.now) (λ n. steps.new ≤ steps.old + n)) }
     ensures rises { steps.old ≤ steps.new }
 {

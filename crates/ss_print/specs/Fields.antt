@@ -149,3 +149,20 @@ in_group_fields row = codes "in-group" ∷ first_field row ∷ []
 
 abbrev pub no_group_fields : Row → Row
 no_group_fields row = codes "no-group" ∷ first_field row ∷ []
+
+-- a line of a feed: a word or a verb that is none, a wrong number of fields behind one, and a number that is none
+abbrev pub verb_fields : Text → Row
+verb_fields verb = codes "unknown-verb" ∷ verb ∷ []
+
+abbrev pub count_fields : Text → ℕ → Row
+count_fields verb got = codes "field-count" ∷ verb ∷ decimal got ∷ []
+
+abbrev pub number_fields : Text → Row
+number_fields number = codes "bad-number" ∷ number ∷ []
+
+-- an arrival before its turn, with the number that its source wants, and one with another change than the one under its number
+abbrev pub early_fields : Text → ℕ → Row
+early_fields source want = codes "early" ∷ source ∷ decimal want ∷ []
+
+abbrev pub other_change_fields : Text → ℕ → Row
+other_change_fields source number = codes "other-change" ∷ source ∷ decimal number ∷ []

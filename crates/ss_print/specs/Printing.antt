@@ -28,6 +28,10 @@ prints_held = says (codes "held" ∷ [])
 abbrev pub prints_aborted : Effect
 prints_aborted = says (codes "aborted" ∷ [])
 
+-- the reply to a change that a source sent under a number
+abbrev pub prints_reply : Text → ℕ → Effect
+prints_reply source number = says (codes "reply" ∷ source ∷ decimal number ∷ [])
+
 -- the lines of a script, and how many they are
 abbrev pub script_rows : List TableLine → List Row
 script_rows lines = map printed lines ++ (codes "done" ∷ decimal (length lines) ∷ []) ∷ []

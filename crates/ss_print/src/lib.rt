@@ -6,6 +6,7 @@
 
 mod change;
 mod definition;
+mod feed;
 mod fields;
 mod group;
 mod load;
@@ -14,10 +15,11 @@ mod view;
 
 pub use change::{escape_fields, line_fields, refusal_fields};
 pub use definition::{parse_fields, type_fields};
+pub use feed::{count_fields, early_fields, number_fields, other_change_fields, verb_fields};
 pub use group::{group_broken_fields, in_group_fields, no_group_fields, open_group_fields};
 pub use load::load_fields;
 pub use printing::{
     number_text, print_aborted, print_applied, print_begun, print_difference, print_held,
-    print_same, print_script, print_synced, print_usage, refuse, say,
+    print_reply, print_same, print_script, print_synced, print_usage, refuse, say,
 };
 pub use view::{clash_fields, illegal_fields};

@@ -4,7 +4,7 @@ ghost use Rattle.tab_lines.specs.Spelling.{spell};
 ghost use Rattle.effects.specs.Effects.{Print, Does, world_of};
 ghost use Rattle.effects.specs.Blame.{SinkBlames};
 ghost use Rattle.std.specs.List.{All};
-ghost use Rattle.ss_print.specs.Printing.{says, refuses, prints_synced, prints_begun, prints_held, prints_aborted, prints_usage, prints_script, prints_applied, applied_rows, script_rows, lines_text, prints_same, prints_difference, length_text};
+ghost use Rattle.ss_print.specs.Printing.{says, refuses, prints_synced, prints_reply, prints_begun, prints_held, prints_aborted, prints_usage, prints_script, prints_applied, applied_rows, script_rows, lines_text, prints_same, prints_difference, length_text};
 
 use change_script::{Script, script_lines};
 use effects::{Stop, print};
@@ -146,6 +146,33 @@ fn applied_text(alloc: Global, lines: usize, count: usize) -> Result<Vec<u8>, No
     rows.push(counted_row(alloc, b"applied", lines)?)?;
     rows.push(counted_row(alloc, b"synced", count)?)?;
     lines_text(alloc, &rows)
+}
+
+/// Prints whose reply follows: that to the change which a source sent under a number.
+#[tactic(auto, using(effects::proofs::Following::following))]
+pub fn print_reply<K: Sink>(
+    alloc: Global,
+    output: &mut K,
+    source: &Text,
+    number: u64,
+) -> Result<(), Stop>
+    ensures does { (s : _) → Does (prints_reply source.now number ∷ []) (world_of s (K.state output.old)) (world_of s (K.state output.new)) result }
+    ensures blames { SinkBlames (K.state output.old) (K.state output.new) result }
+{
+    let row = reply_row(alloc, source, number)?;
+    say(alloc, output, &row)?;
+    Ok(())
+}
+
+// The row of a reply.
+fn reply_row(alloc: Global, source: &Text, number: u64) -> Result<Row, NoMemory>
+    ensures { IfOk result (λ row. row ≡ codes "reply" ∷ source.now ∷ decimal number ∷ []) }
+{
+    let mut row = Vec::new(alloc);
+    row.push(Text::of(alloc, b"reply")?)?;
+    row.push(source.copy()?)?;
+    row.push(number_text(alloc, number as usize)?)?;
+    Ok(Row::of(row))
 }
 
 /// Prints the lines of a script, and how many they are.

@@ -10,11 +10,16 @@ use std::alloc::Global;
 use std::sync::ledger::Ledger;
 
 impl Applies for Session {
+    ghost use Rattle.view_session.specs.Session.{proposing, accepted};
     ghost use Rattle.view_session.specs.Verdicts.{standing_of, waiting_of, verdict_same};
 
     ghost state = { λ s. standing_of s };
 
     ghost waits = { λ s. waiting_of s };
+
+    ghost after_propose = { λ s gs. proposing s gs };
+
+    ghost after_accept = { λ s. accepted s };
 
     fn catalogue(&self) -> &Catalogue {
         let catalogue = self.catalogue();
