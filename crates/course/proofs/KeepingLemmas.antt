@@ -249,6 +249,7 @@ module _ {A D : Type 0} (step : A → List ℕ → Reply A) (note : A → List �
       record {
         answered = k.lines;
         under_way = line ∷ [];
+        few = omega arith;
         effects = k.effects;
         state = state;
         first = told_first input rest later k.lines line reader new_reader k.told reads answer;
@@ -275,6 +276,7 @@ module _ {A D : Type 0} (step : A → List ℕ → Reply A) (note : A → List �
       record {
         answered = k.lines;
         under_way = line ∷ [];
+        few = omega arith;
         effects = k.effects;
         state = state;
         first = are;
@@ -306,6 +308,7 @@ module _ {A D : Type 0} (step : A → List ℕ → Reply A) (note : A → List �
       record {
         answered = k.lines;
         under_way = [];
+        few = omega arith;
         effects = k.effects;
         state = state;
         first = told_none input rest k.lines reader k.told;
@@ -326,6 +329,7 @@ module _ {A D : Type 0} (step : A → List ℕ → Reply A) (note : A → List �
       record {
         answered = k.lines;
         under_way = [];
+        few = omega arith;
         effects = k.effects;
         state = state;
         first = told_none input rest k.lines reader k.told;
@@ -344,6 +348,7 @@ module _ {A D : Type 0} (step : A → List ℕ → Reply A) (note : A → List �
       record {
         answered = k.lines;
         under_way = [];
+        few = omega arith;
         effects = k.effects;
         state = state;
         first = told_none input rest k.lines reader k.told;
@@ -356,6 +361,7 @@ module _ {A D : Type 0} (step : A → List ℕ → Reply A) (note : A → List �
       record {
         answered = k.lines;
         under_way = [];
+        few = omega arith;
         effects = k.effects;
         state = state;
         first = told_none input rest k.lines reader k.told;

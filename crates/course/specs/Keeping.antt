@@ -1,5 +1,5 @@
 -- What a run keeps of what it accepts before it answers, and what a crash leaves of that.
-use Rattle.std.specs.Prelude.{◌≡◌, ◌≤◌, ◌⊎◌, ℕ, List, [], ◌∷◌, ◌++◌, Option, Some, None, Result, Ok, Err}
+use Rattle.std.specs.Prelude.{◌≡◌, ◌≤◌, ◌⊎◌, ℕ, List, [], ◌∷◌, ◌++◌, length, Option, Some, None, Result, Ok, Err}
 use Rattle.outside.specs.Counts.{Rose}
 use Rattle.effects.specs.Effects.{Effect, World, contents, performed}
 use Rattle.tab_lines.specs.Lines.{lines_of, whole_lines}
@@ -93,6 +93,7 @@ KeptAtEnd step note log start es input rest answered under_way effects state new
 pub record KeptOver {A D : Type 0} (step : A → List ℕ → Reply A) (note : A → List ℕ → List Entry) (log : Log D) (start : A) (es : List Entry) (input rest : Option (List ℕ)) (old new : D) (old_world new_world : World) (r : Result Verdict Halt) : Type 0 where
   pub answered : List (List ℕ)
   pub under_way : List (List ℕ)
+  pub few : length under_way ≤ 1
   pub effects : List Effect
   pub state : A
   pub first : AreFirst input answered under_way
