@@ -131,17 +131,6 @@ impl Draft {
             Kept::After(catalogue) => catalogue,
         }
     }
-
-    /// A copy of the catalogue in which its changes are made.
-    pub fn after(&self, base: &Catalogue) -> Result<Catalogue, NoMemory>
-        requires { StandsOver self.now base.now.databases }
-        ensures { IfOk result (λ c. c.databases ≡ after_all base.now.databases self.now.changes) }
-    {
-        match &self.kept {
-            Kept::Counts(_) => made(base, &self.changes),
-            Kept::After(catalogue) => catalogue.copy(),
-        }
-    }
 }
 
 // A copy of a catalogue in which changes are made.

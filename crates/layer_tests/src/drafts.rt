@@ -99,11 +99,9 @@ fn rows_refused(
     requires { StandsOver draft.old base.now.databases }
 {
     let none = first_refusal(alloc, draft, base, THREE)?;
-    let after = draft.after(base)?;
     let mut rows = Draft::new(alloc);
-    let refusal = first_refusal(alloc, &mut rows, &after, ROWS);
-    drop(after);
-    Ok(none.or(refusal?))
+    let refusal = first_refusal(alloc, &mut rows, draft.schema(base), ROWS)?;
+    Ok(none.or(refusal))
 }
 
 #[test]
