@@ -28,7 +28,7 @@ returns-in-Ok-clause-allowed c =
 pub returns-in-Err-clause-refused : goal.returns-in-Err-clause-refused
 returns-in-Err-clause-refused c =
     let same = ap (λ (l : Listed). l.items) c.in-Bare.ensures ∙ c.in_ok-facts.ensures in
-    rw c.from.ensures (refused_so c.args.catalogue.now.databases (query_of c.args.view.now) c.args.shape.now c.requires.shape _ same c.in-Err.stop c.in-Err.ensures.refused)
+    refused_so c.args.catalogue.now.databases (query_of c.args.view.now) c.args.shape.now c.requires.shape _ same c.in-Err.fault c.in-Err.ensures.refused
 
 pub all_in_order-requires-in-WithCells : goal.all_in_order-requires-in-WithCells
 all_in_order-requires-in-WithCells c =
@@ -53,4 +53,4 @@ returns-in-Ok-all_in_order-clause-allowed c =
 pub returns-in-Err-all_in_order-clause-refused : goal.returns-in-Err-all_in_order-clause-refused
 returns-in-Err-all_in_order-clause-refused c =
     let same = ap (λ (l : Listed). l.items) c.in-WithCells.ensures ∙ c.in_ok-facts.ensures in
-    rw c.from-in-Err-all_in_order.ensures (refused_so c.args.catalogue.now.databases (query_of c.args.view.now) c.args.shape.now c.requires.shape _ same c.in-Err-all_in_order.stop c.in-Err-all_in_order.ensures.refused)
+    refused_so c.args.catalogue.now.databases (query_of c.args.view.now) c.args.shape.now c.requires.shape _ same c.in-Err-all_in_order.fault c.in-Err-all_in_order.ensures.refused

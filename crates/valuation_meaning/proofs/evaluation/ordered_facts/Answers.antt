@@ -22,7 +22,7 @@ returns-in-Ok-clause-allowed c =
 pub returns-in-Err-clause-refused : goal.returns-in-Err-clause-refused
 returns-in-Err-clause-refused c =
     let same = ap (λ (l : Listed). l.items) c.in-Bare.ensures ∙ c.in_ok-facts.ensures in
-    rw c.from.ensures (refused_so c.args.catalogue.now.databases (query_of c.args.view.now) c.args.shape.now c.requires.shape _ same c.in-Err.stop c.in-Err.ensures.refused)
+    refused_so c.args.catalogue.now.databases (query_of c.args.view.now) c.args.shape.now c.requires.shape _ same c.in-Err.fault c.in-Err.ensures.refused
 
 pub in_order-requires-in-WithCells : goal.in_order-requires-in-WithCells
 in_order-requires-in-WithCells c =
@@ -42,4 +42,4 @@ returns-in-Ok-in_order-clause-allowed c =
 pub returns-in-Err-in_order-clause-refused : goal.returns-in-Err-in_order-clause-refused
 returns-in-Err-in_order-clause-refused c =
     let same = ap (λ (l : Listed). l.items) c.in-WithCells.ensures ∙ c.in_ok-facts.ensures in
-    rw c.from-in-Err-in_order.ensures (refused_so c.args.catalogue.now.databases (query_of c.args.view.now) c.args.shape.now c.requires.shape _ same c.in-Err-in_order.stop c.in-Err-in_order.ensures.refused)
+    refused_so c.args.catalogue.now.databases (query_of c.args.view.now) c.args.shape.now c.requires.shape _ same c.in-Err-in_order.fault c.in-Err-in_order.ensures.refused
