@@ -1,6 +1,6 @@
 -- From the opening of a view's folder and the lines behind it to a run of `apply`.
 use Rattle.std.proofs.Common.{◌≡◌, ◌≢◌, ℕ, true, List, [], Option, Some, refl, sym, ap, ◌∙◌, subst, inl, inr}
-use Rattle.std.specs.Prelude.{Result, Ok, Err, IfOk, OnErr, IsErrOf}
+use Rattle.std.specs.Prelude.{Bool, Result, Ok, Err, IfOk, IfErr, IsErrOf}
 use Rattle.outside.specs.States.{StoreState, SinkState}
 use Rattle.outside.specs.Reading.{OnlyRead}
 use Rattle.effects.specs.Effects.{World, world_of, contents, Partly}
@@ -12,7 +12,7 @@ use Rattle.course.specs.declared.status.Verdict.{Verdict}
 use Rattle.course.specs.declared.status.Verdict.TheVariants as verdict
 use Rattle.course.specs.declared.status.Halt.{Halt}
 use Rattle.course.specs.declared.status.Halt.TheVariants as halt
-use Rattle.course.specs.Answering.{Reply, Continues, Finishes, ending, follow, course, Ran, AnsweredSome, EndedOver, IsReadOut}
+use Rattle.course.specs.Answering.{Reply, Continues, Finishes, ending, follow, course, Ran, AnsweredSome, EndedOver, IsReadOut, is_too_long}
 use Rattle.course.specs.Answering as lines
 use Rattle.view_apply.specs.declared.opening.OpenedFolder.TheVariants as read
 use Rattle.view_apply.specs.Applying.{ApplyState, step, finish}
@@ -20,8 +20,8 @@ use Rattle.view_apply.specs.Opening.{Opens}
 use Rattle.view_apply.proofs.CourseLemmas.{halts_so}
 use Rattle.run_course.specs.Statuses.{can_apply}
 use Rattle.run_course.specs.Idle.{IdleStop}
-use Rattle.run_course.specs.Course.{RanBy, RanSome, Took, by_lines, verdict_status, status_of, is_done, IsReadWhole, IsWholeInput}
-use Rattle.run_course.proofs.DriveLemmas.{went_on, ended_later, took_behind}
+use Rattle.run_course.specs.Course.{RanBy, RanSome, Took, TookEnough, by_lines, verdict_status, status_of, is_done, IsReadWhole, IsWholeInput}
+use Rattle.run_course.proofs.DriveLemmas.{went_on, ended_later, took_behind, enough_behind}
 use Rattle.plain_commands.specs.declared.applying.Folder.TheVariants as folder
 use Rattle.plain_commands.specs.Steps.{FolderOpens, IsFolderRefusal}
 
@@ -65,18 +65,37 @@ opening_drove (Continues es p) s bytes rest old mid new x h ran = went_on step f
 not_bad : (v : Verdict) → v ≡ verdict.BadCatalogue → is_done v ≡ true → ⊥
 not_bad v e done = cc (e, done)
 
-pub drove_whole : (s : ApplyState) (bytes : List ℕ) (before rest : Option (List ℕ)) (old new : World) (r : Result Verdict Halt) → IfOk r (λ _. (bs : List ℕ) → before ≡ Some bs → IsReadOut step s bs rest)
+pub drove_whole : (s : ApplyState) (bytes : List ℕ) (before rest last : Option (List ℕ)) (old new : World) (r : Result Verdict Halt) → IfOk r (λ _. (bs : List ℕ) → before ≡ Some bs → IsReadOut step s bs rest last)
     → Ran step finish s bytes rest old new r → before ≡ Some bytes → IsWholeInput bytes rest r
-drove_whole s bytes before rest old new (Ok v) h ran e = λ done. by_reply (follow step (lines_of bytes) (Continues [] s)) refl ran.1 done
+drove_whole s bytes before rest last old new (Ok v) h ran e = λ done. by_reply (follow step (lines_of bytes) (Continues [] s)) refl ran.1 done
   where
     by_reply : (r : Reply ApplyState) → follow step (lines_of bytes) (Continues [] s) ≡ r → v ≡ (ending finish r).status → is_done v ≡ true → IsReadWhole bytes rest
-    by_reply (Continues es a) f is done = let read = (h bytes e).read es a f in record { read = read.0; few = read.1 }
+    by_reply (Continues es a) f is done = (h bytes e).read es a f
     by_reply (Finishes es w) f is done = absurd (not_bad v (is ∙ (halts_so (lines_of bytes) s es w f).0) done)
-drove_whole s bytes before rest old new (Err x) h ran e = tt
+drove_whole s bytes before rest last old new (Err x) h ran e = tt
 
 pub ended_whole : (bytes : List ℕ) (rest : Option (List ℕ)) (v : Verdict) → IsFolderRefusal (folder.Ended v) → IsWholeInput bytes rest (Ok v)
 ended_whole bytes rest v (inl e) = λ done. cc (e, done)
 ended_whole bytes rest v (inr e) = λ done. cc (e, done)
+
+-- what was taken of the input where the run ended
+pub ended_enough : (r : Reply ApplyState) (bytes : List ℕ) (rest last : Option (List ℕ)) (old new : World) (v : Verdict) → FolderOpens r old new (Ok (folder.Ended v)) → TookEnough (by_lines step finish r) bytes rest last
+ended_enough (Finishes es w) bytes rest last old new v h reads = absurd (cc)
+ended_enough (Continues es s) bytes rest last old new v h reads = absurd h
+
+drove_enough : (r : Reply ApplyState) (s : ApplyState) (bytes : List ℕ) (rest last : Option (List ℕ)) (old mid : World) → FolderOpens r old mid (Ok (folder.Open s)) → IsReadOut step s bytes rest last → TookEnough (by_lines step finish r) bytes rest last
+drove_enough (Finishes es w) s bytes rest last old mid h read = absurd h
+drove_enough (Continues es p) s bytes rest last old mid h read = enough_behind step finish es p bytes rest last (subst (λ (y : ApplyState). IsReadOut step y bytes rest last) h.1 read)
+
+pub enough_applying : (r : Reply ApplyState) (s : ApplyState) (bytes : List ℕ) (before rest last : Option (List ℕ)) (old mid : World) (x : Result Verdict Halt) → FolderOpens r old mid (Ok (folder.Open s)) → before ≡ Some bytes
+    → IfOk x (λ _. (bs : List ℕ) → before ≡ Some bs → IsReadOut step s bs rest last) → IfOk x (λ _. TookEnough (by_lines step finish r) bytes rest last)
+enough_applying r s bytes before rest last old mid (Ok v) h e read = drove_enough r s bytes rest last old mid h (read bytes e)
+enough_applying r s bytes before rest last old mid (Err y) h e read = tt
+
+-- tables that were read are followed by the input
+pub open_reads : {A : Type 0} (r : Reply ApplyState) (old mid : World) (s : ApplyState) → FolderOpens r old mid (Ok (folder.Open s)) → (by_lines step finish r).reads ≡ false → A
+open_reads (Finishes es w) old mid s h none = absurd h
+open_reads (Continues es p) old mid s h none = absurd (cc none)
 
 -- what was done, whatever the input tells
 pub some_ended : (r : Reply ApplyState) (old new : World) (v : Verdict) → FolderOpens r old new (Ok (folder.Ended v)) → RanSome (by_lines step finish r) old new (Ok v)
@@ -91,14 +110,15 @@ pub some_drove : (r : Reply ApplyState) (s : ApplyState) (old mid new : World) (
 some_drove (Finishes es w) s old mid new x h ran = absurd h
 some_drove (Continues es p) s old mid new x h ran = record { lines = ran.lines; ran = ended_later es (course step finish p ran.lines) old mid new x h.0 (subst (λ (y : ApplyState). EndedOver (course step finish y ran.lines) mid new x) h.1 ran.ran) }
 
--- what was taken of the input
-took_drove : (r : Reply ApplyState) (s : ApplyState) (bytes : List ℕ) (rest : Option (List ℕ)) (old mid new : World) → FolderOpens r old mid (Ok (folder.Open s)) → lines.TookLittle step finish s bytes rest mid new → Took (by_lines step finish r) bytes rest old new
-took_drove (Finishes es w) s bytes rest old mid new h took = absurd h
-took_drove (Continues es p) s bytes rest old mid new h took = took_behind step finish es p bytes rest old mid new h.0 (subst (λ (y : ApplyState). lines.TookLittle step finish y bytes rest mid new) h.1 took)
+-- what was taken of the input where it gave up
+took_drove : (r : Reply ApplyState) (s : ApplyState) (bytes : List ℕ) (rest last : Option (List ℕ)) (old mid new : World) (long : Bool) → FolderOpens r old mid (Ok (folder.Open s)) → lines.TookLittle step finish s bytes rest last mid new long → Took (by_lines step finish r) bytes rest last old new long
+took_drove (Finishes es w) s bytes rest last old mid new long h took = absurd h
+took_drove (Continues es p) s bytes rest last old mid new long h took = took_behind step finish es p bytes rest last old mid new long h.0 (subst (λ (y : ApplyState). lines.TookLittle step finish y bytes rest last mid new long) h.1 took)
 
-pub took_applying : (r : Reply ApplyState) (s : ApplyState) (bytes : List ℕ) (rest : Option (List ℕ)) (old mid new : World) (x : Result Verdict Halt) → FolderOpens r old mid (Ok (folder.Open s)) → OnErr x (lines.TookLittle step finish s bytes rest mid new) → OnErr x (Took (by_lines step finish r) bytes rest old new)
-took_applying r s bytes rest old mid new (Ok v) h took = took
-took_applying r s bytes rest old mid new (Err e) h took = took_drove r s bytes rest old mid new h took
+pub took_applying : (r : Reply ApplyState) (s : ApplyState) (bytes : List ℕ) (rest last : Option (List ℕ)) (old mid new : World) (x : Result Verdict Halt) → FolderOpens r old mid (Ok (folder.Open s))
+    → IfErr x (λ h. lines.TookLittle step finish s bytes rest last mid new (is_too_long h)) → IfErr x (λ h. Took (by_lines step finish r) bytes rest last old new (is_too_long h))
+took_applying r s bytes rest last old mid new (Ok v) h took = took
+took_applying r s bytes rest last old mid new (Err e) h took = took_drove r s bytes rest last old mid new (is_too_long e) h took
 
 -- the statuses of `apply`
 pub refused_can : (v : Verdict) → IsFolderRefusal (folder.Ended v) → can_apply (verdict_status v) ≡ true

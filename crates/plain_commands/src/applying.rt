@@ -1,9 +1,9 @@
 //! The command `apply`.
-ghost use Rattle.std.specs.Prelude.{◌≡◌, true, List, ℕ, Some, IfOk, OnErr};
+ghost use Rattle.std.specs.Prelude.{◌≡◌, true, false, List, ℕ, Some, IfOk, IfErr};
 ghost use Rattle.effects.specs.Effects.{world_of};
 ghost use Rattle.effects.specs.Blame.{Blames};
 ghost use Rattle.outside.specs.Tree.{Tree};
-ghost use Rattle.course.specs.Answering.{BlamesRun};
+ghost use Rattle.course.specs.Answering.{BlamesRun, is_too_long};
 ghost use Rattle.view_def.specs.Query.{query_of};
 ghost use Rattle.valuation_meaning.specs.Meaning.{shape_of};
 ghost use Rattle.view_apply.specs.Applying.{step, finish, opening};
@@ -13,7 +13,7 @@ ghost use Rattle.plain_commands.specs.Applies.{apply_opening};
 ghost use Rattle.run_course.specs.Statuses.{can_apply};
 ghost use Rattle.plain_commands.specs.Steps.{FolderOpens, IsFolderRefusal};
 ghost use Rattle.run_course.specs.Idle.{IdleUnread, IdleRun};
-ghost use Rattle.run_course.specs.Course.{RanBy, RanSome, Took, by_lines, status_of, IsWholeInput};
+ghost use Rattle.run_course.specs.Course.{RanBy, RanSome, Took, TookEnough, by_lines, status_of, IsWholeInput};
 
 use course::{Halt, NoDisk, Verdict, answer_lines};
 use effects::Stop;
@@ -84,7 +84,7 @@ fn open_tables<F: Folders, K: Sink>(
 
 /// Reads the folder of the view of this name, applies the lines of the input to its tables, and writes them at the
 /// end. A line that is refused ends the run, and nothing is written. A fault at the end leaves a front of the writes.
-#[tactic(auto, using(crate::proofs::ApplyLemmas::opening_ended, crate::proofs::ApplyLemmas::opening_stopped, crate::proofs::ApplyLemmas::opening_drove, crate::proofs::ApplyLemmas::drove_whole, crate::proofs::ApplyLemmas::ended_whole, run_course::proofs::DriveLemmas::blamed_later, crate::proofs::ApplyLemmas::some_ended, crate::proofs::ApplyLemmas::some_stopped, crate::proofs::ApplyLemmas::some_drove, run_course::proofs::DriveLemmas::took_nothing, crate::proofs::ApplyLemmas::refused_can, crate::proofs::ApplyLemmas::stopped_can, run_course::proofs::IdleLemmas::idle_drove))]
+#[tactic(auto, using(crate::proofs::ApplyLemmas::opening_ended, crate::proofs::ApplyLemmas::opening_stopped, crate::proofs::ApplyLemmas::opening_drove, crate::proofs::ApplyLemmas::drove_whole, crate::proofs::ApplyLemmas::ended_whole, crate::proofs::ApplyLemmas::ended_enough, run_course::proofs::DriveLemmas::blamed_later, crate::proofs::ApplyLemmas::some_ended, crate::proofs::ApplyLemmas::some_stopped, crate::proofs::ApplyLemmas::some_drove, run_course::proofs::DriveLemmas::took_nothing, crate::proofs::ApplyLemmas::refused_can, crate::proofs::ApplyLemmas::stopped_can, run_course::proofs::IdleLemmas::idle_drove))]
 pub fn apply<F: Folders, S: Source, K: Sink, L: Ledger>(
     alloc: Global,
     store: &mut F,
@@ -101,8 +101,13 @@ pub fn apply<F: Folders, S: Source, K: Sink, L: Ledger>(
         → RanSome (by_lines step finish (apply_opening t d)) (world_of (F.state store.old) (K.state output.old)) (world_of (F.state store.new) (K.state output.new)) result }
     ensures took { (t : Tree) (bytes : List ℕ) (d : DefinitionOrRefusal) → (F.state store.old).tree ≡ Some t → S.rest input.old ≡ Some bytes
         → IsDefinition name.now (definition_bytes t name.now) d
-        → OnErr result
-        (Took (by_lines step finish (apply_opening t d)) bytes (S.rest input.new) (world_of (F.state store.old) (K.state output.old)) (world_of (F.state store.new) (K.state output.new))) }
+        → IfErr result (λ h. Took (by_lines step finish (apply_opening t d)) bytes (S.rest input.new) (S.last input.new)
+        (world_of (F.state store.old) (K.state output.old)) (world_of (F.state store.new) (K.state output.new)) (is_too_long h)) }
+    ensures enough { (t : Tree) (bytes : List ℕ) (d : DefinitionOrRefusal) → (F.state store.old).tree ≡ Some t → S.rest input.old ≡ Some bytes
+        → IsDefinition name.now (definition_bytes t name.now) d
+        → IfOk result (λ _. TookEnough (by_lines step finish (apply_opening t d)) bytes (S.rest input.new) (S.last input.new)) }
+    ensures alone { (t : Tree) (d : DefinitionOrRefusal) → (F.state store.old).tree ≡ Some t → IsDefinition name.now (definition_bytes t name.now) d
+        → (by_lines step finish (apply_opening t d)).reads ≡ false → input.new ≡ input.old }
     ensures idle { IdleRun result (world_of (F.state store.old) (K.state output.old)) (world_of (F.state store.new) (K.state output.new)) }
     ensures whole { (bytes : List ℕ) → S.rest input.old ≡ Some bytes → IsWholeInput bytes (S.rest input.new) result }
     ensures blames { BlamesRun (S.faults input.old) (S.faults input.new) (world_of (F.state store.old) (K.state output.old)) (world_of (F.state store.new) (K.state output.new)) result }

@@ -11,6 +11,8 @@ mod applied;
 #[cfg(test)]
 mod commands;
 #[cfg(test)]
+mod endless;
+#[cfg(test)]
 mod failing;
 #[cfg(test)]
 mod grouped;

@@ -1,6 +1,6 @@
 -- From what a command did to what is promised of a whole run.
 use Rattle.std.proofs.Common.{◌≡◌, ◌≢◌, ℕ, true, false, List, [], Option, Some, refl, sym, ap, ◌∙◌, subst}
-use Rattle.std.specs.Prelude.{Result, Err, OnErr}
+use Rattle.std.specs.Prelude.{Result, Err, IfOk, IfErr}
 use Rattle.std.specs.FinMap.{empty}
 use Rattle.ss_text.specs.Texts.{Text}
 use Rattle.tab_lines.specs.Lines.{lines_of}
@@ -9,14 +9,14 @@ use Rattle.outside.specs.Whole.{IsWhole}
 use Rattle.effects.specs.Effects.{World}
 use Rattle.course.specs.declared.status.Verdict.{Verdict}
 use Rattle.course.specs.declared.status.Halt.{Halt}
-use Rattle.course.specs.Answering.{BlamesRun}
+use Rattle.course.specs.Answering.{BlamesRun, is_too_long}
 use Rattle.std.proofs.lemmas.Bool.{false≢true}
 use Rattle.effects.specs.declared.stop.Stop.TheVariants as stop
 use Rattle.course.specs.declared.status.Halt.TheVariants as halt
 use Rattle.run_course.specs.declared.status.Status.TheVariants as status
-use Rattle.run_course.specs.Course.{Course, Did, RanBy, RanSome, Took, Finished, status_of}
+use Rattle.run_course.specs.Course.{Course, Did, DidSome, RanBy, RanSome, Took, TookEnough, Finished, is_long_status, status_of}
 use Rattle.run_course.specs.Idle.{IdleRun}
-use Rattle.run_course.proofs.RunLemmas.{by_status, finishes, by_fault}
+use Rattle.run_course.proofs.RunLemmas.{by_status, some_by_status, finishes, by_fault, by_end}
 use Rattle.view_stages.specs.Stages.{DefinitionOrRefusal}
 use Rattle.plain_commands.proofs.ShownLemmas.{did_show}
 use Rattle.plain_commands.proofs.CheckedLemmas.{did_check, did_verify}
@@ -27,7 +27,7 @@ use Rattle.plain_commands.proofs.StopLemmas.{did_nothing}
 use Rattle.upkeep_law.proofs.MaintainedLemmas.{did_maintain, did_cut_off}
 use Rattle.ss_top.specs.Commands.{Asked, Check, Show, Maintain, Verify, Apply, Load, Other, asked_of, uses_store, reads_input, can_end}
 use Rattle.ss_top.specs.Runs.{IsAsked, course_of, Told, StepsOf}
-use Rattle.ss_top.specs.Clauses.{DoesCourse, IsComplete, Checks, Shows, Maintains, StopsAtSync, Verifies, TellsDifference, Applies, AppliesNothing, Loads, KeepsAll, KeepsOthers, LeavesBetween, TakesLittle, TakesSteps}
+use Rattle.ss_top.specs.Clauses.{Has, DoesCourse, IsComplete, AnswersSome, Checks, Shows, Maintains, StopsAtSync, Verifies, TellsDifference, Applies, AppliesNothing, Loads, KeepsAll, KeepsOthers, LeavesBetween, TakesLittle, TakesEnough, TakesSteps}
 use Rattle.ss_top.proofs.RefusedLemmas.{did_refuse}
 use Rattle.ss_top.proofs.KeepLemmas.{did_keep}
 use Rattle.ss_top.proofs.LeaveLemmas.{did_leave}
@@ -112,10 +112,10 @@ module _ (words : List Text) (old new : World) (r : Result Verdict Halt) where
   pub keeps_all : RanSomehow → KeepsAll words old new (status_of r)
   keeps_all ran t told refused = let d = is_defined (asked_of words) t in did_refuse old new r refused (asked_of words) t d.definition told (ran t d.definition told d.is)
 
-  module _ (input rest : Option (List ℕ)) where
-    abbrev Taken : Type 0
-    Taken = (t : Tree) (bytes : List ℕ) (d : DefinitionOrRefusal) → Told (uses_store (asked_of words)) old.store.tree t → reads_input (asked_of words) ≡ true → input ≡ Some bytes → IsAsked (asked_of words) t d → OnErr r (Took (course_of (asked_of words) t d) bytes rest old new)
+  pub answers_some : RanSomehow → AnswersSome words old new (status_of r)
+  answers_some ran c has = subst (λ (x : Course). DidSome x old new (status_of r)) (sym has.is.course) (some_by_status (course_of (asked_of words) has.tree has.is.definition) old new r (ran has.tree has.is.definition has.told has.is.asked))
 
+  module _ (input rest : Option (List ℕ)) where
     abbrev RanTold : Type 0
     RanTold = (t : Tree) (bytes : List ℕ) (d : DefinitionOrRefusal) → Told (uses_store (asked_of words)) old.store.tree t → Told (reads_input (asked_of words)) input bytes → IsAsked (asked_of words) t d → RanBy (course_of (asked_of words) t d) bytes rest old new r
 
@@ -125,9 +125,22 @@ module _ (words : List Text) (old new : World) (r : Result Verdict Halt) where
     pub leaves_between : RanSomehow → RanTold → LeavesBetween words input old new
     leaves_between some ran t d told asked = did_leave (asked_of words) t d input rest old new r told (some t d (λ _. told) asked) (λ bytes given. ran t bytes d (λ _. told) (λ _. given) asked)
 
-    pub takes_little : Taken → TakesLittle words input rest old new (status_of r)
-    takes_little taken c bytes has reads given fault =
-        subst (λ (x : Course). Took x bytes rest old new) (sym has.is.course) (by_fault r (Took (course_of (asked_of words) has.tree has.is.definition) bytes rest old new) (taken has.tree bytes has.is.definition has.told reads given has.is.asked) fault)
+    -- and what the command took of it
+    module _ (last : Option (List ℕ)) where
+      abbrev Taken : (Course → List ℕ → Type 0) → Type 0
+      Taken P = (t : Tree) (bytes : List ℕ) (d : DefinitionOrRefusal) → Told (uses_store (asked_of words)) old.store.tree t → reads_input (asked_of words) ≡ true → input ≡ Some bytes → IsAsked (asked_of words) t d → P (course_of (asked_of words) t d) bytes
+
+      pub takes_little : Taken (λ c bytes. IfErr r (λ h. Took c bytes rest last old new (is_too_long h))) → TakesLittle words input rest last old new (status_of r)
+      takes_little taken c bytes has reads given fault =
+          subst (λ (x : Course). Took x bytes rest last old new (is_long_status (status_of r))) (sym has.is.course) (by_fault r (Took (course_of (asked_of words) has.tree has.is.definition) bytes rest last old new) (taken has.tree bytes has.is.definition has.told reads given has.is.asked) fault)
+
+      pub takes_enough : Taken (λ c bytes. IfOk r (λ v. TookEnough c bytes rest last)) → TakesEnough words input rest last old (status_of r)
+      takes_enough taken c bytes has reads given ended =
+          subst (λ (x : Course). TookEnough x bytes rest last) (sym has.is.course) (by_end r (TookEnough (course_of (asked_of words) has.tree has.is.definition) bytes rest last) (taken has.tree bytes has.is.definition has.told reads given has.is.asked) ended)
+
+-- a run whose course reads no input
+pub alone_by : (words : List Text) (w : World) (P : Type 0) → ((t : Tree) (d : DefinitionOrRefusal) → Told (uses_store (asked_of words)) w.store.tree t → IsAsked (asked_of words) t d → (course_of (asked_of words) t d).reads ≡ false → P) → (c : Course) → Has words w c → c.reads ≡ false → P
+alone_by words w P alone c has none = alone has.tree has.is.definition has.told has.is.asked (ap (λ (x : Course). x.reads) (sym has.is.course) ∙ none)
 
 -- and how many steps it took
 module _ (words : List Text) (input : Option (List ℕ)) (old : World) (i j : ℕ) (r : Result Verdict Halt) where

@@ -1,5 +1,5 @@
 -- The promises of `run`, each over the words, what was left of the input, the outside and the status.
-use Rattle.std.specs.Prelude.{◌≡◌, ◌≢◌, ℕ, ◌<◌, true, List, length, Option, Some}
+use Rattle.std.specs.Prelude.{◌≡◌, ◌≢◌, ℕ, ◌<◌, true, false, List, length, Option, Some}
 use Rattle.ss_text.specs.Texts.{Text}
 use Rattle.tab_lines.specs.Lines.{lines_of}
 use Rattle.tab_lines.specs.Taking.{most_taken}
@@ -7,7 +7,7 @@ use Rattle.outside.specs.Tree.{Tree}
 use Rattle.effects.specs.Effects.{World, contents}
 use Rattle.run_course.specs.declared.status.Status.{Status}
 use Rattle.run_course.specs.declared.status.Status.TheVariants as status
-use Rattle.run_course.specs.Course.{Course, Did, Took, NoFault, Finished, IsReadWhole, is_done_status, is_fault_status, is_refused_status, is_unread_status, GaveOutStatus}
+use Rattle.run_course.specs.Course.{Course, Did, DidSome, Took, TookEnough, NoFault, Finished, IsReadWhole, is_done_status, is_fault_status, is_long_status, is_refused_status, is_unread_status, GaveOutStatus}
 use Rattle.run_course.specs.Idle.{Unchanged}
 use Rattle.view_stages.specs.Stages.{DefinitionOrRefusal}
 use Rattle.view_stages.specs.Opening.{IsDefinition, definition_bytes, opening}
@@ -102,10 +102,19 @@ KeepsOthers words input old new = (t : Tree) (d : DefinitionOrRefusal) → old.s
 abbrev pub LeavesBetween : List Text → Option (List ℕ) → World → World → Type 0
 LeavesBetween words input old new = (t : Tree) (d : DefinitionOrRefusal) → old.store.tree ≡ Some t → IsAsked (asked_of words) t d → IsLeftBetween (asked_of words) t d input new
 
--- a run that gave up took no more of its input than it answered, the line under way and what one read gives
-abbrev pub TakesLittle : List Text → Option (List ℕ) → Option (List ℕ) → World → World → Status → Type 0
-TakesLittle words input rest old new s =
-    (c : Course) (bytes : List ℕ) → Has words old c → reads_input (asked_of words) ≡ true → input ≡ Some bytes → is_fault_status s ≡ true → Took c bytes rest old new
+-- whatever the input tells, some lines were answered in turn, and the status is that of their course, or it gave up on the way
+abbrev pub AnswersSome : List Text → World → World → Status → Type 0
+AnswersSome words old new s = (c : Course) → Has words old c → DidSome c old new s
+
+-- a run that gave up took no more of its input than it answered, the line under way and what its last read gave, and its input was too long just where the status says so
+abbrev pub TakesLittle : List Text → Option (List ℕ) → Option (List ℕ) → Option (List ℕ) → World → World → Status → Type 0
+TakesLittle words input rest last old new s =
+    (c : Course) (bytes : List ℕ) → Has words old c → reads_input (asked_of words) ≡ true → input ≡ Some bytes → is_fault_status s ≡ true → Took c bytes rest last old new (is_long_status s)
+
+-- and one that ended took all of its input, or no more than the line needs that ended it
+abbrev pub TakesEnough : List Text → Option (List ℕ) → Option (List ℕ) → Option (List ℕ) → World → Status → Type 0
+TakesEnough words input rest last old s =
+    (c : Course) (bytes : List ℕ) → Has words old c → reads_input (asked_of words) ≡ true → input ≡ Some bytes → is_fault_status s ≡ false → TookEnough c bytes rest last
 
 -- where memory did not lack, `maintain` took no more steps than the answers to the lines of its input may, and none where the view was not opened: i and j are those before and after
 abbrev pub TakesSteps : List Text → Option (List ℕ) → World → ℕ → ℕ → Status → Type 0

@@ -1,17 +1,17 @@
 //! The commands, each by what it asks for.
-ghost use Rattle.std.specs.Prelude.{◌≡◌, ◌≢◌, ◌≤◌, List, ℕ, [], ◌∷◌, Some, Err, true, false, IfOk, IfErr, OnErr};
+ghost use Rattle.std.specs.Prelude.{◌≡◌, ◌≢◌, ◌≤◌, List, ℕ, [], ◌∷◌, Some, Err, true, false, IfOk, IfErr};
 ghost use Rattle.effects.specs.Effects.{world_of};
 ghost use Rattle.outside.specs.Reading.{OnlyRead};
 ghost use Rattle.outside.specs.Tree.{Tree};
 ghost use Rattle.tab_lines.specs.Lines.{lines_of};
-ghost use Rattle.course.specs.Answering.{Ended, BlamesRun};
+ghost use Rattle.course.specs.Answering.{Ended, BlamesRun, is_too_long};
 ghost use Rattle.course.specs.declared.status.Verdict.TheVariants.{Usage};
 ghost use Rattle.effects.specs.Blame.{Blames};
 ghost use Rattle.ss_print.specs.Printing.{prints_usage};
 ghost use Rattle.ss_top.specs.Commands.{asked_by, uses_store, only_reads, reads_input, counts, can_end};
 ghost use Rattle.ss_top.specs.Runs.{StepsOf};
 ghost use Rattle.view_stages.specs.Stages.{DefinitionOrRefusal};
-ghost use Rattle.run_course.specs.Course.{RanBy, RanSome, Took, status_of, IsWholeInput};
+ghost use Rattle.run_course.specs.Course.{RanBy, RanSome, Took, TookEnough, status_of, IsWholeInput};
 ghost use Rattle.ss_top.specs.Runs.{IsAsked, course_of, Told};
 ghost use Rattle.run_course.specs.Idle.{IdleRun};
 
@@ -67,8 +67,13 @@ pub(crate) fn run_command<F: Folders, S: Source, K: Sink, L: Ledger>(
         → RanSome (course_of (asked_by command.entry) t d) (world_of (F.state store.old) (K.state output.old)) (world_of (F.state store.new) (K.state output.new)) result }
     ensures took { (t : Tree) (bytes : List ℕ) (d : DefinitionOrRefusal) → Told (uses_store (asked_by command.entry)) (F.state store.old).tree t
         → reads_input (asked_by command.entry) ≡ true → S.rest input.old ≡ Some bytes → IsAsked (asked_by command.entry) t d
-        → OnErr result (Took (course_of (asked_by command.entry) t d) bytes (S.rest input.new) (world_of (F.state store.old) (K.state output.old))
-        (world_of (F.state store.new) (K.state output.new))) }
+        → IfErr result (λ h. Took (course_of (asked_by command.entry) t d) bytes (S.rest input.new) (S.last input.new)
+        (world_of (F.state store.old) (K.state output.old)) (world_of (F.state store.new) (K.state output.new)) (is_too_long h)) }
+    ensures enough { (t : Tree) (bytes : List ℕ) (d : DefinitionOrRefusal) → Told (uses_store (asked_by command.entry)) (F.state store.old).tree t
+        → reads_input (asked_by command.entry) ≡ true → S.rest input.old ≡ Some bytes → IsAsked (asked_by command.entry) t d
+        → IfOk result (λ _. TookEnough (course_of (asked_by command.entry) t d) bytes (S.rest input.new) (S.last input.new)) }
+    ensures alone { (t : Tree) (d : DefinitionOrRefusal) → Told (uses_store (asked_by command.entry)) (F.state store.old).tree t
+        → IsAsked (asked_by command.entry) t d → (course_of (asked_by command.entry) t d).reads ≡ false → input.new ≡ input.old }
     ensures idle { IdleRun result (world_of (F.state store.old) (K.state output.old)) (world_of (F.state store.new) (K.state output.new)) }
     ensures whole { (bytes : List ℕ) → reads_input (asked_by command.entry) ≡ true → S.rest input.old ≡ Some bytes → IsWholeInput bytes (S.rest input.new) result }
     ensures only_read { only_reads (asked_by command.entry) ≡ true → OnlyRead (F.state store.old) (F.state store.new) }

@@ -3,14 +3,10 @@ ghost use Rattle.std.specs.Prelude.{◌≡◌, ◌≤◌, true, false};
 ghost use Rattle.outside.specs.Reading.{OnlyRead};
 ghost use Rattle.outside.specs.Tree.{Tree};
 ghost use Rattle.effects.specs.Effects.{world_of};
-ghost use Rattle.schema_model.specs.Catalogue.{CatalogueValue};
-ghost use Rattle.valuation_meaning.specs.Meaning.{meaning};
-ghost use Rattle.view_session.specs.Session.{SessionState, tables_of, lines_to};
 ghost use Rattle.ss_top.specs.Commands.{asked_of, uses_store, only_reads, reads_input, counts, can_end};
-ghost use Rattle.run_course.specs.Course.{Cause};
+ghost use Rattle.run_course.specs.Course.{Course, Cause};
 ghost use Rattle.ss_top.specs.Runs.{IsDefined};
-ghost use Rattle.upkeep_law.specs.Promises.{Takes};
-ghost use Rattle.ss_top.specs.Clauses.{DoesCourse, IsComplete, Checks, Shows, Maintains, StopsAtSync, Verifies, TellsDifference, Applies, AppliesNothing, Loads, ReadsWhole, KeepsAll, KeepsOthers, LeavesBetween, TakesLittle, TakesSteps};
+ghost use Rattle.ss_top.specs.Clauses.{Has, DoesCourse, IsComplete, AnswersSome, Checks, Shows, Maintains, StopsAtSync, Verifies, TellsDifference, Applies, AppliesNothing, Loads, ReadsWhole, KeepsAll, KeepsOthers, LeavesBetween, TakesLittle, TakesEnough, TakesSteps};
 
 use crate::asked::command_of;
 use crate::command::run_command;
@@ -45,6 +41,7 @@ pub fn run<F: Folders, S: Source, K: Sink, L: Ledger>(
     ensures did { DoesCourse words.now (S.rest input.old) (S.rest input.new) (world_of (F.state store.old) (K.state output.old)) (world_of (F.state store.new) (K.state output.new)) result }
     ensures complete { IsComplete words.now (S.rest input.old) (S.faults input.old) (S.faults input.new)
         (world_of (F.state store.old) (K.state output.old)) (world_of (F.state store.new) (K.state output.new)) result }
+    ensures some { AnswersSome words.now (world_of (F.state store.old) (K.state output.old)) (world_of (F.state store.new) (K.state output.new)) result }
 
     // Which status comes when: a fault only where a count of faults rose.
     ensures can { can_end (asked_of words.now) result ≡ true }
@@ -55,7 +52,6 @@ pub fn run<F: Folders, S: Source, K: Sink, L: Ledger>(
     ensures shown { Shows words.now (world_of (F.state store.old) (K.state output.old)) (world_of (F.state store.new) (K.state output.new)) result }
     ensures maintained { Maintains words.now (S.rest input.old) (world_of (F.state store.old) (K.state output.old)) (world_of (F.state store.new) (K.state output.new)) result }
     ensures cut_off { StopsAtSync words.now (S.rest input.old) (S.rest input.new) (world_of (F.state store.old) (K.state output.old)) (world_of (F.state store.new) (K.state output.new)) result }
-    ensures takes { (s : SessionState) (c : CatalogueValue) → Takes (tables_of s) (meaning c s.query) (lines_to s c) }
     ensures verified { Verifies words.now (world_of (F.state store.old) (K.state output.old)) (world_of (F.state store.new) (K.state output.new)) result }
     ensures differs { TellsDifference words.now (world_of (F.state store.old) (K.state output.old)) result }
     ensures applied { Applies words.now (S.rest input.old) (world_of (F.state store.old) (K.state output.old)) (world_of (F.state store.new) (K.state output.new)) result }
@@ -67,7 +63,10 @@ pub fn run<F: Folders, S: Source, K: Sink, L: Ledger>(
     ensures unchanged { KeepsAll words.now (world_of (F.state store.old) (K.state output.old)) (world_of (F.state store.new) (K.state output.new)) result }
     ensures others { KeepsOthers words.now (S.rest input.old) (world_of (F.state store.old) (K.state output.old)) (world_of (F.state store.new) (K.state output.new)) }
     ensures between { LeavesBetween words.now (S.rest input.old) (world_of (F.state store.old) (K.state output.old)) (world_of (F.state store.new) (K.state output.new)) }
-    ensures took { TakesLittle words.now (S.rest input.old) (S.rest input.new) (world_of (F.state store.old) (K.state output.old)) (world_of (F.state store.new) (K.state output.new)) result }
+    ensures took { TakesLittle words.now (S.rest input.old) (S.rest input.new) (S.last input.new)
+        (world_of (F.state store.old) (K.state output.old)) (world_of (F.state store.new) (K.state output.new)) result }
+    ensures enough { TakesEnough words.now (S.rest input.old) (S.rest input.new) (S.last input.new) (world_of (F.state store.old) (K.state output.old)) result }
+    ensures alone { (c : Course) → Has words.now (world_of (F.state store.old) (K.state output.old)) c → c.reads ≡ false → input.new ≡ input.old }
     ensures only_read { only_reads (asked_of words.now) ≡ true → OnlyRead (F.state store.old) (F.state store.new) }
     ensures store { uses_store (asked_of words.now) ≡ false → F.state store.new ≡ F.state store.old }
     ensures rest { reads_input (asked_of words.now) ≡ false → S.rest input.new ≡ S.rest input.old }

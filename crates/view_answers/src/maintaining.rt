@@ -1,16 +1,16 @@
 //! The command `maintain`.
-ghost use Rattle.std.specs.Prelude.{◌≡◌, ◌≢◌, ◌≤◌, true, List, ℕ, Some, Err, OnErr};
+ghost use Rattle.std.specs.Prelude.{◌≡◌, ◌≢◌, ◌≤◌, true, false, List, ℕ, Some, Err, IfOk, IfErr};
 ghost use Rattle.effects.specs.Effects.{world_of};
 ghost use Rattle.outside.specs.Tree.{Tree};
 ghost use Rattle.tab_lines.specs.Lines.{lines_of};
-ghost use Rattle.course.specs.Answering.{BlamesRun};
+ghost use Rattle.course.specs.Answering.{BlamesRun, is_too_long};
 ghost use Rattle.view_stages.specs.Stages.{DefinitionOrRefusal};
 ghost use Rattle.view_stages.specs.Opening.{IsDefinition, definition_bytes, opening};
 ghost use Rattle.view_answers.specs.Answers.{step, finish};
 ghost use Rattle.view_answers.specs.Limits.{StepsBehind};
 ghost use Rattle.run_course.specs.Statuses.{can_maintain};
 ghost use Rattle.run_course.specs.Idle.{IdleRun};
-ghost use Rattle.run_course.specs.Course.{RanBy, RanSome, Took, by_lines, status_of, IsWholeInput};
+ghost use Rattle.run_course.specs.Course.{RanBy, RanSome, Took, TookEnough, by_lines, status_of, IsWholeInput};
 
 use crate::opening::{Opened, open};
 use course::{Halt, NoDisk, Verdict, answer_lines};
@@ -22,7 +22,7 @@ use std::sync::ledger::Ledger;
 
 /// Opens the view of this name, and answers the lines of the input in turn. Where a call fails or memory runs out, a
 /// front of the answers is there, and what was under way may have broken off.
-#[tactic(auto, using(crate::proofs::MaintainLemmas::opening_ended, crate::proofs::MaintainLemmas::opening_stopped, crate::proofs::MaintainLemmas::opening_drove, crate::proofs::MaintainLemmas::drove_whole, crate::proofs::MaintainLemmas::ended_whole, run_course::proofs::DriveLemmas::blamed_later, crate::proofs::MaintainLemmas::some_ended, crate::proofs::MaintainLemmas::some_stopped, crate::proofs::MaintainLemmas::some_drove, run_course::proofs::DriveLemmas::took_nothing, crate::proofs::MaintainLemmas::refused_can, crate::proofs::MaintainLemmas::stopped_can, run_course::proofs::IdleLemmas::idle_drove))]
+#[tactic(auto, using(crate::proofs::MaintainLemmas::opening_ended, crate::proofs::MaintainLemmas::opening_stopped, crate::proofs::MaintainLemmas::opening_drove, crate::proofs::MaintainLemmas::drove_whole, crate::proofs::MaintainLemmas::ended_whole, crate::proofs::MaintainLemmas::ended_enough, run_course::proofs::DriveLemmas::blamed_later, crate::proofs::MaintainLemmas::some_ended, crate::proofs::MaintainLemmas::some_stopped, crate::proofs::MaintainLemmas::some_drove, run_course::proofs::DriveLemmas::took_nothing, crate::proofs::MaintainLemmas::refused_can, crate::proofs::MaintainLemmas::stopped_can, run_course::proofs::IdleLemmas::idle_drove))]
 pub fn maintain<F: Folders, S: Source, K: Sink, L: Ledger>(
     alloc: Global,
     store: &mut F,
@@ -39,7 +39,13 @@ pub fn maintain<F: Folders, S: Source, K: Sink, L: Ledger>(
         → RanSome (by_lines step finish (opening t d)) (world_of (F.state store.old) (K.state output.old)) (world_of (F.state store.new) (K.state output.new)) result }
     ensures took { (t : Tree) (bytes : List ℕ) (d : DefinitionOrRefusal) → (F.state store.old).tree ≡ Some t → S.rest input.old ≡ Some bytes
         → IsDefinition name.now (definition_bytes t name.now) d
-        → OnErr result (Took (by_lines step finish (opening t d)) bytes (S.rest input.new) (world_of (F.state store.old) (K.state output.old)) (world_of (F.state store.new) (K.state output.new))) }
+        → IfErr result (λ h. Took (by_lines step finish (opening t d)) bytes (S.rest input.new) (S.last input.new)
+        (world_of (F.state store.old) (K.state output.old)) (world_of (F.state store.new) (K.state output.new)) (is_too_long h)) }
+    ensures enough { (t : Tree) (bytes : List ℕ) (d : DefinitionOrRefusal) → (F.state store.old).tree ≡ Some t → S.rest input.old ≡ Some bytes
+        → IsDefinition name.now (definition_bytes t name.now) d
+        → IfOk result (λ _. TookEnough (by_lines step finish (opening t d)) bytes (S.rest input.new) (S.last input.new)) }
+    ensures alone { (t : Tree) (d : DefinitionOrRefusal) → (F.state store.old).tree ≡ Some t → IsDefinition name.now (definition_bytes t name.now) d
+        → (by_lines step finish (opening t d)).reads ≡ false → input.new ≡ input.old }
     ensures idle { IdleRun result (world_of (F.state store.old) (K.state output.old)) (world_of (F.state store.new) (K.state output.new)) }
     ensures whole { (bytes : List ℕ) → S.rest input.old ≡ Some bytes → IsWholeInput bytes (S.rest input.new) result }
     ensures blames { BlamesRun (S.faults input.old) (S.faults input.new) (world_of (F.state store.old) (K.state output.old)) (world_of (F.state store.new) (K.state output.new)) result }

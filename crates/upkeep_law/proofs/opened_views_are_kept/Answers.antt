@@ -1,4 +1,5 @@
 use Rattle.upkeep_law.proofs.MaintainedLemmas.{did_maintain, did_cut_off}
+use Rattle.upkeep_law.proofs.KeptLemmas.{script_takes}
 use Rattle.upkeep_law.proofs.opened_views_are_kept.Goals as goal
 
 pub returns-clause-done : goal.returns-clause-done
@@ -6,3 +7,6 @@ returns-clause-done c = λ name t d bytes rest old new s did done. did_maintain 
 
 pub returns-clause-cut_off : goal.returns-clause-cut_off
 returns-clause-cut_off c = λ name t d bytes rest old new s did gave. did_cut_off name t bytes d rest old new s did.0 did.1 did.2 gave did.3
+
+pub returns-clause-takes : goal.returns-clause-takes
+returns-clause-takes c = λ s later. script_takes s later

@@ -1,8 +1,7 @@
 use Rattle.run_course.proofs.RunLemmas.{by_cause}
-use Rattle.upkeep_law.proofs.KeptLemmas.{script_takes}
 use Rattle.ss_top.specs.Commands.{asked_of}
 use Rattle.ss_top.proofs.DefinedLemmas.{is_defined}
-use Rattle.ss_top.proofs.TopLemmas.{not_held_up, does_course, is_complete, checks, shows, maintains, stops_at_sync, verifies, prints_difference, applies, applies_nothing, loads, keeps_all, keeps_others, leaves_between, takes_little, takes_steps}
+use Rattle.ss_top.proofs.TopLemmas.{not_held_up, does_course, is_complete, checks, shows, maintains, stops_at_sync, verifies, prints_difference, applies, applies_nothing, loads, keeps_all, answers_some, keeps_others, leaves_between, takes_little, takes_enough, alone_by, takes_steps}
 use Rattle.ss_top.proofs.top.run.Goals as goal
 
 pub returns-clause-defined : goal.returns-clause-defined
@@ -47,8 +46,8 @@ returns-clause-unapplied g c = rw c.status_of_ending.ensures (applies_nothing c.
 pub returns-clause-loaded : goal.returns-clause-loaded
 returns-clause-loaded g c = rw c.status_of_ending.ensures (loads c.args.words.now _ _ _ _ _ _ _ (rw c.command_of-command.ensures at c.run_command-ending.ensures.ran) c.run_command-ending.ensures.blames c.run_command-ending.ensures.idle)
 
-pub returns-clause-takes : goal.returns-clause-takes
-returns-clause-takes g c = λ s later. script_takes s later
+pub returns-clause-some : goal.returns-clause-some
+returns-clause-some g c = rw c.status_of_ending.ensures (answers_some c.args.words.now _ _ c.run_command-ending.result (rw c.command_of-command.ensures at c.run_command-ending.ensures.some))
 
 pub returns-clause-unchanged : goal.returns-clause-unchanged
 returns-clause-unchanged g c = rw c.status_of_ending.ensures (keeps_all c.args.words.now _ _ c.run_command-ending.result (rw c.command_of-command.ensures at c.run_command-ending.ensures.some))
@@ -60,7 +59,13 @@ pub returns-clause-between : goal.returns-clause-between
 returns-clause-between g c = leaves_between c.args.words.now _ _ c.run_command-ending.result _ _ (rw c.command_of-command.ensures at c.run_command-ending.ensures.some) (rw c.command_of-command.ensures at c.run_command-ending.ensures.ran)
 
 pub returns-clause-took : goal.returns-clause-took
-returns-clause-took g c = rw c.status_of_ending.ensures (takes_little c.args.words.now _ _ c.run_command-ending.result _ _ (rw c.command_of-command.ensures at c.run_command-ending.ensures.took))
+returns-clause-took g c = rw c.status_of_ending.ensures (takes_little c.args.words.now _ _ c.run_command-ending.result _ _ _ (rw c.command_of-command.ensures at c.run_command-ending.ensures.took))
+
+pub returns-clause-enough : goal.returns-clause-enough
+returns-clause-enough g c = rw c.status_of_ending.ensures (takes_enough c.args.words.now _ _ c.run_command-ending.result _ _ _ (rw c.command_of-command.ensures at c.run_command-ending.ensures.enough))
+
+pub returns-clause-alone : goal.returns-clause-alone
+returns-clause-alone g c = alone_by c.args.words.now _ _ (rw c.command_of-command.ensures at c.run_command-ending.ensures.alone)
 
 pub returns-clause-within : goal.returns-clause-within
 returns-clause-within g c = rw c.status_of_ending.ensures (takes_steps c.args.words.now _ _ _ _ _ (rw c.command_of-command.ensures at c.run_command-ending.ensures.within))
