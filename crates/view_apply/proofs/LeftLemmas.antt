@@ -3,11 +3,11 @@ use Rattle.std.proofs.Common.{◌≡◌, ◌∷◌, ◌∙◌, [], Option, Some,
 use Rattle.outside.specs.States.{StoreState}
 use Rattle.outside.specs.Streams.{with_bytes}
 use Rattle.outside.specs.Tree.{Tree}
-use Rattle.effects.specs.Effects.{World, Stored, Contents, contents, stored_of, world_of, performed}
-use Rattle.effects.proofs.EffectLemmas.{performed_append, told_tree}
+use Rattle.effects.specs.Effects.{World, Stored, Contents, contents, stored_of, world_of, Replace, after, performed}
+use Rattle.effects.proofs.EffectLemmas.{told_tree}
 use Rattle.view_folder.specs.Files.{view_folder}
-use Rattle.view_folder.specs.Sync.{later_sync}
-use Rattle.view_folder.proofs.LaterLemmas.{later, later_synced, named_held}
+use Rattle.view_folder.specs.Sync.{later_edits}
+use Rattle.view_folder.proofs.LaterLemmas.{later, later_replaced, edits_held}
 use Rattle.ss_print.specs.Printing.{prints_applied, lines_text, applied_rows}
 use Rattle.view_apply.specs.Applying.{ApplyState, synced_count, finish}
 use Rattle.view_apply.specs.Left.{IsLeft}
@@ -26,15 +26,14 @@ module _ (u : ApplyState) (t : Tree) (old new : World) (told : old.store.tree �
   unfolding contents
   first_is = ap (λ (o : Option Tree). record { stored = stored_of o old.store.writes; held = old.output.held }) told
 
-  synced_is : contents (world_of synced old.output) ≡ performed (later_sync (view_folder u.view_db) u.shape u.tables u.named) (contents (world_of old.store old.output))
+  synced_is : contents (world_of synced old.output) ≡ after (Replace (later_edits (view_folder u.view_db) u.shape u.tables u.named)) (contents (world_of old.store old.output))
   unfolding contents
-  synced_is = sym (ap (performed (later_sync (view_folder u.view_db) u.shape u.tables u.named)) first_is ∙ later_synced (view_folder u.view_db) u.shape u.tables u.tables u.named at_first old.output.held)
+  synced_is = sym (ap (after (Replace (later_edits (view_folder u.view_db) u.shape u.tables u.named))) first_is ∙ later_replaced (view_folder u.view_db) u.shape u.tables u.tables u.named at_first old.output.held)
 
   left : contents new ≡ performed (finish u).effects (contents old) → contents new ≡ record { stored = Some at_last; held = with_bytes (lines_text (applied_rows u.lines (synced_count u))) old.output.held }
   left h =
       h ∙ ap (performed (finish u).effects) first_is
-      ∙ performed_append (later_sync (view_folder u.view_db) u.shape u.tables u.named) (prints_applied u.lines (synced_count u) ∷ []) (record { stored = Some at_first; held = old.output.held })
-      ∙ ap (performed (prints_applied u.lines (synced_count u) ∷ [])) (later_synced (view_folder u.view_db) u.shape u.tables u.tables u.named at_first old.output.held)
+      ∙ ap (performed (prints_applied u.lines (synced_count u) ∷ [])) (later_replaced (view_folder u.view_db) u.shape u.tables u.tables u.named at_first old.output.held)
 
   pub is_left : contents new ≡ performed (finish u).effects (contents old) → IsLeft u t old new
   unfolding contents
@@ -43,6 +42,6 @@ module _ (u : ApplyState) (t : Tree) (old new : World) (told : old.store.tree �
       record {
         tree = at_last.tree;
         told = told_tree new.store.tree new.store.writes at_last (ap (λ (x : Contents). x.stored) is);
-        files = named_held (view_folder u.view_db) u.shape u.tables u.named old.store synced old.output t at_last.tree told refl synced_is;
+        files = edits_held (view_folder u.view_db) u.shape u.tables u.named old.store synced t at_last.tree old.output told refl synced_is;
         printed = ap (λ (x : Contents). x.held) is;
       }

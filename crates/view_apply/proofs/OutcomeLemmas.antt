@@ -1,10 +1,10 @@
 -- From what was made of a line to what it asks for.
-use Rattle.std.proofs.Common.{◌≡◌, List, ℕ, [], ◌∷◌, refl, sym, subst}
+use Rattle.std.proofs.Common.{◌≡◌, List, ℕ, [], ◌∷◌, refl, sym, ap, ◌∙◌, subst}
 use Rattle.std.specs.Prelude.{Result, Ok, Err, None, Some}
 use Rattle.ss_text.specs.Texts.{Row}
-use Rattle.effects.specs.Effects.{World, contents, performed, Partly}
+use Rattle.effects.specs.Effects.{Effect, World, contents, performed, Partly, Does}
 use Rattle.effects.specs.declared.stop.Stop.{Stop}
-use Rattle.effects.proofs.EffectLemmas.{partly_more}
+use Rattle.effects.proofs.EffectLemmas.{partly_more, then_off}
 use Rattle.course.specs.declared.status.Verdict.TheVariants as verdict
 use Rattle.course.specs.declared.status.LineStop.TheVariants as line_stop
 use Rattle.course.specs.Answering.{Answered}
@@ -29,3 +29,11 @@ module _ (s u : ApplyState) (line : List ℕ) where
 
   pub refusal_stopped : (fields : Row) (w v : World) (e : Stop) → taken s line ≡ Err fields → Partly (refuses fields ∷ []) (contents w) (contents v) → Answered (step s line) w v u (Err (line_stop.Stopped e))
   refusal_stopped fields w v e is h = subst (λ (r : Result ApplyState Row). Answered (reply r) w v u (Err (line_stop.Stopped e))) (sym is) h
+
+-- the same effects under two names, and effects behind one that was done
+pub does_as : {A : Type 0} (es fs : List Effect) (w v : World) (r : Result A Stop) → es ≡ fs → Does es w v r → Does fs w v r
+does_as es fs w v r same did = subst (λ (xs : List Effect). Does xs w v r) same did
+
+pub then_does : {A : Type 0} (e : Effect) (es : List Effect) (old mid new : World) (r : Result A Stop) → contents mid ≡ performed (e ∷ []) (contents old) → Does es mid new r → Does (e ∷ es) old new r
+then_does e es old mid new (Ok a) first later = later ∙ ap (performed es) first
+then_does e es old mid new (Err x) first later = then_off e es (contents old) (contents mid) (contents new) first later

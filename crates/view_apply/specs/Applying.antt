@@ -1,9 +1,10 @@
 -- Script lines that are applied to the tables of a view folder.
-use Rattle.std.specs.Prelude.{ℕ, ◌+◌, ◌||◌, List, [], ◌∷◌, ◌++◌, length, filter, is_some, Result, Ok, Err}
+use Rattle.std.specs.Prelude.{ℕ, ◌+◌, ◌||◌, List, [], ◌∷◌, length, filter, is_some, Result, Ok, Err}
 use Rattle.ss_text.specs.Texts.{Text, Row, text_cmp, is_in}
 use Rattle.ss_text.specs.Ascending.{with_element}
 use Rattle.tab_lines.specs.Spelling.{unspell}
 use Rattle.outside.specs.Tree.{Tree}
+use Rattle.effects.specs.Effects.{Replace}
 use Rattle.course.specs.declared.status.Verdict.TheVariants as verdict
 use Rattle.course.specs.Answering.{Reply, Continues, Finishes, Ending}
 use Rattle.flow_law.specs.declared.shape.Shape.{Shape}
@@ -19,7 +20,7 @@ use Rattle.change_script.specs.Applied.{applied_line}
 use Rattle.view_folder.specs.declared.held.TablesFault.{TablesFault}
 use Rattle.view_folder.specs.Files.{view_folder}
 use Rattle.view_folder.specs.Held.{held}
-use Rattle.view_folder.specs.Sync.{later_sync}
+use Rattle.view_folder.specs.Sync.{later_edits}
 use Rattle.ss_print.specs.Printing.{refuses, prints_applied}
 use Rattle.view_apply.specs.Refused.{escape_fields, script_fields, apply_fields, tables_fields}
 
@@ -72,10 +73,10 @@ step s line = reply (taken s line)
 abbrev pub synced_count : ApplyState → ℕ
 synced_count s = length (filter (λ label. is_some (table_of s.tables label) || is_in label s.before) s.named)
 
--- the end of the input: the files of the labels that were named are synced
+-- the end of the input: the files of the labels that were named are synced at once
 abbrev pub finish : ApplyState → Ending
 finish s = record {
-  effects = later_sync (view_folder s.view_db) s.shape s.tables s.named ++ prints_applied s.lines (synced_count s) ∷ [];
+  effects = Replace (later_edits (view_folder s.view_db) s.shape s.tables s.named) ∷ prints_applied s.lines (synced_count s) ∷ [];
   status = verdict.Done;
 }
 

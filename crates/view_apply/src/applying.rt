@@ -1,15 +1,19 @@
 //! The tables of a view folder, and the lines that are applied to them.
-ghost use Rattle.std.specs.Prelude.{◌≡◌, ◌≢◌, ◌||◌, [], is_some, false, Ok, Err, IfOk, IfErr, IfSome, IfNone, OnOk};
+ghost use Rattle.std.specs.Prelude.{◌≡◌, ◌≢◌, ◌||◌, [], ◌∷◌, is_some, false, Ok, Err, IfOk, IfErr, IfSome, IfNone, OnOk};
 ghost use Rattle.std.specs.List.Sorted.{IsStrictlySortedBy};
 ghost use Rattle.ss_text.specs.Texts.{is_in, text_cmp};
 ghost use Rattle.ss_text.specs.Ascending.{with_element};
 ghost use Rattle.tab_lines.specs.Lines.{has_feed};
-ghost use Rattle.effects.specs.Effects.{Does, world_of};
-ghost use Rattle.effects.specs.Blame.{Blames};
+ghost use Rattle.effects.specs.Effects.{Replace, Does, world_of};
+ghost use Rattle.effects.specs.Performing.{Performs};
+ghost use Rattle.effects.specs.Blame.{Blames, SinkBlames};
 ghost use Rattle.flow_law.specs.Tables.{labels_of, table_of};
 ghost use Rattle.change_script.specs.Applied.{applied_line};
 ghost use Rattle.change_script.specs.Reading.{script_line_of};
+ghost use Rattle.view_folder.specs.Files.{view_folder};
+ghost use Rattle.view_folder.specs.Sync.{later_edits};
 ghost use Rattle.view_folder.specs.Held.{AllKeysFit};
+ghost use Rattle.ss_print.specs.Printing.{prints_applied};
 ghost use Rattle.view_apply.specs.Applying.{just_read, by_applying, by_reading, taken, finish, synced_count};
 
 use crate::refused::{apply_fields, escape_fields, script_fields};
@@ -24,7 +28,7 @@ use std::alloc::Global;
 use std::marker::Model;
 use std::sync::ledger::Ledger;
 use tab_lines::{LineFault, read_line};
-use view_folder::sync;
+use view_folder::sync_at_once;
 
 /// The tables of a view folder, to which lines are applied. Contracts see the view's database and form, the labels
 /// of the tables that the folder holds, the tables after the lines, the labels that lines named, and how many lines
@@ -185,8 +189,31 @@ impl Applying {
         self.before.binary_search(label).is_ok()
     }
 
+    // Syncs the files of the labels that were named, all at once.
+    #[tactic(auto, using(crate::proofs::KeyLemmas::fit_by_keys))]
+    fn sync_named<F: Folders>(&self, alloc: Global, store: &mut F) -> Result<(), Stop>
+        ensures { Performs (Replace (later_edits (view_folder self.now.view_db) self.now.shape self.now.tables self.now.named) ∷ []) (F.state store.old) (F.state store.new) result }
+    {
+        sync_at_once(
+            alloc,
+            store,
+            &self.view_db,
+            &self.shape,
+            &self.tables,
+            &self.named,
+        )
+    }
+
+    // Prints how many lines were applied, and how many files were synced.
+    fn print_counts<K: Sink>(&self, alloc: Global, output: &mut K) -> Result<(), Stop>
+        ensures does { (s : _) → Does (prints_applied self.now.lines (synced_count self.now) ∷ []) (world_of s (K.state output.old)) (world_of s (K.state output.new)) result }
+        ensures blames { SinkBlames (K.state output.old) (K.state output.new) result }
+    {
+        print_applied(alloc, output, self.lines, self.synced_count())
+    }
+
     // Syncs the files of the labels that were named, and prints how many lines were applied.
-    #[tactic(auto, using(effects::proofs::Following::following, effects::proofs::EffectLemmas::partly_more, effects::proofs::EffectLemmas::partly_later, effects::proofs::EffectLemmas::performed_append, crate::proofs::KeyLemmas::fit_by_keys))]
+    #[tactic(auto, using(effects::proofs::Following::following))]
     fn write_named<F: Folders, K: Sink>(
         &self,
         alloc: Global,
@@ -197,16 +224,8 @@ impl Applying {
         ensures no_read { IfErr result (λ e. e ≢ Stop.ReadFault) }
         ensures blames { Blames (world_of (F.state store.old) (K.state output.old)) (world_of (F.state store.new) (K.state output.new)) result }
     {
-        sync(
-            alloc,
-            store,
-            &self.view_db,
-            &self.shape,
-            &self.tables,
-            &self.named,
-        )?;
-        print_applied(alloc, output, self.lines, self.synced_count())?;
-        Ok(())
+        self.sync_named(alloc, store)?;
+        self.print_counts(alloc, output)
     }
 }
 

@@ -13,7 +13,10 @@ use Rattle.outside.specs.Tree.{Tree, Place, fronts, folder_path, with_folders, h
 use Rattle.outside.specs.WholeLaw.{is_eq_true, place_exact}
 use Rattle.outside.proofs.PlaceLemmas.{place_total}
 use Rattle.outside.proofs.TreeLemmas.{write_broke_off}
-use Rattle.effects.specs.Effects.{Effect, Write, Remove, MakeFolder, RemoveFolder, Print, Stored, World, Contents, contents, after, performed, writing, removing, making_folder, removing_folder, Off, Partly}
+use Rattle.outside.specs.Edits.{edited, all_edited}
+use Rattle.outside.specs.declared.edit.Edit.{Edit}
+use Rattle.outside.specs.declared.edit.Edit.TheVariants as edit
+use Rattle.effects.specs.Effects.{Effect, Write, Remove, Replace, Print, Stored, World, Contents, contents, after, performed, writing, removing, Off, Partly}
 use Rattle.source_law.proofs.AfterLemmas.{made_was}
 use Rattle.run_course.proofs.ToldLemmas.{contents_told}
 use Rattle.view_stages.specs.Places.{Exempt, is_exempt, is_exempt_folder, OthersStay}
@@ -22,15 +25,20 @@ use Rattle.view_stages.specs.Places.{Exempt, is_exempt, is_exempt_folder, Others
 pub on_path : (folder : Text) → is_in folder (folder_path folder) ≡ true
 on_path folder = list_any-append (text_eq folder) (fronts folder (length folder)) (folder ∷ []) ∙ or_right (is_in folder (fronts folder (length folder))) (text_eq folder folder || false) (ap (λ b. b || false) (equal_itself text_order folder))
 
--- an effect on what is exempt alone
+-- an edit, and an effect, on what is exempt alone
 abbrev pub PathExempt : List Exempt → Text → Type 0
 PathExempt exempt folder = (d : Text) → is_in d (folder_path folder) ≡ true → list_any (is_exempt_folder d) exempt ≡ true
+
+abbrev pub WithinEdit : List Exempt → Edit → Type 0
+WithinEdit exempt (edit.MakeFolder folder) = PathExempt exempt folder
+WithinEdit exempt (edit.Write folder file bytes) = (list_any (is_exempt (folder, file)) exempt ≡ true) × PathExempt exempt folder
+WithinEdit exempt (edit.Remove folder file) = list_any (is_exempt (folder, file)) exempt ≡ true
+WithinEdit exempt (edit.RemoveFolder folder) = list_any (is_exempt_folder folder) exempt ≡ true
 
 abbrev pub Within : List Exempt → Effect → Type 0
 Within exempt (Write folder file bytes) = (list_any (is_exempt (folder, file)) exempt ≡ true) × PathExempt exempt folder
 Within exempt (Remove folder file) = list_any (is_exempt (folder, file)) exempt ≡ true
-Within exempt (MakeFolder folder) = PathExempt exempt folder
-Within exempt (RemoveFolder folder) = list_any (is_exempt_folder folder) exempt ≡ true
+Within exempt (Replace edits) = AllByRecursion (WithinEdit exempt) edits
 Within exempt (Print bytes) = Unit {0}
 
 abbrev pub AllWithin : List Exempt → List Effect → Type 0
@@ -73,38 +81,43 @@ module _ (exempt : List Exempt) (t : Tree) where
   not_folder : (d folder : Text) → list_any (is_exempt_folder d) exempt ≡ false → list_any (is_exempt_folder folder) exempt ≡ true → d ≢ folder
   not_folder d folder outside within e = false≢true (sym outside ∙ ap (λ (x : Text). list_any (is_exempt_folder x) exempt) e ∙ within)
 
+  edit_stays : (e : Edit) (s : Stored) → WithinEdit exempt e → OthersStay exempt t s.tree → OthersStay exempt t (edited e s).tree
+  edit_stays (edit.MakeFolder folder) s within h = record { stay = h.stay; folders = λ d ne. made d (off_path d folder ne within) (has_folder s.tree folder) ∙ h.folders d ne }
+    where
+      made : (d : Text) → is_in d (folder_path folder) ≡ false → (b : Bool) → map.contains_key (cond b s.tree.folders (with_folders (folder_path folder) s.tree.folders)) d ≡ has_folder s.tree d
+      made d off true = refl
+      made d off false = made_was d (folder_path folder) s.tree.folders off
+  edit_stays (edit.Write folder file bytes) s within h = record {
+    stay = λ p ne. (write_broke_off folder file bytes s.tree).others p (apart p (folder, file) ne within.0) ∙ h.stay p ne;
+    folders = λ d ne. made_was d (folder_path folder) s.tree.folders (off_path d folder ne within.1) ∙ h.folders d ne;
+  }
+  edit_stays (edit.Remove folder file) s within h = record { stay = λ p ne. removed_others folder file s.tree p (apart p (folder, file) ne within) ∙ h.stay p ne; folders = h.folders }
+  edit_stays (edit.RemoveFolder folder) s within h = record { stay = h.stay; folders = λ d ne. gone d (not_folder d folder ne within) (has_empty_folder s.tree folder) ∙ h.folders d ne }
+    where
+      gone : (d : Text) → d ≢ folder → (b : Bool) → map.contains_key (cond b (map.remove s.tree.folders folder) s.tree.folders) d ≡ has_folder s.tree d
+      gone d other true = removed_folder folder s.tree d other
+      gone d other false = refl
+
+  edits_stay : (es : List Edit) (s : Stored) → AllByRecursion (WithinEdit exempt) es → OthersStay exempt t s.tree → OthersStay exempt t (all_edited es s).tree
+  edits_stay [] s within h = h
+  edits_stay (e ∷ es) s within h = edits_stay es (edited e s) within.1 (edit_stays e s within.0 h)
+
   after_stays : (e : Effect) (c : Contents) → Within exempt e → StaysIn exempt t c → StaysIn exempt t (after e c)
   after_stays (Write folder file bytes) c within s = record {
     store = writing folder file bytes s.store;
     told = ap (option_map (writing folder file bytes)) s.told;
-    others = record {
-      stay = λ p ne. (write_broke_off folder file bytes s.store.tree).others p (apart p (folder, file) ne within.0) ∙ s.others.stay p ne;
-      folders = λ d ne. made_was d (folder_path folder) s.store.tree.folders (off_path d folder ne within.1) ∙ s.others.folders d ne;
-    };
+    others = edit_stays (edit.Write folder file bytes) s.store within s.others;
   }
   after_stays (Remove folder file) c within s = record {
     store = removing folder file s.store;
     told = ap (option_map (removing folder file)) s.told;
-    others = record { stay = λ p ne. removed_others folder file s.store.tree p (apart p (folder, file) ne within) ∙ s.others.stay p ne; folders = s.others.folders };
+    others = edit_stays (edit.Remove folder file) s.store within s.others;
   }
-  after_stays (MakeFolder folder) c within s = record {
-    store = making_folder folder s.store;
-    told = ap (option_map (making_folder folder)) s.told;
-    others = record { stay = s.others.stay; folders = λ d ne. made d (off_path d folder ne within) (has_folder s.store.tree folder) ∙ s.others.folders d ne };
+  after_stays (Replace edits) c within s = record {
+    store = all_edited edits s.store;
+    told = ap (option_map (all_edited edits)) s.told;
+    others = edits_stay edits s.store within s.others;
   }
-    where
-      made : (d : Text) → is_in d (folder_path folder) ≡ false → (b : Bool) → map.contains_key (cond b s.store.tree.folders (with_folders (folder_path folder) s.store.tree.folders)) d ≡ has_folder s.store.tree d
-      made d off true = refl
-      made d off false = made_was d (folder_path folder) s.store.tree.folders off
-  after_stays (RemoveFolder folder) c within s = record {
-    store = removing_folder folder s.store;
-    told = ap (option_map (removing_folder folder)) s.told;
-    others = record { stay = s.others.stay; folders = λ d ne. gone d (not_folder d folder ne within) (has_empty_folder s.store.tree folder) ∙ s.others.folders d ne };
-  }
-    where
-      gone : (d : Text) → d ≢ folder → (b : Bool) → map.contains_key (cond b (map.remove s.store.tree.folders folder) s.store.tree.folders) d ≡ has_folder s.store.tree d
-      gone d other true = removed_folder folder s.store.tree d other
-      gone d other false = refl
   after_stays (Print bytes) c within s = record { store = s.store; told = s.told; others = s.others }
 
   off_stays : (e : Effect) (c d : Contents) → Within exempt e → Off e c d → StaysIn exempt t c → StaysIn exempt t d
@@ -130,31 +143,7 @@ module _ (exempt : List Exempt) (t : Tree) where
           folders = λ x ne. both_ways (has_folder left.0.tree x) (has_folder s.store.tree x) (λ h. left.2.made x h) (λ h. left.2.kept x h) ∙ s.others.folders x ne;
         };
       }
-  off_stays (MakeFolder folder) c d within off s =
-      let left = off.0.told s.store s.told in
-      record {
-        store = left.0;
-        told = left.1;
-        others = record {
-          stay = λ p ne. ap (λ files. map.get files p) left.2.files ∙ s.others.stay p ne;
-          folders = λ x ne.
-              let other = not_folder x folder ne (within folder (on_path folder)) in
-              both_ways (has_folder left.0.tree x) (has_folder s.store.tree x) (λ h. sym (made_was x (folder_path folder) s.store.tree.folders (off_path x folder ne within)) ∙ left.2.made x other h) (λ h. left.2.kept x other h)
-              ∙ s.others.folders x ne;
-        };
-      }
-  off_stays (RemoveFolder folder) c d within off s =
-      let left = off.0.told s.store s.told in
-      record {
-        store = left.0;
-        told = left.1;
-        others = record {
-          stay = λ p ne. ap (λ files. map.get files p) left.2.files ∙ s.others.stay p ne;
-          folders = λ x ne.
-              let other = not_folder x folder ne within in
-              both_ways (has_folder left.0.tree x) (has_folder s.store.tree x) (λ h. left.2.made x other h) (λ h. left.2.kept x other h) ∙ s.others.folders x ne;
-        };
-      }
+  off_stays (Replace edits) c d within off s = absurd off
   off_stays (Print bytes) c d within off s = record { store = s.store; told = ap (λ (x : Contents). x.stored) off.1 ∙ s.told; others = s.others }
 
   pub performed_stays : (es : List Effect) (c : Contents) → AllWithin exempt es → StaysIn exempt t c → StaysIn exempt t (performed es c)

@@ -1,26 +1,29 @@
 -- The effects of a sync follow one plan.
-use Rattle.std.proofs.Common.{◌≡◌, ℕ, Bool, true, false, ◌&&◌, ◌||◌, not, cond, map, List, [], ◌∷◌, ◌++◌, Option, None, Some, is_some, drop, refl, sym, ap, ◌∙◌, append_assoc, arith, append-nil}
+use Rattle.std.proofs.Common.{◌≡◌, ℕ, Bool, true, false, ◌&&◌, ◌||◌, not, cond, map, List, [], ◌∷◌, ◌++◌, Option, None, Some, is_some, drop, inl, inr, refl, sym, ap, ◌∙◌, append_assoc, arith, append-nil}
 use Rattle.std.specs.Prelude.{codes, option_map, option_and_then}
 use Rattle.std.specs.Option.{option_map_or}
+use Rattle.std.specs.List.{AllByRecursion}
 use Rattle.std.proofs.lemmas.Bool.{and_parts, or_right, false≢true, true≢false, false_from_ne_true}
 use Rattle.std.proofs.lemmas.List.{append_cancel_left}
 use Rattle.ss_text.specs.Texts.{Text, text_eq}
 use Rattle.ss_text.proofs.KeyLemmas.{text_order, equal_itself}
 use Rattle.outside.specs.Tree.{Place}
-use Rattle.effects.specs.Effects.{Effect, Write, Remove, Print, Stored, Contents, Partly}
+use Rattle.outside.specs.declared.edit.Edit.{Edit}
+use Rattle.outside.specs.declared.edit.Edit.TheVariants as edit
+use Rattle.effects.specs.Effects.{Effect, Write, Remove, Replace, Print, Stored, Contents, Partly}
 use Rattle.schema_model.specs.declared.pair.Pair.{Pair}
 use Rattle.schema_model.specs.Catalogue.{RelationValue, DatabaseValue, CatalogueValue, relation_in, database_of, relation_of}
 use Rattle.schema_model.specs.Sound.{IsSound}
 use Rattle.csv_catalog.specs.Loaded.{database_folder, label_of}
 use Rattle.csv_catalog.specs.RecordText.{csv_text, relation_records}
-use Rattle.csv_catalog.specs.Saved.{relation_file, is_there, those_there, those_gone, folders_made, folders_removed, pair_saved, pairs_saved}
+use Rattle.csv_catalog.specs.Saved.{relation_file, is_there, those_there, those_gone, folders_made, folders_removed, pair_saved, pairs_saved, saved}
 use Rattle.flow_law.specs.declared.shape.Shape.{Shape}
 use Rattle.flow_law.specs.Tables.{TablesValue, table_of}
 use Rattle.valuation_meaning.specs.Meaning.{shape_of}
 use Rattle.view_folder.specs.declared.file.File.{File}
 use Rattle.view_folder.specs.Files.{view_folder, is_csv_name, is_named, bytes_in, other_names, file_name, AreViewFiles}
 use Rattle.view_folder.specs.TableFiles.{table_text}
-use Rattle.view_folder.specs.Sync.{written, removed, opening_sync, label_synced, later_sync}
+use Rattle.view_folder.specs.Sync.{written, removed, opening_sync, tables_first, label_synced, later_sync, label_edit, later_edits}
 use Rattle.view_folder.proofs.FolderLemmas.{none_named}
 use Rattle.view_session.specs.Session.{tables_of}
 use Rattle.source_law.specs.Counted.{tree_after}
@@ -33,18 +36,21 @@ use Rattle.source_law.proofs.SavingLemmas.{not_slashed}
 use Rattle.view_stages.specs.Open.{OpenValue}
 use Rattle.view_stages.specs.Opening.{opening_effects}
 use Rattle.view_stages.specs.Syncs.{view_effects, sync_effects}
-use Rattle.view_stages.proofs.BetweenLemmas.{AllPlanned, Planned, Stands, both_planned, LeftBetween, partly_between}
+use Rattle.view_stages.specs.Places.{Exempt, CsvFiles}
+use Rattle.view_stages.proofs.PlaceLemmas.{AllWithin}
+use Rattle.view_stages.proofs.WithinLemmas.{both_within, later_within, opening_within}
+use Rattle.view_stages.proofs.BetweenLemmas.{AllPlanned, Planned, PlannedEdit, Stands, AtOnce, both_planned, LeftBetween, partly_between}
 
--- what effects that broke off leave of a store is between what was there and what is there after all of them
-abbrev pub Stage : List Effect → Type 0
-Stage es = (s : Stored) (old new : Contents) → old.stored ≡ Some s → Partly es old new → LeftBetween es s.tree (tree_after es s.tree) new
+-- what effects that broke off leave of a store is between what was there and what is there after all of them; and what is not exempt is all the one or all the other
+abbrev pub Stage : List Exempt → List Effect → Type 0
+Stage exempt es = (s : Stored) (old new : Contents) → old.stored ≡ Some s → Partly es old new → LeftBetween exempt es s.tree (tree_after es s.tree) new
 
-pub planned_stage : (wanted : Place → Option (List ℕ)) (Gone : Text → Type 0) (es : List Effect) → AllPlanned wanted Gone es → Stage es
-planned_stage wanted Gone es plan s old new told h = partly_between wanted Gone es old new s plan told h
+pub planned_stage : (exempt : List Exempt) (wanted : Place → Option (List ℕ)) (Gone : Text → Type 0) (es : List Effect) → AllPlanned wanted Gone es → AtOnce exempt es → Stage exempt es
+planned_stage exempt wanted Gone es plan how s old new told h = partly_between exempt wanted Gone es old new s plan how told h
 
 -- a print
-pub print_stage : (bytes : List ℕ) → Stage (Print bytes ∷ [])
-print_stage bytes = planned_stage (λ p. None) (λ d. ⊥) (Print bytes ∷ []) (tt, tt)
+pub print_stage : (exempt : List Exempt) (bytes : List ℕ) → Stage exempt (Print bytes ∷ [])
+print_stage exempt bytes = planned_stage exempt (λ p. None) (λ d. ⊥) (Print bytes ∷ []) (tt, tt) (inl (tt, tt))
 
 -- no folder is to go
 abbrev NoneGone : Text → Type 0
@@ -89,11 +95,12 @@ module _ (d : Text) (all : List File) where
       by_test true e rest = (none_named all n (unnamed (is_named all n) (and_parts (is_csv_name n) (not (is_named all n)) e).1), rest)
       by_test false e rest = rest
 
-  pub opening_stage : (names : List Text) → AreViewFiles all → Stage (opening_effects d all names)
+  pub opening_stage : (names : List Text) → AreViewFiles all → Stage (CsvFiles d ∷ []) (opening_effects d all names)
   opening_stage names apart =
-      planned_stage held_by NoneGone (opening_effects d all names)
+      planned_stage (CsvFiles d ∷ []) held_by NoneGone (opening_effects d all names)
       (both_planned held_by NoneGone (opening_sync d all names) _
       (both_planned held_by NoneGone (written d all) (removed d (other_names all names)) (written_planned all apart (λ name named. refl)) (removed_planned names)) (tt, tt))
+      (inl (opening_within d all names apart))
 
 -- a later sync: the files of a view's labels are to hold their tables
 module _ (x : Text) (shape : Shape) (ts : TablesValue) where
@@ -111,15 +118,30 @@ module _ (x : Text) (shape : Shape) (ts : TablesValue) where
         by_table None e = here (file_name l) ∙ table_found l ∙ ap (option_map (table_text shape)) e
         by_table (Some t) e = (here (file_name l) ∙ table_found l ∙ ap (option_map (table_text shape)) e, stands)
 
-    pub later_planned : (ls : List Text) → AllPlanned wanted Gone (later_sync (view_folder x) shape ts ls)
-    later_planned [] = tt
-    later_planned (l ∷ ls) = (label_planned l, later_planned ls)
+    labels_planned : (ls : List Text) → AllPlanned wanted Gone (map (label_synced (view_folder x) shape ts) ls)
+    labels_planned [] = tt
+    labels_planned (l ∷ ls) = (label_planned l, labels_planned ls)
 
-  -- alone, with the line that is printed behind it
-  pub later_stage : (ls : List Text) (bytes : List ℕ) → Stage (later_sync (view_folder x) shape ts ls ++ Print bytes ∷ [])
-  later_stage ls bytes =
-      planned_stage table_at NoneGone (later_sync (view_folder x) shape ts ls ++ Print bytes ∷ [])
-      (both_planned table_at NoneGone (later_sync (view_folder x) shape ts ls) (Print bytes ∷ []) (later_planned table_at NoneGone (λ name. refl) (λ d none. absurd none) ls) (tt, tt))
+    later_planned : (ls : List Text) → AllPlanned wanted Gone (later_sync (view_folder x) shape ts ls)
+    later_planned ls = labels_planned (tables_first ts ls)
+
+    edit_planned : (l : Text) → PlannedEdit wanted Gone (label_edit (view_folder x) shape ts l)
+    edit_planned l = by_table (table_of ts l) refl
+      where
+        by_table : (o : _) → table_of ts l ≡ o → PlannedEdit wanted Gone (option_map_or (λ t. edit.Write (view_folder x) (file_name l) (table_text shape t)) o (edit.Remove (view_folder x) (file_name l)))
+        by_table None e = here (file_name l) ∙ table_found l ∙ ap (option_map (table_text shape)) e
+        by_table (Some t) e = (here (file_name l) ∙ table_found l ∙ ap (option_map (table_text shape)) e, stands)
+
+    edits_planned : (ls : List Text) → AllByRecursion (PlannedEdit wanted Gone) (map (label_edit (view_folder x) shape ts) ls)
+    edits_planned [] = tt
+    edits_planned (l ∷ ls) = (edit_planned l, edits_planned ls)
+
+  -- at once, with the line that is printed behind it
+  pub replaced_stage : (ls : List Text) (bytes : List ℕ) → Stage [] (Replace (later_edits (view_folder x) shape ts ls) ∷ Print bytes ∷ [])
+  replaced_stage ls bytes =
+      planned_stage [] table_at NoneGone (Replace (later_edits (view_folder x) shape ts ls) ∷ Print bytes ∷ [])
+      (edits_planned table_at NoneGone (λ name. refl) (λ d none. absurd none) (tables_first ts ls), (tt, tt))
+      (inr (record { first = []; edits = later_edits (view_folder x) shape ts ls; last = Print bytes ∷ []; are = refl; before = tt; behind = (tt, tt) }))
 
 -- the first byte of a view's folder is none of a source's
 abbrev first_byte : List ℕ → ℕ
@@ -149,6 +171,9 @@ module _ (o : OpenValue) (sound : IsSound o.session.catalogue) where
   abbrev Syncs : List Effect → Type 0
   Syncs es = AllPlanned meant Leaving es
 
+  abbrev Saves : List Edit → Type 0
+  Saves es = AllByRecursion (PlannedEdit meant Leaving) es
+
   -- what stands
   view_stands : Stands meant Leaving (view_folder x)
   view_stands d leaving =
@@ -177,39 +202,45 @@ module _ (o : OpenValue) (sound : IsSound o.session.catalogue) where
   some_database None rel r e = absurd (cc e)
   some_database (Some d) rel r e = refl
 
-  pair_planned : (p : Pair) → Planned meant Leaving (pair_saved c p)
+  pair_planned : (p : Pair) → PlannedEdit meant Leaving (pair_saved c p)
   pair_planned p = by_relation (relation_of c p.db p.rel) refl
     where
-      by_relation : (r : Option RelationValue) → relation_of c p.db p.rel ≡ r → Planned meant Leaving (option_map_or (λ (r : RelationValue). Write (database_folder p.db) (relation_file p.rel) (csv_text (relation_records r))) r (Remove (database_folder p.db) (relation_file p.rel)))
+      by_relation : (r : Option RelationValue) → relation_of c p.db p.rel ≡ r → PlannedEdit meant Leaving (option_map_or (λ (r : RelationValue). edit.Write (database_folder p.db) (relation_file p.rel) (csv_text (relation_records r))) r (edit.Remove (database_folder p.db) (relation_file p.rel)))
       by_relation None e = relation_meant p ∙ ap (option_map (λ (r : RelationValue). csv_text (relation_records r))) e
       by_relation (Some r) e = (relation_meant p ∙ ap (option_map (λ (r : RelationValue). csv_text (relation_records r))) e, there_stands p.db (some_database (database_of c p.db) p.rel r e))
 
-  pairs_planned : (ps : List Pair) → Syncs (pairs_saved c ps)
+  pairs_planned : (ps : List Pair) → Saves (pairs_saved c ps)
   pairs_planned [] = tt
   pairs_planned (p ∷ ps) = (pair_planned p, pairs_planned ps)
 
-  made_planned : (dbs : List Text) → Syncs (folders_made (those_there c dbs))
+  made_planned : (dbs : List Text) → Saves (folders_made (those_there c dbs))
   made_planned [] = tt
   made_planned (db ∷ dbs) = by_test (is_there c db) refl (made_planned dbs)
     where
-      by_test : (b : Bool) → is_there c db ≡ b → Syncs (folders_made (those_there c dbs)) → Syncs (folders_made (cond b (db ∷ those_there c dbs) (those_there c dbs)))
+      by_test : (b : Bool) → is_there c db ≡ b → Saves (folders_made (those_there c dbs)) → Saves (folders_made (cond b (db ∷ those_there c dbs) (those_there c dbs)))
       by_test true e rest = (there_stands db e, rest)
       by_test false e rest = rest
 
-  gone_planned : (dbs : List Text) → Syncs (folders_removed (those_gone c dbs))
+  gone_planned : (dbs : List Text) → Saves (folders_removed (those_gone c dbs))
   gone_planned [] = tt
   gone_planned (db ∷ dbs) = by_test (is_there c db) refl (gone_planned dbs)
     where
-      by_test : (b : Bool) → is_there c db ≡ b → Syncs (folders_removed (those_gone c dbs)) → Syncs (folders_removed (cond (not b) (db ∷ those_gone c dbs) (those_gone c dbs)))
+      by_test : (b : Bool) → is_there c db ≡ b → Saves (folders_removed (those_gone c dbs)) → Saves (folders_removed (cond (not b) (db ∷ those_gone c dbs) (those_gone c dbs)))
       by_test true e rest = rest
       by_test false e rest = ((db, refl, e), rest)
+
+  both_saves : (es fs : List Edit) → Saves es → Saves fs → Saves (es ++ fs)
+  both_saves [] fs h k = k
+  both_saves (e ∷ es) fs h k = (h.0, both_saves es fs h.1 k)
 
   saving_planned : Syncs (saving o.session)
   saving_planned =
       let dbs : List Text = o.session.changed.databases in
-      let ps : List Pair = o.session.changed.relations in
-      both_planned meant Leaving (folders_made (those_there c dbs) ++ pairs_saved c ps) (folders_removed (those_gone c dbs))
-      (both_planned meant Leaving (folders_made (those_there c dbs)) (pairs_saved c ps) (made_planned dbs) (pairs_planned ps)) (gone_planned dbs)
+      let ps : List Pair = o.session.changed.relations in (
+        both_saves (folders_made (those_there c dbs) ++ pairs_saved c ps) (folders_removed (those_gone c dbs))
+            (both_saves (folders_made (those_there c dbs)) (pairs_saved c ps) (made_planned dbs) (pairs_planned ps)) (gone_planned dbs),
+        tt,
+      )
 
   -- and then the view's files
   view_meant : (name : Text) → meant (view_folder x, name) ≡ table_at x (shape_of o.session.query) (tables_of o.session) (view_folder x, name)
@@ -223,6 +254,21 @@ module _ (o : OpenValue) (sound : IsSound o.session.catalogue) where
   sync_planned : Syncs (sync_effects o)
   sync_planned = both_planned meant Leaving (saving o.session) (view_effects o) saving_planned view_planned
 
+  -- they change the `.csv` files of the view's folder, and the sources at once
+  view_within : AllWithin (CsvFiles (view_folder x) ∷ []) (view_effects o)
+  view_within =
+      both_within (CsvFiles (view_folder x) ∷ []) (later_sync (view_folder x) (shape_of o.session.query) (tables_of o.session) o.session.changed.labels) _
+      (later_within (view_folder x) [] (shape_of o.session.query) (tables_of o.session) o.session.changed.labels) (tt, tt)
+
   -- behind effects that only print
-  pub sync_stage : (es : List Effect) → ((wanted : Place → Option (List ℕ)) (Gone : Text → Type 0) → AllPlanned wanted Gone es) → Stage (es ++ sync_effects o)
-  sync_stage es printed = planned_stage meant Leaving (es ++ sync_effects o) (both_planned meant Leaving es (sync_effects o) (printed meant Leaving) sync_planned)
+  pub sync_stage : (es : List Effect) → ((wanted : Place → Option (List ℕ)) (Gone : Text → Type 0) → AllPlanned wanted Gone es) → AllWithin (CsvFiles (view_folder x) ∷ []) es → Stage (CsvFiles (view_folder x) ∷ []) (es ++ sync_effects o)
+  sync_stage es printed within =
+      planned_stage (CsvFiles (view_folder x) ∷ []) meant Leaving (es ++ sync_effects o) (both_planned meant Leaving es (sync_effects o) (printed meant Leaving) sync_planned)
+      (inr (record {
+        first = es;
+        edits = saved c o.session.changed.databases o.session.changed.relations;
+        last = view_effects o;
+        are = refl;
+        before = within;
+        behind = view_within;
+      }))

@@ -1,7 +1,7 @@
 -- The effects of an opening and of a sync are on what is exempt.
 use Rattle.std.proofs.Common.{◌≡◌, Bool, true, false, ◌&&◌, ◌||◌, not, cond, map, List, [], ◌∷◌, ◌++◌, None, Some, refl, ap, ◌∙◌, subst}
 use Rattle.std.specs.Option.{option_map_or}
-use Rattle.std.specs.List.{list_any}
+use Rattle.std.specs.List.{list_any, AllByRecursion}
 use Rattle.std.specs.Ordering.{eq_by_cmp, is_eq}
 use Rattle.std.proofs.lemmas.Cmp.{tied_itself}
 use Rattle.std.proofs.lemmas.List.Folds.{list_any-append}
@@ -10,7 +10,9 @@ use Rattle.ss_text.specs.Texts.{Text, is_in}
 use Rattle.ss_text.proofs.KeyLemmas.{text_order, equal_itself}
 use Rattle.outside.specs.Tree.{Tree, place_cmp, folder_path, files_of}
 use Rattle.outside.proofs.PlaceLemmas.{place_total}
-use Rattle.effects.specs.Effects.{Effect, Write, Remove}
+use Rattle.outside.specs.declared.edit.Edit.{Edit}
+use Rattle.outside.specs.declared.edit.Edit.TheVariants as edit
+use Rattle.effects.specs.Effects.{Effect, Write, Remove, Replace}
 use Rattle.schema_model.specs.declared.pair.Pair.{Pair}
 use Rattle.schema_model.specs.Catalogue.{RelationValue, CatalogueValue, relation_of}
 use Rattle.csv_catalog.specs.Loaded.{database_folder}
@@ -25,7 +27,7 @@ use Rattle.valuation_meaning.specs.Meaning.{shape_of}
 use Rattle.view_folder.specs.declared.file.File.{File}
 use Rattle.view_folder.specs.Files.{view_folder, is_csv_name, is_named, other_names, file_name, AreViewFiles}
 use Rattle.view_folder.specs.TableFiles.{table_text}
-use Rattle.view_folder.specs.Sync.{written, removed, opening_sync, label_synced, later_sync}
+use Rattle.view_folder.specs.Sync.{written, removed, opening_sync, tables_first, label_synced, later_sync, label_edit, later_edits}
 use Rattle.view_folder.proofs.LaterLemmas.{file_name_csv}
 use Rattle.view_session.specs.Session.{SessionState, tables_of}
 use Rattle.view_stages.specs.Open.{OpenValue}
@@ -34,7 +36,7 @@ use Rattle.view_stages.specs.Stages.{Accepted, files_of_view}
 use Rattle.view_stages.specs.Opening.{opening_effects}
 use Rattle.view_stages.specs.Syncs.{view_effects, sync_effects}
 use Rattle.view_stages.specs.Opened.{folder_of}
-use Rattle.view_stages.proofs.PlaceLemmas.{on_path, Within, AllWithin}
+use Rattle.view_stages.proofs.PlaceLemmas.{on_path, WithinEdit, Within, AllWithin}
 use Rattle.view_stages.proofs.StageLemmas.{are_view_files}
 
 module _ (exempt : List Exempt) where
@@ -81,12 +83,36 @@ module _ (d : Text) (more : List Exempt) where
       elim (table_of ts l) as (λ o. Within (CsvFiles d ∷ more) (option_map_or (λ t. Write d (file_name l) (table_text shape t)) o (Remove d (file_name l))))
       [ None ↦ csv_exempt (file_name l) (file_name_csv l) | Some t ↦ (csv_exempt (file_name l) (file_name_csv l), path_exempt) ]
 
+  labels_within : (shape : Shape) (ts : TablesValue) (ls : List Text) → Here (map (label_synced d shape ts) ls)
+  labels_within shape ts [] = tt
+  labels_within shape ts (l ∷ ls) = (label_within shape ts l, labels_within shape ts ls)
+
   pub later_within : (shape : Shape) (ts : TablesValue) (ls : List Text) → Here (later_sync d shape ts ls)
-  later_within shape ts [] = tt
-  later_within shape ts (l ∷ ls) = (label_within shape ts l, later_within shape ts ls)
+  later_within shape ts ls = labels_within shape ts (tables_first ts ls)
+
+  -- and the same at once
+  edit_within : (shape : Shape) (ts : TablesValue) (l : Text) → WithinEdit (CsvFiles d ∷ more) (label_edit d shape ts l)
+  edit_within shape ts l =
+      elim (table_of ts l) as (λ o. WithinEdit (CsvFiles d ∷ more) (option_map_or (λ t. edit.Write d (file_name l) (table_text shape t)) o (edit.Remove d (file_name l))))
+      [ None ↦ csv_exempt (file_name l) (file_name_csv l) | Some t ↦ (csv_exempt (file_name l) (file_name_csv l), path_exempt) ]
+
+  edits_within : (shape : Shape) (ts : TablesValue) (ls : List Text) → AllByRecursion (WithinEdit (CsvFiles d ∷ more)) (map (label_edit d shape ts) ls)
+  edits_within shape ts [] = tt
+  edits_within shape ts (l ∷ ls) = (edit_within shape ts l, edits_within shape ts ls)
+
+  pub replaced_within : (shape : Shape) (ts : TablesValue) (ls : List Text) → Within (CsvFiles d ∷ more) (Replace (later_edits d shape ts ls))
+  replaced_within shape ts ls = edits_within shape ts (tables_first ts ls)
 
 pub opening_within : (d : Text) (fs : List File) (names : List Text) → AreViewFiles fs → AllWithin (CsvFiles d ∷ []) (opening_effects d fs names)
 opening_within d fs names h = all_opening_within d [] fs names h
+
+-- edits on what is exempt alone
+abbrev AllEdits : List Exempt → List Edit → Type 0
+AllEdits exempt es = AllByRecursion (WithinEdit exempt) es
+
+both_edits : (exempt : List Exempt) (es fs : List Edit) → AllEdits exempt es → AllEdits exempt fs → AllEdits exempt (es ++ fs)
+both_edits exempt [] fs h i = i
+both_edits exempt (e ∷ es) fs h i = (h.0, both_edits exempt es fs h.1 i)
 
 -- relations and databases that are among those of a sync
 pub record Covers (s : Synced) (pairs : List Pair) (dbs : List Text) : Type 0 where
@@ -119,35 +145,35 @@ module _ (first : List Exempt) (z : Synced) where
     folder_of_database db among d h = database_exempt (is_exempt_folder d) (covers.databases (λ (x : Text). is_in d (folder_path (database_folder x))) (among (λ (x : Text). is_in d (folder_path (database_folder x))) h))
 
     module _ (c : CatalogueValue) where
-      pair_within : (p : Pair) → ((f : Pair → Bool) → f p ≡ true → list_any f pairs ≡ true) → Within All (pair_saved c p)
+      pair_within : (p : Pair) → ((f : Pair → Bool) → f p ≡ true → list_any f pairs ≡ true) → WithinEdit All (pair_saved c p)
       pair_within p among =
-          elim (relation_of c p.db p.rel) as (λ o. Within All (option_map_or (λ (r : RelationValue). Write (database_folder p.db) (relation_file p.rel) (csv_text (relation_records r))) o (Remove (database_folder p.db) (relation_file p.rel))))
+          elim (relation_of c p.db p.rel) as (λ o. WithinEdit All (option_map_or (λ (r : RelationValue). edit.Write (database_folder p.db) (relation_file p.rel) (csv_text (relation_records r))) o (edit.Remove (database_folder p.db) (relation_file p.rel))))
           [ None ↦ file_of_pair p among | Some r ↦ (file_of_pair p among, folder_of_pair p among) ]
 
-      pairs_within : (ps : List Pair) → ((f : Pair → Bool) → list_any f ps ≡ true → list_any f pairs ≡ true) → AllWithin All (pairs_saved c ps)
+      pairs_within : (ps : List Pair) → ((f : Pair → Bool) → list_any f ps ≡ true → list_any f pairs ≡ true) → AllEdits All (pairs_saved c ps)
       pairs_within [] among = tt
       pairs_within (p ∷ ps) among = (pair_within p (λ f h. among f (ap (λ b. b || list_any f ps) h)), pairs_within ps (λ f h. among f (or_right (f p) (list_any f ps) h)))
 
-      made_within : (ds : List Text) → ((f : Text → Bool) → list_any f ds ≡ true → list_any f dbs ≡ true) → AllWithin All (folders_made (those_there c ds))
+      made_within : (ds : List Text) → ((f : Text → Bool) → list_any f ds ≡ true → list_any f dbs ≡ true) → AllEdits All (folders_made (those_there c ds))
       made_within [] among = tt
       made_within (db ∷ ds) among = by_test (is_there c db) (made_within ds (λ f h. among f (or_right (f db) (list_any f ds) h)))
         where
-          by_test : (b : Bool) → AllWithin All (folders_made (those_there c ds)) → AllWithin All (folders_made (cond b (db ∷ those_there c ds) (those_there c ds)))
+          by_test : (b : Bool) → AllEdits All (folders_made (those_there c ds)) → AllEdits All (folders_made (cond b (db ∷ those_there c ds) (those_there c ds)))
           by_test true rest = (folder_of_database db (λ f h. among f (ap (λ b. b || list_any f ds) h)), rest)
           by_test false rest = rest
 
-      gone_within : (ds : List Text) → ((f : Text → Bool) → list_any f ds ≡ true → list_any f dbs ≡ true) → AllWithin All (folders_removed (those_gone c ds))
+      gone_within : (ds : List Text) → ((f : Text → Bool) → list_any f ds ≡ true → list_any f dbs ≡ true) → AllEdits All (folders_removed (those_gone c ds))
       gone_within [] among = tt
       gone_within (db ∷ ds) among = by_test (not (is_there c db)) (gone_within ds (λ f h. among f (or_right (f db) (list_any f ds) h)))
         where
-          by_test : (b : Bool) → AllWithin All (folders_removed (those_gone c ds)) → AllWithin All (folders_removed (cond b (db ∷ those_gone c ds) (those_gone c ds)))
+          by_test : (b : Bool) → AllEdits All (folders_removed (those_gone c ds)) → AllEdits All (folders_removed (cond b (db ∷ those_gone c ds) (those_gone c ds)))
           by_test true rest = (folder_of_database db (λ f h. among f (ap (λ b. b || list_any f ds) h)) (database_folder db) (on_path (database_folder db)), rest)
           by_test false rest = rest
 
-      saved_within : AllWithin All (saved c dbs pairs)
+      saved_within : Within All (Replace (saved c dbs pairs))
       saved_within =
-          both_within All (folders_made (those_there c dbs) ++ pairs_saved c pairs) (folders_removed (those_gone c dbs))
-          (both_within All (folders_made (those_there c dbs)) (pairs_saved c pairs) (made_within dbs (λ f h. h)) (pairs_within pairs (λ f h. h))) (gone_within dbs (λ f h. h))
+          both_edits All (folders_made (those_there c dbs) ++ pairs_saved c pairs) (folders_removed (those_gone c dbs))
+          (both_edits All (folders_made (those_there c dbs)) (pairs_saved c pairs) (made_within dbs (λ f h. h)) (pairs_within pairs (λ f h. h))) (gone_within dbs (λ f h. h))
 
 -- what was saved before is among what is saved later
 pub record Grows (y z : Synced) : Type 0 where
@@ -180,7 +206,7 @@ module _ (q : Query) (z : Synced) where
   pub sync_within : (o : OpenValue) (y : Synced) → o.session.query ≡ q → Grows (synced o.session y) z → Of (sync_effects o)
   sync_within o y is g =
       both_within (CsvFiles d ∷ sources_of z) (saving o.session) (view_effects o)
-      (saved_within (CsvFiles d ∷ []) z o.session.changed.relations o.session.changed.databases (covers_synced o.session y z g) o.session.catalogue)
+      (saved_within (CsvFiles d ∷ []) z o.session.changed.relations o.session.changed.databases (covers_synced o.session y z g) o.session.catalogue, tt)
       (subst (λ (x : Query). AllWithin (CsvFiles (view_folder x.view_db) ∷ sources_of z) (view_effects o)) is
       (both_within (CsvFiles (view_folder o.session.query.view_db) ∷ sources_of z) (later_sync (view_folder o.session.query.view_db) (shape_of o.session.query) (tables_of o.session) o.session.changed.labels) _
       (later_within (view_folder o.session.query.view_db) (sources_of z) (shape_of o.session.query) (tables_of o.session) o.session.changed.labels) (tt, tt)))
