@@ -7,7 +7,7 @@ use Rattle.std.proofs.lemmas.Grind.{flat_map-append}
 use Rattle.ss_text.specs.Texts.{Text, Row}
 use Rattle.tab_lines.specs.Lines.{lines_of}
 use Rattle.tab_lines.specs.Spelling.{spell}
-use Rattle.effects.specs.Effects.{Effect, Write, Remove, MakeFolder, RemoveFolder, Print}
+use Rattle.effects.specs.Effects.{Effect, Write, Remove, Replace, Print}
 use Rattle.flow_law.specs.declared.line.TableLine.{TableLine}
 use Rattle.flow_law.specs.declared.line.TableLine.TheVariants.{TableMinus, TablePlus, RowMinus, ColumnMinus, ColumnPlus, RowPlus, Cell}
 use Rattle.flow_law.specs.declared.shape.Shape.{Shape}
@@ -17,10 +17,10 @@ use Rattle.change_script.specs.Printed.{printed}
 use Rattle.change_script.specs.Reading.{HasKeyText, script_line_of}
 use Rattle.view_folder.specs.declared.file.File.{File}
 use Rattle.view_folder.specs.Files.{file_name, other_names}
-use Rattle.view_folder.specs.Sync.{written, removed, later_sync}
+use Rattle.view_folder.specs.Sync.{written, removed, tables_first, label_synced, later_sync}
 use Rattle.view_folder.specs.TableFiles.{table_text}
 use Rattle.source_law.proofs.AfterLemmas.{Silent}
-use Rattle.source_law.proofs.SavingLemmas.{saved_silent}
+use Rattle.source_law.specs.Synced.{saving}
 use Rattle.ss_print.specs.Printing.{says, lines_text, script_rows, prints_script, prints_synced}
 use Rattle.view_apply.specs.Scripts.{script_said}
 use Rattle.view_answers.specs.Answers.{Answer, Said, Refuses, Begins, Holds, Aborts, Scripts, Syncs, answer, end_effects, end_view, finish}
@@ -63,8 +63,7 @@ silent_text : (es : List Effect) → AllByRecursion Silent es → printed_by es 
 silent_text [] h = refl
 silent_text (Write folder file bytes ∷ es) h = silent_text es h.1
 silent_text (Remove folder file ∷ es) h = silent_text es h.1
-silent_text (MakeFolder folder ∷ es) h = silent_text es h.1
-silent_text (RemoveFolder folder ∷ es) h = silent_text es h.1
+silent_text (Replace edits ∷ es) h = silent_text es h.1
 silent_text (Print bytes ∷ es) h = absurd h.0
 
 telling_silent : (es : List Effect) → AllByRecursion Silent es → IsTelling es []
@@ -116,14 +115,17 @@ opening_tells folder files names =
     (telling_synced _)
 
 -- a later one
+labels_silent : (folder : Text) (shape : Shape) (ts : TablesValue) (labels : List Text) → AllByRecursion Silent (map (label_synced folder shape ts) labels)
+labels_silent folder shape ts [] = tt
+labels_silent folder shape ts (l ∷ ls) =
+    (elim (table_of ts l) as (λ o. Silent (option_map_or (λ t. Write folder (file_name l) (table_text shape t)) o (Remove folder (file_name l)))) [ None ↦ tt | Some t ↦ tt ], labels_silent folder shape ts ls)
+
 later_silent : (folder : Text) (shape : Shape) (ts : TablesValue) (labels : List Text) → AllByRecursion Silent (later_sync folder shape ts labels)
-later_silent folder shape ts [] = tt
-later_silent folder shape ts (l ∷ ls) =
-    (elim (table_of ts l) as (λ o. Silent (option_map_or (λ t. Write folder (file_name l) (table_text shape t)) o (Remove folder (file_name l)))) [ None ↦ tt | Some t ↦ tt ], later_silent folder shape ts ls)
+later_silent folder shape ts labels = labels_silent folder shape ts (tables_first ts labels)
 
 sync_tells : (o : OpenValue) → IsTelling (sync_effects o) []
 sync_tells o =
-    telling_more _ _ [] [] (telling_silent _ (saved_silent o.session.catalogue o.session.changed.databases o.session.changed.relations))
+    telling_more _ _ [] [] (telling_silent (saving o.session) (tt, tt))
     (telling_more _ _ [] [] (telling_silent _ (later_silent _ _ (tables_of o.session) o.session.changed.labels)) (telling_synced _))
 
 -- the lines of the script that is said, where one is

@@ -4,7 +4,7 @@ use Rattle.std.specs.Prelude.{Result, Ok, Err, unwrap_or}
 use Rattle.ss_text.specs.Texts.{Text, Row}
 use Rattle.tab_lines.specs.Lines.{whole_lines}
 use Rattle.outside.specs.Tree.{Tree, files_of}
-use Rattle.effects.specs.Effects.{Effect, World, Stored, Contents, contents, performed, Partly}
+use Rattle.effects.specs.Effects.{Effect, Print, World, Stored, Contents, contents, performed, Partly}
 use Rattle.schema_model.specs.Catalogue.{CatalogueValue}
 use Rattle.flow_law.specs.Tables.{TablesValue}
 use Rattle.valuation_meaning.specs.Meaning.{shape_of}
@@ -24,7 +24,8 @@ use Rattle.run_course.specs.declared.status.Status.TheVariants as status
 use Rattle.view_stages.specs.Stages.{DefinitionOrRefusal, Accepted, refusal_of, files_of_view}
 use Rattle.view_stages.specs.Opening.{with_catalogue, with_view, opening_effects, done_at_once}
 use Rattle.view_stages.specs.Opened.{folder_of}
-use Rattle.view_stages.proofs.SyncLemmas.{later_stage}
+use Rattle.view_stages.specs.Places.{Exempt, CsvFiles}
+use Rattle.view_stages.proofs.SyncLemmas.{replaced_stage}
 use Rattle.view_stages.proofs.StoppedLemmas.{Stopped, one_stage, printed, opening_stops}
 use Rattle.plain_commands.specs.Applies.{apply_opening}
 use Rattle.plain_commands.specs.Checking.{checked}
@@ -35,46 +36,55 @@ module _ (s : Stored) (old new : Contents) (told : old.stored ≡ Some s) (lines
   abbrev t : Tree
   t = s.tree
 
-  abbrev One : List Effect → Type 0
-  One es = Partly es old new → Stopped (es ∷ []) t new
+  abbrev One : List Exempt → List Effect → Type 0
+  One exempt es = Partly es old new → Stopped exempt (es ∷ []) t new
 
-  -- `show`
-  show_view : (a : Accepted) (c : CatalogueValue) (r : Option Row) → One (ending done_at_once (with_view t a.query c r)).effects
-  show_view a c (Some fields) = printed s old new told _
-  show_view a c None =
-      let es : List Effect = opening_effects (folder_of a) (files_of_view c a.query) (files_of t (folder_of a)) in
-      subst One (sym (append-nil es)) (one_stage s old new told es (opening_stops t a c))
+  -- a view that is shown or verified: its own files may be changed
+  module _ (a : Accepted) where
+    abbrev Viewed : List Effect → Type 0
+    Viewed es = One (CsvFiles (folder_of a) ∷ []) es
 
-  pub show_over : (a : Accepted) (r : Result CatalogueValue Row) → One (ending done_at_once (with_catalogue t a.query r)).effects
-  show_over a (Err fields) = printed s old new told _
-  show_over a (Ok c) = show_view a c (refusal_of c a.query)
+    prints : (bytes : List ℕ) → Viewed (Print bytes ∷ [])
+    prints bytes = printed (CsvFiles (folder_of a) ∷ []) s old new told bytes
 
-  -- `check` and `verify`
-  pub check_definition : (d : DefinitionOrRefusal) → One (checked d).effects
-  check_definition (Err fields) = printed s old new told _
-  check_definition (Ok a) = printed s old new told _
+    -- `show`
+    show_view : (c : CatalogueValue) (r : Option Row) → Viewed (ending done_at_once (with_view t a.query c r)).effects
+    show_view c (Some fields) = prints _
+    show_view c None =
+        let es : List Effect = opening_effects (folder_of a) (files_of_view c a.query) (files_of t (folder_of a)) in
+        subst Viewed (sym (append-nil es)) (one_stage (CsvFiles (folder_of a) ∷ []) s old new told es (opening_stops t a c))
 
-  verify_compared : (c : Comparison) → One (by_comparison c).effects
-  verify_compared (compared.Same count) = printed s old new told _
-  verify_compared (compared.Differs file held meant) = printed s old new told _
+    pub show_over : (r : Result CatalogueValue Row) → Viewed (ending done_at_once (with_catalogue t a.query r)).effects
+    show_over (Err fields) = prints _
+    show_over (Ok c) = show_view c (refusal_of c a.query)
 
-  verify_view : (a : Accepted) (c : CatalogueValue) (r : Option Row) → One (verified_view t a.query c r).effects
-  verify_view a c (Some fields) = printed s old new told _
-  verify_view a c None = verify_compared (comparison (folder_of a) (files_of_view c a.query) t)
+    -- `verify`
+    verify_compared : (c : Comparison) → Viewed (by_comparison c).effects
+    verify_compared (compared.Same count) = prints _
+    verify_compared (compared.Differs file held meant) = prints _
 
-  pub verify_over : (a : Accepted) (r : Result CatalogueValue Row) → One (verified_over t a.query r).effects
-  verify_over a (Err fields) = printed s old new told _
-  verify_over a (Ok c) = verify_view a c (refusal_of c a.query)
+    verify_view : (c : CatalogueValue) (r : Option Row) → Viewed (verified_view t a.query c r).effects
+    verify_view c (Some fields) = prints _
+    verify_view c None = verify_compared (comparison (folder_of a) (files_of_view c a.query) t)
 
-  -- `apply`
-  apply_lines : (s0 : ApplyState) (r : Reply ApplyState) → follow applying.step lines (Continues [] s0) ≡ r → One (ending applying.finish r).effects
+    pub verify_over : (r : Result CatalogueValue Row) → Viewed (verified_over t a.query r).effects
+    verify_over (Err fields) = prints _
+    verify_over (Ok c) = verify_view c (refusal_of c a.query)
+
+  -- `check`
+  pub check_definition : (exempt : List Exempt) (d : DefinitionOrRefusal) → One exempt (checked d).effects
+  check_definition exempt (Err fields) = printed exempt s old new told _
+  check_definition exempt (Ok a) = printed exempt s old new told _
+
+  -- `apply`: all of it at once
+  apply_lines : (s0 : ApplyState) (r : Reply ApplyState) → follow applying.step lines (Continues [] s0) ≡ r → One [] (ending applying.finish r).effects
   apply_lines s0 (Continues es u) e =
-      subst (λ (fs : List Effect). One (fs ++ (applying.finish u).effects)) (sym (went_on lines s0 es u e).0)
-      (one_stage s old new told (applying.finish u).effects (later_stage u.view_db u.shape u.tables u.named (lines_text (applied_rows u.lines (synced_count u)))))
-  apply_lines s0 (Finishes es v) e = subst One (sym (halts_so lines s0 es v e).1.1) (printed s old new told _)
+      subst (λ (fs : List Effect). One [] (fs ++ (applying.finish u).effects)) (sym (went_on lines s0 es u e).0)
+      (one_stage [] s old new told (applying.finish u).effects (replaced_stage u.view_db u.shape u.tables u.named (lines_text (applied_rows u.lines (synced_count u)))))
+  apply_lines s0 (Finishes es v) e = subst (One []) (sym (halts_so lines s0 es v e).1.1) (printed [] s old new told _)
 
-  pub apply_over : (a : Accepted) (r : Result TablesValue TablesFault) → One ((by_lines applying.step applying.finish (by_folder a.query.view_db (shape_of a.query) r)).whole lines).effects
-  apply_over a (Err f) = printed s old new told _
+  pub apply_over : (a : Accepted) (r : Result TablesValue TablesFault) → One [] ((by_lines applying.step applying.finish (by_folder a.query.view_db (shape_of a.query) r)).whole lines).effects
+  apply_over a (Err f) = printed [] s old new told _
   apply_over a (Ok ts) =
       let s0 = just_read a.query.view_db (shape_of a.query) ts in
       apply_lines s0 (follow applying.step lines (Continues [] s0)) refl

@@ -8,7 +8,6 @@ use Rattle.schema_model.specs.Catalogue.{CatalogueValue}
 use Rattle.flow_law.specs.Tables.{TablesValue}
 use Rattle.valuation_meaning.specs.Meaning.{shape_of}
 use Rattle.view_folder.specs.Files.{view_folder}
-use Rattle.view_folder.specs.Sync.{later_sync}
 use Rattle.view_folder.specs.Comparison.{comparison}
 use Rattle.view_folder.specs.declared.comparison.Comparison.{Comparison}
 use Rattle.view_folder.specs.declared.comparison.Comparison.TheVariants as compared
@@ -16,16 +15,15 @@ use Rattle.course.specs.Answering.{Reply, Continues, Finishes, ending, follow}
 use Rattle.view_folder.specs.declared.held.TablesFault.{TablesFault}
 use Rattle.view_folder.specs.Held.{held}
 use Rattle.view_apply.specs.Applying as applying
-use Rattle.view_apply.specs.Applying.{ApplyState, by_folder, just_read, synced_count}
+use Rattle.view_apply.specs.Applying.{ApplyState, by_folder, just_read}
 use Rattle.view_apply.proofs.CourseLemmas.{went_on, halts_so}
-use Rattle.ss_print.specs.Printing.{prints_applied}
 use Rattle.run_course.specs.Course.{by_lines, goes_so_far}
 use Rattle.view_stages.specs.Places.{CsvFiles}
 use Rattle.view_stages.specs.Stages.{Accepted, refusal_of, files_of_view}
 use Rattle.view_stages.specs.Opening.{with_catalogue, with_view, opening_effects, done_at_once}
 use Rattle.view_stages.specs.Opened.{folder_of}
 use Rattle.view_stages.proofs.PlaceLemmas.{AllWithin}
-use Rattle.view_stages.proofs.WithinLemmas.{both_within, later_within, opened_within}
+use Rattle.view_stages.proofs.WithinLemmas.{both_within, replaced_within, opened_within}
 use Rattle.plain_commands.specs.Verifying.{by_comparison, verified_over, verified_view}
 
 -- those of each command
@@ -46,9 +44,7 @@ module _ (t : Tree) (a : Accepted) where
     apply_lines : (s0 : ApplyState) → s0.view_db ≡ a.query.view_db → (r : Reply ApplyState) → follow applying.step lines (Continues [] s0) ≡ r → Applying (ending applying.finish r).effects
     apply_lines s0 named (Continues es u) e =
         let went = went_on lines s0 es u e in
-        let last : AllWithin (CsvFiles (view_folder u.view_db) ∷ []) (applying.finish u).effects =
-        both_within (CsvFiles (view_folder u.view_db) ∷ []) (later_sync (view_folder u.view_db) u.shape u.tables u.named) (prints_applied u.lines (synced_count u) ∷ [])
-        (later_within (view_folder u.view_db) [] u.shape u.tables u.named) (tt, tt) in
+        let last : AllWithin (CsvFiles (view_folder u.view_db) ∷ []) (applying.finish u).effects = (replaced_within (view_folder u.view_db) [] u.shape u.tables u.named, (tt, tt)) in
         let here = subst (λ (v : Text). AllWithin (CsvFiles (view_folder v) ∷ []) (applying.finish u).effects) (went.1.applies.view_db ∙ named) last in
         subst (λ (fs : List Effect). Applying (fs ++ (applying.finish u).effects)) (sym went.0) here
     apply_lines s0 named (Finishes es v) e = subst Applying (sym (halts_so lines s0 es v e).1.1) (tt, tt)

@@ -1,5 +1,5 @@
 -- What a run left is between what is there before one of its stages and what is there behind it.
-use Rattle.std.proofs.Common.{◌≡◌, ℕ, List, ◌∷◌, ◌++◌, Option, None, Some, refl, ap, ◌∙◌}
+use Rattle.std.proofs.Common.{◌≡◌, ℕ, List, [], ◌∷◌, ◌++◌, Option, None, Some, refl, ap, ◌∙◌}
 use Rattle.std.specs.Prelude.{Result, Ok, Err}
 use Rattle.tab_lines.specs.Lines.{lines_of, whole_lines}
 use Rattle.outside.specs.Tree.{Tree}
@@ -17,7 +17,7 @@ use Rattle.run_course.proofs.TakenLemmas.{taken_lines}
 use Rattle.run_course.proofs.FrontLemmas.{partly_whole, partly_front, lines_front}
 use Rattle.view_stages.specs.Stages.{DefinitionOrRefusal, loaded_or_refused}
 use Rattle.view_stages.specs.Opening.{opening}
-use Rattle.view_stages.specs.Opened.{folder_of}
+use Rattle.view_stages.specs.Opened.{folder_of, view_exempt}
 use Rattle.view_stages.proofs.StoppedLemmas.{Stopped, printed}
 use Rattle.view_answers.specs.Answers.{step, finish}
 use Rattle.plain_commands.specs.Applies.{apply_opening}
@@ -25,25 +25,25 @@ use Rattle.plain_commands.proofs.StopLemmas.{show_over, check_definition, verify
 use Rattle.upkeep_law.proofs.StopLemmas.{maintain_over}
 use Rattle.ss_top.specs.Commands.{Asked, Check, Show, Maintain, Verify, Apply, Load, Other}
 use Rattle.ss_top.specs.Runs.{course_of}
-use Rattle.ss_top.specs.Between.{stages_of, IsLeftBetween}
+use Rattle.ss_top.specs.Between.{stages_of, file_by_file, IsLeftBetween}
 
 -- the run of each command
 module _ (s : Stored) (old new : Contents) (told : old.stored ≡ Some s) (lines : List (List ℕ)) where
   abbrev t : Tree
   t = s.tree
 
-  course_stops : (a : Asked) (d : DefinitionOrRefusal) → Partly ((course_of a t d).whole lines).effects old new → Stopped (stages_of a t d lines) t new
-  course_stops (Check name) d h = check_definition s old new told lines d h
-  course_stops (Show name) (Err fields) h = printed s old new told _ h
+  course_stops : (a : Asked) (d : DefinitionOrRefusal) → Partly ((course_of a t d).whole lines).effects old new → Stopped (file_by_file a d) (stages_of a t d lines) t new
+  course_stops (Check name) d h = check_definition s old new told lines (view_exempt d) d h
+  course_stops (Show name) (Err fields) h = printed [] s old new told _ h
   course_stops (Show name) (Ok a) h = show_over s old new told lines a (loaded_or_refused t) h
-  course_stops (Maintain name) (Err fields) h = printed s old new told _ h
+  course_stops (Maintain name) (Err fields) h = printed [] s old new told _ h
   course_stops (Maintain name) (Ok a) h = maintain_over s old new told lines a (loaded_or_refused t) refl h
-  course_stops (Verify name) (Err fields) h = printed s old new told _ h
+  course_stops (Verify name) (Err fields) h = printed [] s old new told _ h
   course_stops (Verify name) (Ok a) h = verify_over s old new told lines a (loaded_or_refused t) h
-  course_stops (Apply name) (Err fields) h = printed s old new told _ h
+  course_stops (Apply name) (Err fields) h = printed [] s old new told _ h
   course_stops (Apply name) (Ok a) h = apply_over s old new told lines a (held (shape_of a.query) t (folder_of a)) h
-  course_stops (Load changes seed) d h = printed s old new told _ h
-  course_stops Other d h = printed s old new told _ h
+  course_stops (Load changes seed) d h = printed (view_exempt d) s old new told _ h
+  course_stops Other d h = printed (view_exempt d) s old new told _ h
 
 course_front : (a : Asked) (t : Tree) (d : DefinitionOrRefusal) (xs more : List (List ℕ)) (fs : List Effect) → (course_of a t d).so_far xs ≡ Some fs → (rest : List Effect) × (((course_of a t d).whole (xs ++ more)).effects ≡ fs ++ rest)
 course_front (Check name) t d xs more fs e = absurd (cc e)

@@ -98,7 +98,7 @@ KeepsAll words old new s = (t : Tree) → Told (uses_store (asked_of words)) old
 abbrev pub KeepsOthers : List Text → Option (List ℕ) → World → World → Type 0
 KeepsOthers words input old new = (t : Tree) (d : DefinitionOrRefusal) → old.store.tree ≡ Some t → IsAsked (asked_of words) t d → KeepsBut (asked_of words) t d input new
 
--- wherever a run ends or breaks off, each file and each folder is as a sync found it or as it leaves it, but for one that was being written, made or removed
+-- wherever a run ends or breaks off, all files and folders but the view's own are as a sync found them, or all are as it leaves them; each of the view's own is the one or the other, but for a file that was being written or removed; and in `apply` they too are all the one or all the other
 abbrev pub LeavesBetween : List Text → Option (List ℕ) → World → World → Type 0
 LeavesBetween words input old new = (t : Tree) (d : DefinitionOrRefusal) → old.store.tree ≡ Some t → IsAsked (asked_of words) t d → IsLeftBetween (asked_of words) t d input new
 

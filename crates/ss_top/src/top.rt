@@ -19,8 +19,9 @@ use std::sync::ledger::Ledger;
 /// Runs the command that the words ask for, `check NAME`, `show NAME`, `maintain NAME`, `verify NAME` or `apply NAME`,
 /// over the folders `defs`, `sources` and `views` of a store, or `load N SEED`, which uses neither store nor input. What is answered and what is refused are lines of the output.
 ///
-/// The status says which kind of end it was. After a fault the output holds a front of the answers, and each file and
-/// each folder is as the sync under way found it or as it leaves it, but for the one that was being written, made or
+/// The status says which kind of end it was. After a fault the output holds a front of the answers, and all sources are
+/// as the sync under way found them, or all are as it leaves them, and so are the files of a view under `apply`. Of the
+/// files of a view under `show` and `maintain` each is the one or the other, but for one that was being written or
 /// removed.
 ///
 /// Steps are counted by `maintain` and `load` alone. Where memory does not lack, over input whose changes are inserts

@@ -15,7 +15,7 @@ use Rattle.outside.specs.Streams.{with_bytes}
 use Rattle.outside.specs.Tree.{Tree, Place, place_cmp, files_of}
 use Rattle.outside.specs.Whole.{IsWhole}
 use Rattle.outside.specs.WholeLaw.{is_eq_true, place_exact}
-use Rattle.effects.specs.Effects.{Effect, Write, Remove, MakeFolder, RemoveFolder, Print, Stored, Contents, performed}
+use Rattle.effects.specs.Effects.{Effect, Write, Remove, Replace, Print, Stored, Contents, performed}
 use Rattle.effects.proofs.EffectLemmas.{performed_append, with_more}
 use Rattle.schema_model.specs.Catalogue.{CatalogueValue}
 use Rattle.schema_model.specs.declared.change.Change.{Change}
@@ -33,7 +33,7 @@ use Rattle.valuation_meaning.specs.Meaning.{meaning, shape_of}
 use Rattle.view_folder.specs.declared.file.File.{File}
 use Rattle.view_folder.specs.Files.{view_folder, file_name, other_names, Apart}
 use Rattle.view_folder.specs.TableFiles.{table_files, table_text}
-use Rattle.view_folder.specs.Sync.{Holds, written, removed, opening_sync, opening_count, label_synced, later_sync}
+use Rattle.view_folder.specs.Sync.{Holds, written, removed, opening_sync, opening_count, tables_first, label_synced, later_sync}
 use Rattle.outside.specs.Counts.{risen}
 use Rattle.view_folder.proofs.FolderLemmas.{apart_sorted, now, synced as synced_files, counted as counted_files, holds_exactly}
 use Rattle.view_folder.proofs.LaterLemmas.{later, later_synced, later_holds, later_counted}
@@ -44,7 +44,7 @@ use Rattle.source_law.specs.Counted.{tree_after, counted}
 use Rattle.source_law.specs.Synced.{Synced, unsaved, synced, saving}
 use Rattle.source_law.proofs.AfterLemmas.{Silent, stored_by, stored_after, silent_after, none_risen}
 use Rattle.source_law.proofs.LoadedLemmas.{sound_loaded}
-use Rattle.source_law.proofs.SavingLemmas.{SourcesKept, Pending, InView, kept_first, pending_first, pending_change, pending_committed, kept_synced, kept_beside, saved_silent, tree_saved}
+use Rattle.source_law.proofs.SavingLemmas.{SourcesKept, Pending, InView, kept_first, pending_first, pending_change, pending_committed, kept_synced, kept_beside, tree_saved}
 use Rattle.course.specs.Answering.{Continues, follow}
 use Rattle.ss_print.specs.Printing.{prints_synced}
 use Rattle.view_stages.specs.Open.{OpenValue, just_opened}
@@ -89,8 +89,7 @@ pub printed_append : (es fs : List Effect) → printed_by (es ++ fs) ≡ printed
 printed_append [] fs = refl
 printed_append (Write folder file bytes ∷ es) fs = printed_append es fs
 printed_append (Remove folder file ∷ es) fs = printed_append es fs
-printed_append (MakeFolder folder ∷ es) fs = printed_append es fs
-printed_append (RemoveFolder folder ∷ es) fs = printed_append es fs
+printed_append (Replace edits ∷ es) fs = printed_append es fs
 printed_append (Print bytes ∷ es) fs = ap (λ t. bytes ++ t) (printed_append es fs) ∙ sym (append_assoc bytes (printed_by es) (printed_by fs))
 
 -- a sync of files prints nothing
@@ -108,17 +107,19 @@ opening_silent d fs ns es = ap printed_by (append_assoc (written d fs) (removed 
 label_silent : (d : Text) (shape : Shape) (ts : TablesValue) (l : Text) (es : List Effect) → printed_by (label_synced d shape ts l ∷ es) ≡ printed_by es
 label_silent d shape ts l es = elim (table_of ts l) as (λ o. printed_by (option_map_or (λ t. Write d (file_name l) (table_text shape t)) o (Remove d (file_name l)) ∷ es) ≡ printed_by es) [ None ↦ refl | Some t ↦ refl ]
 
+labels_silent : (d : Text) (shape : Shape) (ts : TablesValue) (ls : List Text) (es : List Effect) → printed_by (map (label_synced d shape ts) ls ++ es) ≡ printed_by es
+labels_silent d shape ts [] es = refl
+labels_silent d shape ts (l ∷ ls) es = label_silent d shape ts l (map (label_synced d shape ts) ls ++ es) ∙ labels_silent d shape ts ls es
+
 sync_silent : (d : Text) (shape : Shape) (ts : TablesValue) (ls : List Text) (es : List Effect) → printed_by (later_sync d shape ts ls ++ es) ≡ printed_by es
-sync_silent d shape ts [] es = refl
-sync_silent d shape ts (l ∷ ls) es = label_silent d shape ts l (later_sync d shape ts ls ++ es) ∙ sync_silent d shape ts ls es
+sync_silent d shape ts ls es = labels_silent d shape ts (tables_first ts ls) es
 
 -- effects that print nothing
 silent : (es fs : List Effect) → AllByRecursion Silent es → printed_by (es ++ fs) ≡ printed_by fs
 silent [] fs h = refl
 silent (Write folder file bytes ∷ es) fs h = silent es fs h.1
 silent (Remove folder file ∷ es) fs h = silent es fs h.1
-silent (MakeFolder folder ∷ es) fs h = silent es fs h.1
-silent (RemoveFolder folder ∷ es) fs h = silent es fs h.1
+silent (Replace edits ∷ es) fs h = silent es fs h.1
 silent (Print bytes ∷ es) fs h = absurd h.0
 
 -- what effects leave of a store that was kept: it is kept for the view after them, and so many files and folders were written, made or removed
@@ -176,10 +177,13 @@ module _ (x : Text) where
   opening_in_view : (fs : List File) (names : List Text) → AllByRecursion (InView x) (opening_effects (view_folder x) fs names)
   opening_in_view fs names = both_in_view (opening_sync (view_folder x) fs names) _ (both_in_view (written (view_folder x) fs) (removed (view_folder x) (other_names fs names)) (written_in_view fs) (removed_in_view (other_names fs names))) (tt, tt)
 
+  labels_in_view : (shape : Shape) (ts : TablesValue) (ls : List Text) → AllByRecursion (InView x) (map (label_synced (view_folder x) shape ts) ls)
+  labels_in_view shape ts [] = tt
+  labels_in_view shape ts (l ∷ ls) =
+      (elim (table_of ts l) as (λ o. InView x (option_map_or (λ t. Write (view_folder x) (file_name l) (table_text shape t)) o (Remove (view_folder x) (file_name l)))) [ None ↦ refl | Some t ↦ refl ], labels_in_view shape ts ls)
+
   later_in_view : (shape : Shape) (ts : TablesValue) (ls : List Text) → AllByRecursion (InView x) (later_sync (view_folder x) shape ts ls)
-  later_in_view shape ts [] = tt
-  later_in_view shape ts (l ∷ ls) =
-      (elim (table_of ts l) as (λ o. InView x (option_map_or (λ t. Write (view_folder x) (file_name l) (table_text shape t)) o (Remove (view_folder x) (file_name l)))) [ None ↦ refl | Some t ↦ refl ], later_in_view shape ts ls)
+  later_in_view shape ts ls = labels_in_view shape ts (tables_first ts ls)
 
 view_in_view : (o : OpenValue) → AllByRecursion (InView o.session.query.view_db) (view_effects o)
 view_in_view o = both_in_view o.session.query.view_db (later_sync (view_folder o.session.query.view_db) (shape_of o.session.query) (tables_of o.session) o.session.changed.labels) _ (later_in_view o.session.query.view_db (shape_of o.session.query) (tables_of o.session) o.session.changed.labels) (tt, tt)
@@ -274,7 +278,7 @@ module _ (t : Tree) (c0 : CatalogueValue) (first : loaded t ≡ Ok c0) (whole : 
 
   -- the sources are saved
   abbrev saved_silently : AllByRecursion Silent (saving o.session)
-  saved_silently = saved_silent o.session.catalogue o.session.changed.databases o.session.changed.relations
+  saved_silently = (tt, tt)
 
   abbrev saved_store : Stored
   saved_store = stored_by (saving o.session) s

@@ -7,7 +7,7 @@ use Rattle.ss_text.specs.Texts.{Text, Row}
 use Rattle.tab_lines.specs.Spelling.{unspell, IsUnspelled}
 use Rattle.tab_lines.specs.declared.spelling.LineFault.{LineFault}
 use Rattle.tab_lines.specs.declared.spelling.LineFault.TheVariants.{BadEscape}
-use Rattle.effects.specs.Effects.{Effect, World, contents, performed, Does}
+use Rattle.effects.specs.Effects.{Effect, World, contents, performed, Does, Replace}
 use Rattle.effects.proofs.EffectLemmas.{performed_append, partly_later}
 use Rattle.effects.specs.declared.stop.Stop.{Stop}
 use Rattle.schema_model.specs.Changes.{after, after_all}
@@ -119,7 +119,7 @@ pub unread_view : (o n : OpenValue) (row fields : Row) (f : ChangeFault) → IsA
 unread_view o n row fields f h some g is = is ∙ ap (λ x. (by_change o row x).view) (unread (change_of row) f h some)
 
 -- what is saved of a session
-pub saves : (s : SessionState) (c : CatalogueValue) (dbs : List Text) (pairs : List Pair) → c ≡ s.catalogue → dbs ≡ s.changed.databases → pairs ≡ s.changed.relations → saving s ≡ saved c dbs pairs
+pub saves : (s : SessionState) (c : CatalogueValue) (dbs : List Text) (pairs : List Pair) → c ≡ s.catalogue → dbs ≡ s.changed.databases → pairs ≡ s.changed.relations → saving s ≡ Replace (saved c dbs pairs) ∷ []
 saves s c dbs pairs e f g = rw (e, f, g) refl
 
 -- effects behind others
