@@ -7,3 +7,5 @@ pub mod StandsLemmas
 pub mod LawLemmas
 pub mod PutLemmas
 pub mod SlotLemmas
+pub mod CodeLemmas
+pub mod StackLemmas

@@ -16,10 +16,6 @@ use Rattle.schema_model.specs.States.{CatalogueState, settled}
 use Rattle.view_stack.specs.Putting.{with_rows, rows_put, relations_put, CanTakeRows, CanTake}
 use Rattle.view_stack.specs.Stands.{spliced, records_of}
 
--- a catalogue that is settled over some list is so over its own
-pub settled_as : (c : CatalogueState) (d : CatalogueValue) → c ≡ settled d → c ≡ settled c.databases
-settled_as c d e = e ∙ ap settled (sym (ap (λ (x : CatalogueState). x.databases) e))
-
 module _ {A : Type 0} where
   item_at : (i : ℕ) (f : A → A) (xs : List A) (d : A) → i < length xs → slice_index_or (at_place i f xs) i d ≡ f (slice_index_or xs i d)
   item_at i f [] d lt = absurd (omega arith)

@@ -20,7 +20,7 @@ use Rattle.kept_tables.specs.Kept.{KeptTableValue}
 use Rattle.kept_tables.specs.declared.slot.Slot.{Slot}
 use Rattle.kept_tables.specs.Slots.{slot_label, table_there, tables_in}
 use Rattle.kept_tables.proofs.SlotLemmas.{either}
-use Rattle.kept_tables.proofs.ThereLemmas.{tables_more, none_there, one_there}
+use Rattle.kept_tables.proofs.ThereLemmas.{tables_more, one_there}
 use Rattle.schema_model.specs.Catalogue.{RelationValue, CatalogueValue, relation_value, database_value, relation_names, rows_in}
 use Rattle.schema_model.specs.Limits.{most_relations, most_attributes, most_rows}
 use Rattle.schema_model.specs.States.{CatalogueState, settled}
@@ -76,7 +76,7 @@ module _ (shape : Shape) where
       alone false = refl
 
 -- ---- rows
-pub rows_joined : (ts us : TablesValue) → row_total (ts ++ us) ≡ row_total ts + row_total us
+rows_joined : (ts us : TablesValue) → row_total (ts ++ us) ≡ row_total ts + row_total us
 rows_joined ts us = sum_by-append (λ (p : Text × TableValue). length p.1.rows) ts us
 
 pub more_rows : (ss : List Slot) (i : ℕ) (s : Slot) → i < length ss → s ≡ get_or ss i s → row_total (tables_in (take (i + 1) ss)) ≡ row_total (tables_in (take i ss)) + row_total (tables_in (s ∷ []))
@@ -100,17 +100,14 @@ module _ (db : Text) (shape : Shape) (ts : TablesValue) where
   relations_long : length (map (relation_for shape) ts) ≡ length ts
   relations_long = length-map ts (relation_for shape)
 
-  pub many_relations : most_relations < length ts → Some Relations ≡ first_limit (database_for db shape ts)
+  many_relations : most_relations < length ts → Some Relations ≡ first_limit (database_for db shape ts)
   many_relations h = rw (relations_long, lt-ltb most_relations (length ts) h) refl
 
-  pub many_attributes : length ts ≤ most_relations → some_wide shape ts ≡ true → Some Attributes ≡ first_limit (database_for db shape ts)
+  many_attributes : length ts ≤ most_relations → some_wide shape ts ≡ true → Some Attributes ≡ first_limit (database_for db shape ts)
   many_attributes few wide = rw (relations_long, le-ltb most_relations (length ts) few, wide) refl
 
-  pub many_rows : length ts ≤ most_relations → some_wide shape ts ≡ false → most_rows < row_total ts → Some Rows ≡ first_limit (database_for db shape ts)
+  many_rows : length ts ≤ most_relations → some_wide shape ts ≡ false → most_rows < row_total ts → Some Rows ≡ first_limit (database_for db shape ts)
   many_rows few narrow h = rw (relations_long, le-ltb most_relations (length ts) few, narrow, rows_of_database db shape ts, lt-ltb most_rows (row_total ts) h) refl
-
-  pub no_limit : length ts ≤ most_relations → some_wide shape ts ≡ false → row_total ts ≤ most_rows → None ≡ first_limit (database_for db shape ts)
-  no_limit few narrow h = rw (relations_long, le-ltb most_relations (length ts) few, narrow, rows_of_database db shape ts, le-ltb most_rows (row_total ts) h) refl
 
   -- each count is within its limit where there is none
   record IsWithin : Type 0 where

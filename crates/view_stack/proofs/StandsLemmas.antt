@@ -22,7 +22,7 @@ use Rattle.valuation_meaning.specs.Elements.{cell_under}
 use Rattle.valuation_meaning.specs.Meaning.{given}
 use Rattle.valuation_meaning.specs.Orders.{text_under, row_under, rows_under, SameRelation, SameRelations}
 use Rattle.view_stack.specs.Records.{text_of}
-use Rattle.view_stack.specs.Stands.{spliced, header, relation_for, stands}
+use Rattle.view_stack.specs.Stands.{spliced, header, relation_for, catalogue_for, stands}
 use Rattle.view_stack.proofs.SaysLemmas.{mark, none_marked, weigh, weigh_append, weigh_mapped, Distinct, Says, rows_by, says_by, cell_here, cell_later, cell_missing, bytes_same, same_bytes, same_rows, halves, in_append, and_second, not_true}
 use Rattle.view_stack.proofs.MovedLemmas.{AreSaid, whole}
 
@@ -34,7 +34,7 @@ cell_or false t = None
 one_more : (n : ℕ) → 1 + n ≡ suc n
 one_more n = omega arith
 
-first_there : (n : ℕ) → nat_lt 0 (suc n) ≡ true
+pub first_there : (n : ℕ) → nat_lt 0 (suc n) ≡ true
 first_there n = lt-ltb 0 (suc n) (omega arith)
 
 both_true : (a b : Bool) → (a ≡ true → b ≡ true) → (b ≡ true → a ≡ true) → a ≡ b
@@ -43,7 +43,7 @@ both_true true false f g = sym (f refl)
 both_true false true f g = g refl
 both_true false false f g = refl
 
-one_later : (p n : ℕ) → nat_lt (suc p) (suc n) ≡ nat_lt p n
+pub one_later : (p n : ℕ) → nat_lt (suc p) (suc n) ≡ nat_lt p n
 one_later p n = both_true (nat_lt (suc p) (suc n)) (nat_lt p n)
     (λ h. let l : suc p < suc n = ltb-true (suc p) (suc n) h in lt-ltb p n (omega (arith, l)))
     (λ h. let l : p < n = ltb-true p n h in lt-ltb (suc p) (suc n) (omega (arith, l)))
@@ -385,3 +385,11 @@ module _ (shape : Shape) (db : Text) where
 
   pub said_stands : (rs : List RelationValue) (ts : TablesValue) → AreTables ts → TablesFit shape ts → AreSaid shape.constants rs ts → stands db shape ts (whole db rs)
   said_stands rs ts order fit said = (record { name = refl; relations = all_same rs ts order.tables fit said }, tt)
+
+-- the catalogue of tables stands for them
+pub stands_itself : (db : Text) (shape : Shape) (ts : TablesValue) → stands db shape ts (catalogue_for db shape ts)
+stands_itself db shape ts = (record { name = refl; relations = each (map (relation_for shape) ts) }, tt)
+  where
+    each : (rs : List RelationValue) → SameRelations rs rs
+    each [] = tt
+    each (r ∷ rs) = (record { name = refl; attributes = λ f. refl; rows = λ names f. refl }, each rs)

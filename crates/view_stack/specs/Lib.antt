@@ -4,3 +4,4 @@ pub mod Putting
 pub mod Records
 pub mod Lifted
 pub mod Laws
+pub mod Stacks

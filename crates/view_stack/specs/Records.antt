@@ -9,6 +9,10 @@ use Rattle.flow_law.specs.declared.line.TableLine.TheVariants.{Cell}
 abbrev pub text_of : Row → TableValue → Row → Text → Text
 text_of constants t key name = if is_in name constants then cell_in constants key name else cell_of t key name
 
+-- the same by the columns and the cells of the key's row
+abbrev pub text_in : Row → Row → Row → Row → Text → Text
+text_in constants columns key cells name = if is_in name constants then cell_in constants key name else cell_in columns cells name
+
 -- the record of a key, in the order of attributes
 abbrev pub record_of : Row → Row → TableValue → Row → Row
 record_of constants attributes t key = map (text_of constants t key) attributes

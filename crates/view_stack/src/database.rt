@@ -12,7 +12,7 @@ ghost use Rattle.schema_model.specs.Limits.{most_attributes, most_rows};
 ghost use Rattle.schema_model.specs.States.{settled};
 ghost use Rattle.view_stack.specs.Limits.{first_limit, is_wide, row_total, IsLiftFault};
 ghost use Rattle.view_stack.specs.Putting.{rows_put, relations_put, CanTake, CanTakeRows};
-ghost use Rattle.view_stack.specs.Stands.{spliced, records_of, relation_for, database_for, catalogue_for};
+ghost use Rattle.view_stack.specs.Stands.{spliced, records_of, relation_for, database_for, catalogue_for, stands};
 
 use crate::LiftFault;
 use flow_law::Shape;
@@ -36,6 +36,7 @@ pub fn catalogue_of(
     requires order { AreTables tables.now.tables }
     requires fits { TablesFit shape.now tables.now.tables }
     ensures catalogue { IfOk result (λ c. c ≡ settled (catalogue_for view_db.now shape.now tables.now.tables)) }
+    ensures stands { IfOk result (λ c. stands view_db.now shape.now tables.now.tables c.databases) }
     ensures within { OnOk result (first_limit (database_for view_db.now shape.now tables.now.tables) ≡ None) }
     ensures refused { IfErr result (IsLiftFault (first_limit (database_for view_db.now shape.now tables.now.tables))) }
 {
