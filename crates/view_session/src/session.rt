@@ -346,7 +346,7 @@ impl Session {
         ensures script { IfOk result (λ lines. lines ≡ lines_to self.old (working self.old)) }
         ensures allowed { OnOk result (refusal (working self.old) self.old.query ≡ None) }
         ensures proposed { OnOk result (self.new ≡ proposing (closed self.old) (unwrap_or self.old.held [])) }
-        ensures refused { IfErr result (λ e. IsGroupStop (refusal (working self.old) self.old.query) e) }
+        ensures refused { IfErr result (λ e. IsFault (refusal (working self.old) self.old.query) e) }
         ensures closed { OnErr result (self.new ≡ closed self.old) }
         ensures rises { steps.old ≤ steps.new }
     {
