@@ -1,5 +1,5 @@
 -- From the opening of a view's folder and the lines behind it to a run of `apply`.
-use Rattle.std.proofs.Common.{◌≡◌, ◌≢◌, ℕ, true, List, [], Option, Some, refl, sym, ap, ◌∙◌, subst, inl, inr}
+use Rattle.std.proofs.Common.{◌≡◌, ◌≢◌, ℕ, true, false, List, [], Option, Some, refl, sym, ap, ◌∙◌, subst, inl, inr}
 use Rattle.std.specs.Prelude.{Bool, Result, Ok, Err, IfOk, IfErr, IsErrOf}
 use Rattle.outside.specs.States.{StoreState, SinkState}
 use Rattle.outside.specs.Reading.{OnlyRead}
