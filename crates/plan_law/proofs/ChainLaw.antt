@@ -2,16 +2,13 @@
 use Rattle.std.proofs.Common.{List, [], ◌∷◌, arith, subst}
 use Rattle.ss_text.specs.Texts.{Row}
 use Rattle.plan_law.specs.Chain.{Joint, Sides, SideMoves, joint_rows, joint_moves, chain, Keeps, EachMoved, Walks, Commits}
-use Rattle.plan_law.specs.Net.{SameNet}
+use Rattle.net_moves.specs.Net.{SameNet}
 use Rattle.operator_law.specs.Bags.{SameBag, MovesBag}
 use Rattle.operator_law.specs.declared.delta.Signed.{Signed}
+use Rattle.net_moves.proofs.NetLaw.{moves_net}
 use Rattle.join_delta.specs.Joined.{joined, joined_moves}
 use Rattle.operator_law.proofs.SignedRows.{moves_filtered}
 use Rattle.join_delta.proofs.Bilinear.{moves_joined_kept}
-
--- moves in net move as much
-pub moves_net : (xs ys : List Row) (ms ns : List Signed) → MovesBag xs ms ys → SameNet ms ns → MovesBag xs ns ys
-moves_net xs ys ms ns h same f = omega (arith, h f, same f)
 
 -- one stage
 pub joint_moved : (j : Joint) (k : Sides) (xs ys xs' ys' : List Row) (ms ns next : List Signed) → SameBag xs k.left → SameBag ys k.right → MovesBag xs ms xs' → MovesBag ys ns ys' → SameNet (joint_moves j k ms ns) next → MovesBag (joint_rows j xs ys) next (joint_rows j xs' ys')

@@ -1,7 +1,6 @@
 pub mod Kinds
 pub mod Columns
 pub mod Links
-pub mod Net
 pub mod Chain
 pub mod PlanRows
 pub mod PlanMoves

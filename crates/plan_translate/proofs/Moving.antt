@@ -8,7 +8,7 @@ use Rattle.view_def.specs.Profile.{IsViewOfProfile}
 use Rattle.schema_delta.specs.declared.spec.FlatSpec.{FlatSpec}
 use Rattle.operator_law.specs.declared.delta.Signed.{Signed}
 use Rattle.join_delta.specs.Joins.{JoinValue}
-use Rattle.plan_law.specs.Net.{SameNet, IsNet}
+use Rattle.net_moves.specs.Net.{SameNet, IsNet}
 use Rattle.plan_law.specs.Columns.{header}
 use Rattle.plan_law.specs.Chain.{Joint, Sides, SideMoves, Walks, AreNet, walk_pairs}
 use Rattle.plan_law.specs.PlanRows.{specs_from, plan_joints}
@@ -23,7 +23,8 @@ use Rattle.plan_translate.specs.Plans.{PlanValue, PlanMoveValue, query_in, Joins
 use Rattle.plan_translate.specs.PlanFields.{query_inside, seen, IsPlan}
 use Rattle.plan_translate.specs.Walked.{WalksOver, Walked}
 use Rattle.plan_translate.proofs.Bases.{FirstBase, first_base, plan_joints_with, specs_of}
-use Rattle.plan_translate.proofs.OwnMoves.{flat_nets, own_split}
+use Rattle.schema_delta.proofs.GroupLemmas.{flat_nets}
+use Rattle.plan_translate.proofs.OwnMoves.{own_split}
 
 read_two : (ss : List FlatSpec) → reads_rows ss ≡ true → length ss ≡ 2
 read_two [] read = absurd (cc read)

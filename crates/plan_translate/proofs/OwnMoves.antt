@@ -12,12 +12,11 @@ use Rattle.view_def.specs.Query.{Query}
 use Rattle.operator_law.specs.declared.delta.Signed.{Signed}
 use Rattle.schema_delta.specs.declared.spec.FlatSpec.{FlatSpec}
 use Rattle.schema_delta.specs.Flat.{flat, MovesBetween}
-use Rattle.plan_law.specs.Net.{SameNet, IsNet}
+use Rattle.net_moves.specs.Net.{SameNet, IsNet}
 use Rattle.plan_law.specs.Columns.{header}
 use Rattle.plan_law.specs.Links.{own_links, own_holds}
 use Rattle.plan_law.specs.Links as link
 use Rattle.plan_law.specs.PlanMoves.{own_moves, moves_from, first_moves, further_moves}
-use Rattle.plan_law.proofs.ChainLaw.{moves_net}
 use Rattle.plan_form.specs.declared.base.Equal.{Equal}
 use Rattle.plan_form.specs.Bases.{BaseValue, own_cells, equal_holds, base_form, bases_from}
 use Rattle.plan_form.proofs.Columns.{own_tested}
@@ -60,14 +59,6 @@ module _ (q : Query) (b : FirstBase q) where
       ap (λ (ts : List (List Equal)). each_passing ts nets) (are ∙ ap (map own_in) b.bases)
       ∙ subst (λ (ds : List Range). AreOwn q ds nets (each_passing (map own_in (base_form q [] 0 b.first ∷ bases_from q (header q 0 b.first) 1 b.rest)) nets)) (sym b.all) (own_first nets some)
 
-pub flat_nets : (c c' : CatalogueValue) (ss : List FlatSpec) (mss nss : List (List Signed)) → AllZip (MovesBetween c c') ss mss → AllZip SameNet mss nss → AllZip (MovesBetween c c') ss nss
-flat_nets c c' [] [] [] moved same = tt
-flat_nets c c' [] [] (ns ∷ nss) moved same = absurd same
-flat_nets c c' [] (ms ∷ mss) nss moved same = absurd moved
-flat_nets c c' (s ∷ ss) [] nss moved same = absurd moved
-flat_nets c c' (s ∷ ss) (ms ∷ mss) [] moved same = absurd same
-flat_nets c c' (s ∷ ss) (ms ∷ mss) (ns ∷ nss) moved same = (moves_net (flat c s) (flat c' s) ms ns moved.0 same.0, flat_nets c c' ss mss nss moved.1 same.1)
-
 -- and those that pass stay so
 filter_net : (comes p : Row → Bool) (ms : List Signed) → AllByRecursion (λ (m : Signed). comes m.row ≡ m.up) ms → AllByRecursion (λ (m : Signed). comes m.row ≡ m.up) (filter (λ (m : Signed). p m.row) ms)
 filter_net comes p [] h = tt
@@ -91,11 +82,6 @@ pub each_long : (tss : List (List Equal)) (mss : List (List Signed)) → length 
 each_long [] mss e = refl
 each_long (ts ∷ tss) [] e = absurd (omega (arith, e))
 each_long (ts ∷ tss) (ms ∷ mss) e = ap suc (each_long tss mss (omega (arith, e)))
-
--- ---- one more declaration
-pub all_push : {X : Type 0} (P : X → Type 0) (xs : List X) (x : X) → AllByRecursion P xs → P x → AllByRecursion P (xs ++ x ∷ [])
-all_push P [] x all one = (one, tt)
-all_push P (y ∷ xs) x all one = (all.0, all_push P xs x all.1 one)
 
 each_push : (tss : List (List Equal)) (mss : List (List Signed)) (ts : List Equal) (ms : List Signed) → length mss ≡ length tss
     → each_passing (tss ++ ts ∷ []) (mss ++ ms ∷ []) ≡ each_passing tss mss ++ passing ts ms ∷ []

@@ -2,7 +2,7 @@
 use Rattle.std.specs.Prelude.{◌≡◌, ◌+◌, ◌≤◌, ℕ, List, length}
 use Rattle.schema_model.specs.Catalogue.{CatalogueValue}
 use Rattle.view_def.specs.Query.{Query}
-use Rattle.plan_law.specs.Net.{SameNet, IsNet}
+use Rattle.net_moves.specs.Net.{SameNet, IsNet}
 use Rattle.plan_law.specs.Chain.{Sides, SideMoves, Walks, AreNet, walk_pairs}
 use Rattle.plan_law.specs.Laws.{IsWalk}
 use Rattle.plan_law.specs.PlanRows.{plan_joints}

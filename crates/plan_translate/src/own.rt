@@ -2,26 +2,14 @@
 ghost use Rattle.std.specs.Prelude.{◌≡◌, List, map, length, IfOk};
 ghost use Rattle.std.specs.List.{AllZip, AllByRecursion};
 ghost use Rattle.operator_law.specs.declared.delta.Signed.{Signed as SignedValue};
-ghost use Rattle.plan_law.specs.Net.{SameNet, IsNet};
+ghost use Rattle.net_moves.specs.Net.{SameNet, IsNet};
 ghost use Rattle.plan_translate.specs.Parts.{passing, each_passing, own_tests};
 
+use net_moves::each_net;
 use operator_law::Delta;
 use plan_form::{Equal, passes};
-use plan_walk::net;
 use ss_text::NoMemory;
 use std::alloc::Global;
-
-// The moves of each declaration, in net.
-fn nets(alloc: Global, deltas: Vec<Delta>) -> Result<Vec<Delta>, NoMemory>
-    ensures same { IfOk result (λ nets. AllZip SameNet deltas.items nets.items) }
-    ensures net { IfOk result (λ nets. AllByRecursion IsNet nets.items) }
-{
-    let mut nets = Vec::with_capacity(alloc, deltas.len())?;
-    for delta in deltas {
-        nets.push(net(alloc, delta)?)?;
-    }
-    Ok(nets)
-}
 
 // The moves of rows that pass.
 fn passing(alloc: Global, tests: &[Equal], delta: Delta) -> Result<Delta, NoMemory>
@@ -64,7 +52,7 @@ pub(crate) fn own_moves(
     ensures net { IfOk result (λ own. AllByRecursion IsNet own.items) }
     ensures each { IfOk result (λ own. length own.items ≡ length tests.now) }
 {
-    let nets = nets(alloc, deltas)?;
+    let nets = each_net(alloc, deltas)?;
     let own = each_passing(alloc, tests, nets)?;
     Ok(own)
 }

@@ -3,7 +3,7 @@ ghost use Rattle.std.specs.Prelude.{◌≡◌, ◌≤◌, ◌∷◌, [], true, L
 ghost use Rattle.std.specs.List.{AllZip, AllByRecursion};
 ghost use Rattle.schema_model.specs.Catalogue.{CatalogueValue};
 ghost use Rattle.operator_law.specs.declared.delta.Signed.{Signed as SignedValue};
-ghost use Rattle.plan_law.specs.Net.{SameNet, IsNet};
+ghost use Rattle.net_moves.specs.Net.{SameNet, IsNet};
 ghost use Rattle.plan_law.specs.Chain.{AreNet};
 ghost use Rattle.plan_law.specs.PlanRows.{specs_from, plan_joints};
 ghost use Rattle.plan_law.specs.PlanMoves.{first_moves, further_moves};

@@ -1,4 +1,2 @@
-pub mod Cancelled
-pub mod Leftover
 pub mod Stages
 pub mod ChainFilled

@@ -6,7 +6,7 @@ use Rattle.operator_law.specs.declared.delta.Signed.{Signed}
 use Rattle.operator_law.specs.Bags.{SameBag, come, go}
 use Rattle.join_delta.specs.Joined.{joined_moves, pairs_right, pairs_left}
 use Rattle.join_delta.specs.Joins.{JoinValue}
-use Rattle.plan_law.specs.Net.{SameNet, IsNet}
+use Rattle.net_moves.specs.Net.{SameNet, IsNet}
 use Rattle.plan_law.specs.Chain.{Joint, Sides, SideMoves, joint_moves, Walks, AreNet, walk_pairs}
 use Rattle.plan_walk.specs.Stages.{joint_in, sides_in, side_moves}
 

@@ -1,3 +1,2 @@
-pub mod Cancelled
 pub mod Stages
 pub mod Fills

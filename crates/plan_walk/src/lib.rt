@@ -1,16 +1,12 @@
 //! How moves walk through a chain of joins.
 //!
-//! Its contract: `net` takes out what comes and goes again, and `walk` gives the moves of both sides of each join and
-//! those that come out of the last one, whose steps are at most the pairs of a move and a kept row. `filled` fills the
-//! joins by rows that are all given at once, of which what the last one gives is not made. It knows nothing of
-//! catalogues, of views or of facts.
+//! Its contract: `walk` gives the moves of both sides of each join and those that come out of the last one, whose steps
+//! are at most the pairs of a move and a kept row. `filled` fills the joins by rows that are all given at once, of which
+//! what the last one gives is not made. It knows nothing of catalogues, of views or of facts.
 #![tactic(auto)]
 
-mod cancel;
 mod fills;
-mod nets;
 mod walks;
 
 pub use fills::filled;
-pub use nets::net;
 pub use walks::{WalkMoves, walk};

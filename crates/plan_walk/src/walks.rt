@@ -3,12 +3,12 @@ ghost use Rattle.std.specs.Prelude.{◌≡◌, ◌+◌, ◌≤◌, ◌∷◌, []
 ghost use Rattle.std.specs.List.{AllByRecursion};
 ghost use Rattle.operator_law.specs.Bags.{SameBag};
 ghost use Rattle.join_delta.specs.Joined.{matches, joined_moves, pairs_right, pairs_left};
-ghost use Rattle.plan_law.specs.Net.{SameNet, IsNet};
+ghost use Rattle.net_moves.specs.Net.{SameNet, IsNet};
 ghost use Rattle.plan_law.specs.Chain.{Walks, AreNet, joint_moves, walk_pairs};
 ghost use Rattle.plan_walk.specs.Stages.{joint_in, sides_in, side_moves};
 
-use crate::nets::net;
 use join_delta::Join;
+use net_moves::net;
 use operator_law::{Delta, Operator};
 use ss_text::{NoMemory, Steps};
 use std::alloc::Global;

@@ -13,6 +13,8 @@ use Rattle.schema_model.specs.declared.change.Change.{Change}
 use Rattle.schema_model.specs.declared.refusal.Refusal.{Refusal}
 use Rattle.operator_law.specs.declared.delta.Signed.{Signed}
 use Rattle.operator_law.proofs.SignedRows.{stays, moves_on}
+use Rattle.net_moves.specs.Net.{SameNet}
+use Rattle.net_moves.proofs.NetLaw.{moves_net}
 use Rattle.schema_delta.specs.Flat.{flat, MovesBetween}
 use Rattle.schema_delta.specs.declared.spec.FlatSpec.{FlatSpec}
 
@@ -47,6 +49,15 @@ module _ (p q : CatalogueValue) (specs : List FlatSpec) (olds alls : List (List 
       let parts = zip_last (MovesBetween c p) (take n specs) olds s old (subst (λ (ss : List FlatSpec). AllZip (MovesBetween c p) ss (olds ++ old ∷ [])) front h) in
       let one : MovesBetween c q s all = subst (MovesBetween c q s) (sym is) (moves_on (flat c s) (flat p s) (flat q s) old more parts.1 moved) in
       subst (λ (ss : List FlatSpec). AllZip (MovesBetween c q) ss (alls ++ all ∷ [])) (sym front) (all_zipped_more (MovesBetween c q) (take n specs) alls s all (behind c parts.0) one)
+
+-- moves in net take the flat rows as far
+pub flat_nets : (c c' : CatalogueValue) (ss : List FlatSpec) (mss nss : List (List Signed)) → AllZip (MovesBetween c c') ss mss → AllZip SameNet mss nss → AllZip (MovesBetween c c') ss nss
+flat_nets c c' [] [] [] moved same = tt
+flat_nets c c' [] [] (ns ∷ nss) moved same = absurd same
+flat_nets c c' [] (ms ∷ mss) nss moved same = absurd moved
+flat_nets c c' (s ∷ ss) [] nss moved same = absurd moved
+flat_nets c c' (s ∷ ss) (ms ∷ mss) [] moved same = absurd same
+flat_nets c c' (s ∷ ss) (ms ∷ mss) (ns ∷ nss) moved same = (moves_net (flat c s) (flat c' s) ms ns moved.0 same.0, flat_nets c c' ss mss nss moved.1 same.1)
 
 -- no refusal at all
 neither : (a b : Option Refusal) → option_or a b ≡ None → (a ≡ None) × (b ≡ None)

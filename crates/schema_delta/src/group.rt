@@ -4,12 +4,14 @@ ghost use Rattle.std.specs.List.{AllByRecursion, AllZip, list_all};
 ghost use Rattle.schema_model.specs.Catalogue.{CatalogueValue};
 ghost use Rattle.schema_model.specs.Changes.{after, is_well_formed};
 ghost use Rattle.schema_model.specs.Refusals.{fault, group_fault};
+ghost use Rattle.net_moves.specs.Net.{SameNet};
 ghost use Rattle.schema_delta.specs.Flat.{MovesBetween, MovesGroup};
 ghost use Rattle.schema_delta.specs.OneRow.{is_of_rows};
 
 use crate::FlatSpec;
 use crate::changes::flat_change;
 use crate::one_row::{is_of_rows, rows_change};
+use net_moves::each_net;
 use operator_law::Delta;
 use schema_model::{Catalogue, Change};
 use ss_text::{NoMemory, Steps};
@@ -18,7 +20,7 @@ use std::sync::ledger::Ledger;
 
 /// How changes move the flat rows of each declaration, of which none is refused behind those before it. The catalogue
 /// stays. Where all insert or delete rows none is copied; else its states between are those of a copy, in which the
-/// changes are made.
+/// changes are made, and what comes and goes again is taken out on the way.
 pub fn flat_group<L: Ledger>(
     alloc: Global,
     catalogue: &Catalogue,
@@ -36,9 +38,11 @@ pub fn flat_group<L: Ledger>(
     }
     let mut present = catalogue.copy()?;
     let mut deltas = no_moves(alloc, specs)?;
+    let mut in_net = 0;
     for change in changes {
-        deltas = moved_on(alloc, &present, change, specs, deltas, steps)?;
+        let all = moved_on(alloc, &present, change, specs, deltas, steps)?;
         make(&mut present, change)?;
+        deltas = thinned(alloc, all, &mut in_net)?;
     }
     Ok(deltas)
 }
@@ -121,6 +125,38 @@ fn moved_on<L: Ledger>(
         all.push(delta.followed_by(more)?)?;
     }
     Ok(all)
+}
+
+// The moves of each declaration in net, where they are twice as many as those that were last in net, or as those of the
+// first change. So they are made net no more often than they double.
+#[tactic(auto, using(net_moves::proofs::NetLaw::each_same))]
+fn thinned(
+    alloc: Global,
+    deltas: Vec<Delta>,
+    in_net: &mut usize,
+) -> Result<Vec<Delta>, NoMemory>
+    ensures { IfOk result (λ same. AllZip SameNet deltas.items same.items) }
+{
+    let moves = count(&deltas);
+    if *in_net == 0 {
+        *in_net = moves;
+        return Ok(deltas);
+    }
+    if moves <= in_net.saturating_mul(2) {
+        return Ok(deltas);
+    }
+    let nets = each_net(alloc, deltas)?;
+    *in_net = count(&nets);
+    Ok(nets)
+}
+
+// How many moves there are.
+fn count(deltas: &[Delta]) -> usize {
+    let mut moves = 0usize;
+    for delta in deltas {
+        moves = moves.saturating_add(delta.moves.len());
+    }
+    moves
 }
 
 // Makes a change that is not refused.

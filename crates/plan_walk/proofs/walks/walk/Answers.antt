@@ -5,7 +5,7 @@ use Rattle.std.proofs.lemmas.Iterator.Adapters.{YieldsList-from_vec}
 use Rattle.std.proofs.lemmas.Iterator.Consumers.{YieldsList-turn, YieldsList-end}
 use Rattle.operator_law.specs.declared.delta.Signed.{Signed}
 use Rattle.join_delta.specs.Joins.{JoinValue}
-use Rattle.plan_law.specs.Net.{IsNet}
+use Rattle.net_moves.specs.Net.{IsNet}
 use Rattle.plan_law.specs.Chain.{Walks, walk_pairs}
 use Rattle.plan_walk.specs.Stages.{joint_in, sides_in, side_moves}
 use Rattle.plan_walk.proofs.Stages.{walks_on, pairs_on, nets_on, long_on, all_last}

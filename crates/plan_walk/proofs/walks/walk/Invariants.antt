@@ -1,6 +1,6 @@
 use Rattle.std.proofs.Common.{◌≡◌, ◌+◌, ◌≤◌, length, map, take}
 use Rattle.std.specs.List.{AllByRecursion}
-use Rattle.plan_law.specs.Net.{IsNet}
+use Rattle.net_moves.specs.Net.{IsNet}
 use Rattle.plan_law.specs.Chain.{Walks, AreNet, walk_pairs}
 use Rattle.plan_walk.specs.Stages.{joint_in, sides_in, side_moves}
 use Rattle.plan_walk.proofs.walks.walk.Given as goal

@@ -6,7 +6,7 @@ use Rattle.schema_model.specs.States.{CatalogueState}
 use Rattle.schema_model.specs.declared.change.Change.{Change}
 use Rattle.operator_law.specs.declared.delta.Signed.{Signed}
 use Rattle.schema_delta.specs.Flat.{MovesBetween}
-use Rattle.schema_delta.proofs.GroupLemmas.{IsLeft, all_stay, can_make, one_made, all_made}
+use Rattle.schema_delta.proofs.GroupLemmas.{IsLeft, all_stay, can_make, one_made, all_made, flat_nets}
 use Rattle.schema_delta.proofs.group.flat_group.Goals as goal
 
 pub loop-change-init : goal.loop-change-init
@@ -40,11 +40,12 @@ loop-change-preserved g c =
     let base : CatalogueValue = c.args.catalogue.now.databases in
     let more : c.loop-change.change-index < length c.args.changes.now = omega arith in
     let made = sym c.in_ok-make.ensures in
+    let moved = subst (λ (k : CatalogueValue). AllZip (MovesBetween base k) c.args.specs.now c.in_ok-all.all.items) made (c.in_ok-all.ensures.moved base c.loop-change.invariant.moved) in
     record {
-      moved = subst (λ (k : CatalogueValue). AllZip (MovesBetween base k) c.args.specs.now c.in_ok-deltas-2.deltas.items) made (c.in_ok-deltas-2.ensures.moved base c.loop-change.invariant.moved);
+      moved = flat_nets base _ c.args.specs.now c.in_ok-all.all.items c.in_ok-deltas-2.deltas.items moved c.in_ok-deltas-2.ensures;
       left = subst (λ (k : CatalogueValue). IsLeft base c.args.changes.now k (c.loop-change.change-index + 1)) made
           (one_made base c.args.changes.now c.loop-change.present.databases c.loop-change.change-index c.loop-change.invariant.left c.change-item.result more c.change-item.is);
-      counted = c.in_ok-deltas-2.ensures.steps ∙ c.loop-change.invariant.counted;
+      counted = c.in_ok-all.ensures.steps ∙ c.loop-change.invariant.counted;
     }
 
 pub returns-clause-moved : goal.returns-clause-moved

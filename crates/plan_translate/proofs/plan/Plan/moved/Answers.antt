@@ -1,7 +1,7 @@
 use Rattle.std.proofs.Common.{◌≡◌, List, Bool, cond, length, map, ap, sym, ◌∙◌, subst}
 use Rattle.std.proofs.lemmas.List.{length-map}
 use Rattle.operator_law.specs.declared.delta.Signed.{Signed}
-use Rattle.plan_law.specs.Net.{SameNet}
+use Rattle.net_moves.specs.Net.{SameNet}
 use Rattle.plan_law.specs.Chain.{SideMoves}
 use Rattle.plan_law.specs.PlanRows.{plan_joints}
 use Rattle.plan_law.specs.PlanMoves.{fact_moves}

@@ -1,6 +1,6 @@
 use Rattle.std.proofs.Common.{◌≡◌, List, length, arith, ap, sym, ◌∙◌}
 use Rattle.operator_law.specs.declared.delta.Signed.{Signed}
-use Rattle.plan_law.specs.Net.{SameNet}
+use Rattle.net_moves.specs.Net.{SameNet}
 use Rattle.plan_translate.specs.Parts.{own_tests, each_passing}
 use Rattle.plan_translate.proofs.Each.{zip_long}
 use Rattle.plan_translate.proofs.Moving.{tests_in, joins_long, joined_in, split_in}

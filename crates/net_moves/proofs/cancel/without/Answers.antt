@@ -6,8 +6,8 @@ use Rattle.ss_text.specs.Texts.{Row}
 use Rattle.operator_law.specs.Bags.{weigh, is}
 use Rattle.operator_law.proofs.Weights.{weigh-push}
 use Rattle.join_delta.specs.Walks.{rows_of}
-use Rattle.plan_walk.proofs.Cancelled.{left_over}
-use Rattle.plan_walk.proofs.cancel.without.Goals as goal
+use Rattle.net_moves.proofs.Cancelled.{left_over}
+use Rattle.net_moves.proofs.cancel.without.Goals as goal
 
 pub loop-row-preserved : goal.loop-row-preserved
 loop-row-preserved c = record {

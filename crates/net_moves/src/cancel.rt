@@ -4,7 +4,7 @@ ghost use Rattle.ss_text.specs.Texts.{Row as RowValue};
 ghost use Rattle.row_links.specs.Live.{LinkedRows};
 ghost use Rattle.operator_law.specs.Bags.{weigh, is};
 ghost use Rattle.join_delta.specs.Walks.{rows_of};
-ghost use Rattle.plan_walk.specs.Cancelled.{Apart};
+ghost use Rattle.net_moves.specs.Cancelled.{Apart};
 
 use row_links::Linked;
 use ss_text::{NoMemory, Row};

@@ -1,6 +1,6 @@
 use Rattle.std.specs.List.{AllZip, AllByRecursion}
-use Rattle.plan_law.specs.Net.{SameNet, IsNet}
-use Rattle.plan_translate.proofs.own.nets.Given as goal
+use Rattle.net_moves.specs.Net.{SameNet, IsNet}
+use Rattle.net_moves.proofs.nets.each_net.Given as goal
 
 abbrev pub invariant-loop-delta : goal.invariant-loop-delta
 invariant-loop-delta l = record {

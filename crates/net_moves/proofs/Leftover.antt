@@ -10,8 +10,8 @@ use Rattle.operator_law.proofs.Counts.{moves_from_counts}
 use Rattle.operator_law.proofs.SignedRows.{come-append, go-append, come-up, go-up, come-down, go-down}
 use Rattle.join_delta.specs.Ready.{ups_of, downs_of}
 use Rattle.join_delta.proofs.Moved.{come_ups, go_downs}
-use Rattle.plan_law.specs.Net.{SameNet, IsNet}
-use Rattle.plan_walk.proofs.Cancelled.{is_self}
+use Rattle.net_moves.specs.Net.{SameNet, IsNet}
+use Rattle.net_moves.proofs.Cancelled.{is_self}
 
 -- moves that all come, or all go
 pub ups_net : (ms : List Signed) → list_all (λ (m : Signed). m.up) ms ≡ true → IsNet ms

@@ -1,8 +1,8 @@
 use Rattle.std.proofs.Common.{◌≡◌, ◌∙◌, List, true, not, sym, subst}
 use Rattle.std.specs.List.{list_all}
 use Rattle.operator_law.specs.declared.delta.Signed.{Signed}
-use Rattle.plan_walk.proofs.Leftover.{ups_net, downs_net}
-use Rattle.plan_walk.proofs.nets.net.Goals as goal
+use Rattle.net_moves.proofs.Leftover.{ups_net, downs_net}
+use Rattle.net_moves.proofs.nets.net.Goals as goal
 
 pub returns-then-all_come-clause-net : goal.returns-then-all_come-clause-net
 returns-then-all_come-clause-net c =

@@ -1,7 +1,7 @@
 use Rattle.std.proofs.Common.{◌∙◌, ap, sym}
 use Rattle.row_links.specs.Live.{LinkedRows}
-use Rattle.plan_walk.proofs.Cancelled.{taken_all, taken_apart, kept_all, kept_apart}
-use Rattle.plan_walk.proofs.cancel.keep.Goals as goal
+use Rattle.net_moves.proofs.Cancelled.{taken_all, taken_apart, kept_all, kept_apart}
+use Rattle.net_moves.proofs.cancel.keep.Goals as goal
 
 pub returns-then-take_first-clause-all : goal.returns-then-take_first-clause-all
 returns-then-take_first-clause-all c =

@@ -1,11 +1,11 @@
 //! Moves in net.
 ghost use Rattle.std.specs.Prelude.{◌≡◌, ◌-◌, not, IfOk};
 ghost use Rattle.ss_text.specs.Texts.{Row as RowValue};
-ghost use Rattle.std.specs.List.{list_all};
+ghost use Rattle.std.specs.List.{list_all, AllZip, AllByRecursion};
 ghost use Rattle.operator_law.specs.Bags.{weigh, is};
 ghost use Rattle.join_delta.specs.Ready.{ups_of, downs_of};
 ghost use Rattle.operator_law.specs.declared.delta.Signed.{Signed as SignedValue};
-ghost use Rattle.plan_law.specs.Net.{SameNet, IsNet};
+ghost use Rattle.net_moves.specs.Net.{SameNet, IsNet};
 
 use crate::cancel::without;
 use join_delta::rows_of_moves;
@@ -71,4 +71,16 @@ pub fn net(alloc: Global, delta: Delta) -> Result<Delta, NoMemory>
     }
     let net = cancelled(alloc, &delta.moves)?;
     Ok(net)
+}
+
+/// Each of these moves in net.
+pub fn each_net(alloc: Global, deltas: Vec<Delta>) -> Result<Vec<Delta>, NoMemory>
+    ensures same { IfOk result (λ nets. AllZip SameNet deltas.items nets.items) }
+    ensures net { IfOk result (λ nets. AllByRecursion IsNet nets.items) }
+{
+    let mut nets = Vec::with_capacity(alloc, deltas.len())?;
+    for delta in deltas {
+        nets.push(net(alloc, delta)?)?;
+    }
+    Ok(nets)
 }

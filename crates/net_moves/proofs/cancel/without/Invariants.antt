@@ -2,8 +2,8 @@ use Rattle.std.proofs.Common.{◌≡◌, ◌+◌}
 use Rattle.ss_text.specs.Texts.{Row}
 use Rattle.operator_law.specs.Bags.{weigh, is}
 use Rattle.join_delta.specs.Walks.{rows_of}
-use Rattle.plan_walk.specs.Cancelled.{Apart}
-use Rattle.plan_walk.proofs.cancel.without.Given as goal
+use Rattle.net_moves.specs.Cancelled.{Apart}
+use Rattle.net_moves.proofs.cancel.without.Given as goal
 
 abbrev pub invariant-loop-row : goal.invariant-loop-row
 invariant-loop-row l = record {

@@ -9,7 +9,7 @@ use Rattle.operator_law.proofs.Weights.{weigh-push}
 use Rattle.operator_law.proofs.Counts.{row_eq-Decides}
 use Rattle.join_delta.specs.Walks.{rows_of}
 use Rattle.join_delta.proofs.Moved.{weigh_taken}
-use Rattle.plan_walk.specs.Cancelled.{Apart}
+use Rattle.net_moves.specs.Cancelled.{Apart}
 
 is_same : (r x : Row) → 0 < is r x → r ≡ x
 is_same r x h = one (row_eq r x) refl h

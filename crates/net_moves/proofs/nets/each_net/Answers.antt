@@ -2,9 +2,9 @@ use Rattle.std.proofs.Common.{◌≡◌, List, [], ◌∷◌, ◌++◌, subst, s
 use Rattle.std.specs.List.{AllZip, AllByRecursion}
 use Rattle.std.proofs.lemmas.Slice.Zip.{all_zipped_more}
 use Rattle.operator_law.specs.declared.delta.Signed.{Signed}
-use Rattle.plan_law.specs.Net.{SameNet, IsNet}
-use Rattle.plan_translate.proofs.OwnMoves.{all_push}
-use Rattle.plan_translate.proofs.own.nets.Goals as goal
+use Rattle.net_moves.specs.Net.{SameNet, IsNet}
+use Rattle.ss_text.proofs.PlaceLemmas.{each_last}
+use Rattle.net_moves.proofs.nets.each_net.Goals as goal
 
 pub loop-delta-preserved : goal.loop-delta-preserved
 loop-delta-preserved c =
@@ -15,5 +15,5 @@ loop-delta-preserved c =
     let pushed : nets ++ net ∷ [] ≡ c.push.new.self.items = sym {A = List (List Signed)} c.in_ok-push.ensures.items in
     record {
       same = subst (AllZip SameNet (olds ++ delta ∷ [])) pushed (all_zipped_more SameNet olds nets delta net c.loop-delta.invariant.same c.in_ok-net.ensures.same);
-      net = subst (AllByRecursion IsNet) pushed (all_push IsNet nets net c.loop-delta.invariant.net c.in_ok-net.ensures.net);
+      net = subst (AllByRecursion IsNet) pushed (each_last IsNet nets net c.loop-delta.invariant.net c.in_ok-net.ensures.net);
     }

@@ -1,0 +1,3 @@
+pub mod NetLaw
+pub mod Cancelled
+pub mod Leftover
