@@ -130,11 +130,7 @@ fn moved_on<L: Ledger>(
 // The moves of each declaration in net, where they are twice as many as those that were last in net, or as those of the
 // first change. So they are made net no more often than they double.
 #[tactic(auto, using(net_moves::proofs::NetLaw::each_same))]
-fn thinned(
-    alloc: Global,
-    deltas: Vec<Delta>,
-    in_net: &mut usize,
-) -> Result<Vec<Delta>, NoMemory>
+fn thinned(alloc: Global, deltas: Vec<Delta>, in_net: &mut usize) -> Result<Vec<Delta>, NoMemory>
     ensures { IfOk result (λ same. AllZip SameNet deltas.items same.items) }
 {
     let moves = count(&deltas);
