@@ -11,8 +11,6 @@ mod applied;
 #[cfg(test)]
 mod commands;
 #[cfg(test)]
-mod endless;
-#[cfg(test)]
 mod failing;
 #[cfg(test)]
 mod grouped;

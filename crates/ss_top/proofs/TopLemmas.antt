@@ -125,18 +125,18 @@ module _ (words : List Text) (old new : World) (r : Result Verdict Halt) where
     pub leaves_between : RanSomehow → RanTold → LeavesBetween words input old new
     leaves_between some ran t d told asked = did_leave (asked_of words) t d input rest old new r told (some t d (λ _. told) asked) (λ bytes given. ran t bytes d (λ _. told) (λ _. given) asked)
 
-    -- and what the command took of it
-    module _ (last : Option (List ℕ)) where
-      abbrev Taken : (Course → List ℕ → Type 0) → Type 0
-      Taken P = (t : Tree) (bytes : List ℕ) (d : DefinitionOrRefusal) → Told (uses_store (asked_of words)) old.store.tree t → reads_input (asked_of words) ≡ true → input ≡ Some bytes → IsAsked (asked_of words) t d → P (course_of (asked_of words) t d) bytes
+-- and what it took of its input
+module _ (words : List Text) (old : World) (r : Result Verdict Halt) (input rest last : Option (List ℕ)) where
+  abbrev Taken : (Course → List ℕ → Type 0) → Type 0
+  Taken P = (t : Tree) (bytes : List ℕ) (d : DefinitionOrRefusal) → Told (uses_store (asked_of words)) old.store.tree t → reads_input (asked_of words) ≡ true → input ≡ Some bytes → IsAsked (asked_of words) t d → P (course_of (asked_of words) t d) bytes
 
-      pub takes_little : Taken (λ c bytes. IfErr r (λ h. Took c bytes rest last old new (is_too_long h))) → TakesLittle words input rest last old new (status_of r)
-      takes_little taken c bytes has reads given fault =
-          subst (λ (x : Course). Took x bytes rest last old new (is_long_status (status_of r))) (sym has.is.course) (by_fault r (Took (course_of (asked_of words) has.tree has.is.definition) bytes rest last old new) (taken has.tree bytes has.is.definition has.told reads given has.is.asked) fault)
+  pub takes_little : (new : World) → Taken (λ c bytes. IfErr r (λ h. Took c bytes rest last old new (is_too_long h))) → TakesLittle words input rest last old new (status_of r)
+  takes_little new taken c bytes has reads given fault =
+      subst (λ (x : Course). Took x bytes rest last old new (is_long_status (status_of r))) (sym has.is.course) (by_fault r (Took (course_of (asked_of words) has.tree has.is.definition) bytes rest last old new) (taken has.tree bytes has.is.definition has.told reads given has.is.asked) fault)
 
-      pub takes_enough : Taken (λ c bytes. IfOk r (λ v. TookEnough c bytes rest last)) → TakesEnough words input rest last old (status_of r)
-      takes_enough taken c bytes has reads given ended =
-          subst (λ (x : Course). TookEnough x bytes rest last) (sym has.is.course) (by_end r (TookEnough (course_of (asked_of words) has.tree has.is.definition) bytes rest last) (taken has.tree bytes has.is.definition has.told reads given has.is.asked) ended)
+  pub takes_enough : Taken (λ c bytes. IfOk r (λ v. TookEnough c bytes rest last)) → TakesEnough words input rest last old (status_of r)
+  takes_enough taken c bytes has reads given ended =
+      subst (λ (x : Course). TookEnough x bytes rest last) (sym has.is.course) (by_end r (TookEnough (course_of (asked_of words) has.tree has.is.definition) bytes rest last) (taken has.tree bytes has.is.definition has.told reads given has.is.asked) ended)
 
 -- a run whose course reads no input
 pub alone_by : (words : List Text) (w : World) (P : Type 0) → ((t : Tree) (d : DefinitionOrRefusal) → Told (uses_store (asked_of words)) w.store.tree t → IsAsked (asked_of words) t d → (course_of (asked_of words) t d).reads ≡ false → P) → (c : Course) → Has words w c → c.reads ≡ false → P

@@ -59,10 +59,10 @@ pub returns-clause-between : goal.returns-clause-between
 returns-clause-between g c = leaves_between c.args.words.now _ _ c.run_command-ending.result _ _ (rw c.command_of-command.ensures at c.run_command-ending.ensures.some) (rw c.command_of-command.ensures at c.run_command-ending.ensures.ran)
 
 pub returns-clause-took : goal.returns-clause-took
-returns-clause-took g c = rw c.status_of_ending.ensures (takes_little c.args.words.now _ _ c.run_command-ending.result _ _ _ (rw c.command_of-command.ensures at c.run_command-ending.ensures.took))
+returns-clause-took g c = rw c.status_of_ending.ensures (takes_little c.args.words.now _ c.run_command-ending.result _ _ _ _ (rw c.command_of-command.ensures at c.run_command-ending.ensures.took))
 
 pub returns-clause-enough : goal.returns-clause-enough
-returns-clause-enough g c = rw c.status_of_ending.ensures (takes_enough c.args.words.now _ _ c.run_command-ending.result _ _ _ (rw c.command_of-command.ensures at c.run_command-ending.ensures.enough))
+returns-clause-enough g c = rw c.status_of_ending.ensures (takes_enough c.args.words.now _ c.run_command-ending.result _ _ _ (rw c.command_of-command.ensures at c.run_command-ending.ensures.enough))
 
 pub returns-clause-alone : goal.returns-clause-alone
 returns-clause-alone g c = alone_by c.args.words.now _ _ (rw c.command_of-command.ensures at c.run_command-ending.ensures.alone)
