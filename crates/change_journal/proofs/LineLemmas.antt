@@ -7,7 +7,7 @@ use Rattle.disk.specs.Disk.{Content, MayLeave}
 use Rattle.change_journal.specs.Spelled.{Group, spelled, said_by_lines, group_of}
 use Rattle.change_journal.specs.Entries.{Reading, number_of, sized_group, entry_behind, with_group, read_entry, read_from, read_journal, only_groups, entries}
 use Rattle.change_journal.specs.Journals.{AllHave}
-use Rattle.change_journal.specs.Lines.{lines_in, read_lines}
+use Rattle.change_journal.specs.Lines.{lines_in, read_lines, LinesTellGroups}
 use Rattle.change_journal.proofs.Spellings.{parts_clear, lines_spelled}
 use Rattle.change_journal.proofs.Appends.{self_image}
 
@@ -89,8 +89,7 @@ same_groups (group ∷ groups) (other ∷ others) h k e =
     ap (λ (g : Group). g ∷ groups) same ∙ ap (λ (gs : List Group). other ∷ gs) more
 
 -- where every crash image has these lines, all have the same groups
-pub all_have : (content : Option Content) (es : List (List (List ℕ))) → ((held : Content) → content ≡ Some held → held.stable ≤ length held.bytes) → ((image : List ℕ) → MayLeave content image → read_lines (entries image) ≡ Some es)
-    → (groups : List Group) × (lines_in groups ≡ es) × AllHave groups content
+pub all_have : LinesTellGroups
 all_have None es whole all = let none : read_lines (entries []) ≡ Some es = all [] tt in absurd (cc none)
 all_have (Some held) es whole all = by_own (entries held.bytes) refl
   where

@@ -5,6 +5,8 @@
 //! catalogues or of views.
 #![tactic(auto)]
 
+ghost use Rattle.change_journal.specs.Lines.{LinesTellGroups};
+
 mod entries;
 mod fault;
 mod journal;
@@ -16,3 +18,8 @@ mod window;
 pub use entries::{Entries, NextEntry};
 pub use fault::JournalFault;
 pub use journal::Journal;
+
+/// Journals whose entries have the same lines have the same groups: so a run that knows of lines alone keeps groups.
+pub fn lines_tell_groups()
+    ensures { LinesTellGroups }
+{}
