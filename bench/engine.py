@@ -17,7 +17,7 @@ PROGRAM = HERE.parent / "build" / "engine_bench"
 FEW = 1_000
 MANY = 999_000
 
-# So many changes come first, by which a relation is linked: its second delete links it.
+# So many changes come first, by which a relation is linked: its first delete links it.
 FIRST = 10
 
 # So many times each run is made, in turn with the others.

@@ -18,7 +18,7 @@ FEW, MANY = 1_000, 999_960
 COLUMNS = 8
 JOINED_FEW, JOINED_MANY = 1_000, 100_000
 
-# So many changes come first, by which the relation is linked: its second delete links it.
+# So many changes come first, by which the relation is linked: its first delete links it.
 FIRST = 10
 
 

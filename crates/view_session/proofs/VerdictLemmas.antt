@@ -1,10 +1,8 @@
 -- The verdict of a view is its refusal or its tables, which fit its form and are in order.
 use Rattle.std.proofs.Common.{◌≡◌, ◌≤◌, ◌∷◌, ◌∙◌, ℕ, Bool, true, [], List, Option, None, Some, Result, Ok, Err, refl, sym, ap, subst, length, arith}
 use Rattle.std.specs.Prelude.{unwrap_or, is_some, option_map, IfOk, OnOk}
-use Rattle.std.specs.List.{AllByRecursion}
 use Rattle.std.specs.Option.{ForSome}
 use Rattle.ss_text.specs.Texts.{Text}
-use Rattle.ss_text.specs.Label.{is_table_label}
 use Rattle.ss_text.proofs.GroupLemmas.{all_weaker}
 use Rattle.schema_model.specs.Catalogue.{CatalogueValue}
 use Rattle.schema_model.specs.Changes.{after, after_all}

@@ -29,12 +29,17 @@ use std::alloc::Global;
 use std::sync::ledger::Ledger;
 use view_engine::EngineMove;
 
-// The group of these changes, or the first that is refused behind those before it.
-fn group_of(alloc: Global, catalogue: &Catalogue, changes: &[Change]) -> Result<Group, GroupRefused>
+// The group of these changes, or the first that is refused behind those before it. The databases stay.
+fn group_of(
+    alloc: Global,
+    catalogue: &mut Catalogue,
+    changes: &[Change],
+) -> Result<Group, GroupRefused>
     requires { AllByRecursion (λ g. IsTrue (is_well_formed g)) changes.now }
-    ensures over { IfOk result (λ group. IsOver group catalogue.now.databases) }
+    ensures catalogue { catalogue.new.databases ≡ catalogue.old.databases }
+    ensures over { IfOk result (λ group. IsOver group catalogue.new.databases) }
     ensures changes { IfOk result (λ group. group.draft.changes ≡ changes.now) }
-    ensures refused { (verdict : CatalogueValue → Verdict) → IfErr result (IsGroupRefused verdict catalogue.now.databases changes.now) }
+    ensures refused { (verdict : CatalogueValue → Verdict) → IfErr result (IsGroupRefused verdict catalogue.old.databases changes.now) }
 {
     let mut group = Group::new(alloc);
     for change in changes {

@@ -226,7 +226,7 @@ impl Session {
         let Waits::Open(group) = &mut self.waits else {
             unreachable!()
         };
-        group.hold(alloc, &self.catalogue, change)
+        group.hold(alloc, &mut self.catalogue, change)
     }
 
     /// Makes the changes of the open group, all at once, and answers the lines by which the tables change. The group

@@ -1,5 +1,6 @@
 use Rattle.std.proofs.Common.{◌≡◌, List, None, subst}
 use Rattle.std.proofs.lemmas.Result.{err_from_is_err_and}
+use Rattle.schema_model.specs.Catalogue.{CatalogueValue}
 use Rattle.schema_model.specs.Changes.{after_all}
 use Rattle.schema_model.specs.Refusals.{group_fault}
 use Rattle.schema_model.specs.declared.change.Change.{Change}
@@ -22,6 +23,10 @@ returns-in_err-propose_group-clause-refused g c =
     let stop = c.in_err-propose_group.field-0.0 in
     let same = c.in_ok-group.ensures.changes in
     let p = err_from_is_err_and c.from_residual-in_err-propose_group.result c.from_residual-in_err-propose_group.ensures.1 in
+    let held = c.in_ok-group.group.draft.changes in
+    let stays = c.in_ok-group.ensures.catalogue in
+    let accepted = subst (λ (d : CatalogueValue). group_fault d held ≡ None) stays c.in_ok-group.ensures.over.draft.accepted in
+    let refused = subst (λ (d : CatalogueValue). IsFault (refusal (after_all d held) q) stop) stays c.in_err-propose_group.ensures.refused in
     rw (p.1, p.2)
-    (group_refused a q c.args.changes.now stop (subst (λ (gs : List Change). group_fault a gs ≡ None) same c.in_ok-group.ensures.over.draft.accepted)
-    (subst (λ (gs : List Change). IsFault (refusal (after_all a gs) q) stop) same c.in_err-propose_group.ensures.refused))
+    (group_refused a q c.args.changes.now stop (subst (λ (gs : List Change). group_fault a gs ≡ None) same accepted)
+    (subst (λ (gs : List Change). IsFault (refusal (after_all a gs) q) stop) same refused))
