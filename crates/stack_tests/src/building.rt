@@ -1,5 +1,5 @@
 //! Stacks of sessions from texts.
-ghost use Rattle.std.specs.Prelude.{◌≡◌, ◌∷◌, map, IfOk, IfSome, IsTrue};
+ghost use Rattle.std.specs.Prelude.{◌≡◌, ◌∷◌, map, IfOk, IfSome, OnOk, IsTrue};
 ghost use Rattle.std.specs.List.{AllByRecursion};
 ghost use Rattle.ss_text.specs.Texts.{Text as TextValue};
 ghost use Rattle.schema_model.specs.Changes.{is_well_formed};
