@@ -1,6 +1,7 @@
 PROGRAM = build/schemasql
 UNPROVED = build/schemasql-unproved
 ENGINE = build/engine_bench
+JOURNAL = build/journal_bench
 PREFIX = /usr/local
 SOURCES = $(wildcard crates.txt HANDLES crates/*/src/*.rt crates/*/src/*/*.rt crates/*/specs/*.antt crates/*/proofs/*.antt crates/*/proofs/*/*.antt)
 
@@ -12,6 +13,9 @@ $(PROGRAM): $(SOURCES)
 
 $(ENGINE): $(SOURCES)
 	tools/prove engine_bench $@
+
+$(JOURNAL): $(SOURCES)
+	tools/prove journal_bench $@
 
 # Builds the program as it is written, with no proof.
 $(UNPROVED): $(SOURCES)
@@ -60,6 +64,10 @@ bench: $(PROGRAM)
 bench-engine: $(ENGINE)
 	bench/engine.py $(ENGINE)
 
+# How long a journal takes that is read to its end.
+bench-journal: $(JOURNAL)
+	bench/journal.py $(JOURNAL)
+
 install: $(PROGRAM)
 	install -D $(PROGRAM) $(DESTDIR)$(PREFIX)/bin/schemasql
 	install -D -m 644 man/schemasql.1 $(DESTDIR)$(PREFIX)/share/man/man1/schemasql.1
@@ -67,4 +75,4 @@ install: $(PROGRAM)
 clean:
 	rm -rf crates/*/out build
 
-.PHONY: all try demo test check cases bench bench-engine install clean
+.PHONY: all try demo test check cases bench bench-engine bench-journal install clean
