@@ -214,8 +214,8 @@ fn show(
         }
         out.push(b' ')?;
     }
-    for count in 0..4 {
-        if relation.has_more(counted, count) {
+    for count in &[0, 1, 2, 3] {
+        if relation.has_more(counted, *count) {
             out.push(b'+')?;
         }
     }
