@@ -1,5 +1,5 @@
 //! What takes changes of a catalogue in two steps.
-ghost use Rattle.std.specs.Prelude.{◌≡◌, ◌≢◌, ◌+◌, ◌≤◌, [], ◌∷◌, List, None, Err, IfOk, IfErr, OnOk, OnErr, IsTrue, length};
+ghost use Rattle.std.specs.Prelude.{◌≡◌, ◌+◌, ◌≤◌, [], ◌∷◌, List, None, IfOk, IfErr, OnOk, OnErr, IsTrue, length};
 ghost use Rattle.std.specs.List.{AllByRecursion};
 ghost use Rattle.std.specs.Option.{ForSome};
 ghost use Rattle.schema_model.specs.Catalogue.{CatalogueValue};
@@ -76,8 +76,7 @@ pub trait Applies {
         ensures unchanged { OnErr result (self.new ≡ self.old) }
         ensures proposes { OnOk result (waits self.new ≡ Proposes changes.now) }
         ensures idle { OnErr result (waits self.new ≡ Idle) }
-        ensures within { (g : ChangeValue) → changes.now ≡ g ∷ [] → result ≢ Err GroupRefused.NoMemory
-            → ForSome ((state self.old).limit (state self.old).catalogue g) (λ n. steps.new ≤ steps.old + n) }
+        ensures within { (g : ChangeValue) → changes.now ≡ g ∷ [] → ForSome ((state self.old).limit (state self.old).catalogue g) (λ n. steps.new ≤ steps.old + n) }
         ensures rises { steps.old ≤ steps.new };
 
     /// Makes what is proposed the state. It takes no memory.
@@ -87,10 +86,11 @@ pub trait Applies {
         ensures accepted { self.new ≡ after_accept self.old }
         ensures idle { waits self.new ≡ Idle };
 
-    /// Drops what is proposed. It takes no memory.
+    /// Drops what is proposed, and is as it was before. It takes no memory.
     fn dismiss(&mut self)
         requires { IsProposal (waits self.old) }
         ensures same { state self.new ≡ state self.old }
+        ensures dropped { (a : Self) (gs : List ChangeValue) → waits a ≡ Idle → self.old ≡ after_propose a gs → self.new ≡ a }
         ensures idle { waits self.new ≡ Idle };
 
     // Sound catalogues that differ in the order of rows and attributes alone have the same verdict.

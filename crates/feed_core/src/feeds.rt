@@ -73,7 +73,7 @@ impl Feeds {
         ensures lacks { OnErr result (IsTrue (is_fresh (arrivals_of self.old) arrival)) }
 
         // Only one that is handled counts steps, as its change does.
-        ensures within { OnOk result (ForSome ((A.state to.old).limit (A.state to.old).catalogue arrival.change) (λ n. steps.new ≤ steps.old + n)) }
+        ensures within { ForSome ((A.state to.old).limit (A.state to.old).catalogue arrival.change) (λ n. steps.new ≤ steps.old + n) }
         ensures none { IfOk result (λ answer. answer ≢ Answer.Fresh → steps.new ≡ steps.old) }
         ensures rises { steps.old ≤ steps.new }
     {
@@ -148,7 +148,7 @@ impl Feeds {
         ensures idle { A.waits to.new ≡ Idle }
         ensures same { OnErr result (self.new ≡ self.old) }
         ensures unused { OnErr result (to.new ≡ to.old) }
-        ensures within { OnOk result (ForSome ((A.state to.old).limit (A.state to.old).catalogue arrival.change) (λ n. steps.new ≤ steps.old + n)) }
+        ensures within { ForSome ((A.state to.old).limit (A.state to.old).catalogue arrival.change) (λ n. steps.new ≤ steps.old + n) }
         ensures rises { steps.old ≤ steps.new }
     {
         self.handled.reserve(1)?;

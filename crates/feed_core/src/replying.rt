@@ -27,7 +27,7 @@ pub(crate) fn reply_of<A: Applies, L: Ledger>(
     ensures taken { OnOk result (to.new ≡ taken_by A.after_propose A.after_accept (reply_to (A.state to.old) change.now) to.old change.now) }
     ensures idle { A.waits to.new ≡ Idle }
     ensures unused { OnErr result (to.new ≡ to.old) }
-    ensures within { OnOk result (ForSome ((A.state to.old).limit (A.state to.old).catalogue change.now) (λ n. steps.new ≤ steps.old + n)) }
+    ensures within { ForSome ((A.state to.old).limit (A.state to.old).catalogue change.now) (λ n. steps.new ≤ steps.old + n) }
     ensures rises { steps.old ≤ steps.new }
 {
     match to.propose(alloc, from_ref(change), steps) {

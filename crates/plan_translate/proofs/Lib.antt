@@ -11,3 +11,4 @@ pub mod Emptied
 pub mod Commits
 pub mod FactMoves
 pub mod Costs
+pub mod Within

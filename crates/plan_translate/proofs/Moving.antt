@@ -1,6 +1,6 @@
 -- What the fields of a plan say of its value, and how it comes to its moves.
 use Rattle.std.proofs.Common.{◌≡◌, ◌+◌, ◌≤◌, ℕ, suc, List, [], ◌∷◌, Bool, true, false, cond, length, map, get_or, drop, refl, ap, sym, ◌∙◌, subst, arith}
-use Rattle.std.specs.List.{AllZip}
+use Rattle.std.specs.List.{AllZip, AllByRecursion}
 use Rattle.std.proofs.lemmas.List.{length-map}
 use Rattle.schema_model.specs.Catalogue.{CatalogueValue}
 use Rattle.view_def.specs.Query.{Query}
@@ -12,7 +12,8 @@ use Rattle.net_moves.specs.Net.{SameNet, IsNet}
 use Rattle.plan_law.specs.Columns.{header}
 use Rattle.plan_law.specs.Chain.{Joint, Sides, SideMoves, Walks, AreNet, walk_pairs}
 use Rattle.plan_law.specs.PlanRows.{specs_from, plan_joints}
-use Rattle.plan_law.specs.PlanMoves.{FlatMoved, first_moves, further_moves, fact_moves}
+use Rattle.plan_law.specs.Laws.{IsWalk}
+use Rattle.plan_law.specs.PlanMoves.{FlatMoved, PlanKeeps, first_moves, further_moves, fact_moves}
 use Rattle.plan_form.specs.Bases.{BaseValue, bases_from}
 use Rattle.plan_form.specs.Forms.{IsOutputOf}
 use Rattle.plan_walk.specs.Stages.{joint_in, sides_in}
@@ -21,7 +22,8 @@ use Rattle.plan_translate.specs.Read.{reads_rows, is_read, left_side, kept_moves
 use Rattle.plan_translate.specs.Parts.{bases_of, joint_with, joints_with, own_tests, each_passing}
 use Rattle.plan_translate.specs.Plans.{PlanValue, PlanMoveValue, query_in, JoinsStand}
 use Rattle.plan_translate.specs.PlanFields.{query_inside, seen, IsPlan}
-use Rattle.plan_translate.specs.Walked.{WalksOver, Walked}
+use Rattle.plan_translate.specs.Walked.{WalksOver, CostsOver, Walked}
+use Rattle.plan_translate.specs.Costs.{CountsWalk}
 use Rattle.plan_translate.proofs.Bases.{FirstBase, first_base, plan_joints_with, specs_of}
 use Rattle.schema_delta.proofs.GroupLemmas.{flat_nets}
 use Rattle.plan_translate.proofs.OwnMoves.{own_split}
@@ -134,22 +136,25 @@ kept_over c q joins first further moves out old new are one none walks le stand 
     record { sides = stand.sides; keeps = stand.keeps; walks = both.0; within = both.1 }
 
 -- ---- how a walk moves a plan
-module _ (c c' : CatalogueValue) (q : Query) (deltas nets : List (List Signed)) (first : List Signed) (further : List (List Signed)) (moves : List SideMoves) (out : List Signed) (old new : ℕ) where
-  pub walked_by : AllZip SameNet deltas nets → first ≡ first_moves q q.decls nets → further ≡ further_moves q q.decls nets → WalksOver c q first further moves out old new
-      → length moves ≡ length (plan_joints q q.decls) → AreNet moves → IsNet out → (m : PlanMoveValue) → m.sides ≡ kept_moves q moves → SameNet (fact_moves q out) m.facts → IsNet m.facts
-      → FlatMoved c c' q deltas → Walked c c' q m old new
-  walked_by same first_is further_is over each nets_are out_net m kept facts facts_net moved = record {
+module _ (c c' : CatalogueValue) (q : Query) (deltas nets : List (List Signed)) (first : List Signed) (further : List (List Signed)) (same : AllZip SameNet deltas nets) (first_is : first ≡ first_moves q q.decls nets)
+    (further_is : further ≡ further_moves q q.decls nets) (moved : FlatMoved c c' q deltas) where
+  is_walk : (sides : List Sides) (moves : List SideMoves) (out : List Signed) → PlanKeeps c q sides → Walks (plan_joints q q.decls) sides first further moves out → IsWalk c c' q sides moves out
+  is_walk sides moves out keeps walks = record {
+    deltas = nets;
+    moved = flat_nets c c' (specs_from q 0 q.decls) deltas nets moved same;
+    stands = keeps;
+    walks =
+        subst (λ (ms : List Signed). Walks (plan_joints q q.decls) sides ms (further_moves q q.decls nets) moves out) first_is
+        (subst (λ (nss : List (List Signed)). Walks (plan_joints q q.decls) sides first nss moves out) further_is walks);
+  }
+
+  pub walked_by : (moves : List SideMoves) (out : List Signed) (old new : ℕ) → WalksOver c q first further moves out old new
+      → length moves ≡ length (plan_joints q q.decls) → AreNet moves → IsNet out → (m : PlanMoveValue) → m.sides ≡ kept_moves q moves → SameNet (fact_moves q out) m.facts → IsNet m.facts → Walked c c' q m old new
+  walked_by moves out old new over each nets_are out_net m kept facts facts_net = record {
     sides = over.sides;
     moves = moves;
     out = out;
-    walk = record {
-      deltas = nets;
-      moved = flat_nets c c' (specs_from q 0 q.decls) deltas nets moved same;
-      stands = over.keeps;
-      walks =
-          subst (λ (ms : List Signed). Walks (plan_joints q q.decls) over.sides ms (further_moves q q.decls nets) moves out) first_is
-          (subst (λ (nss : List (List Signed)). Walks (plan_joints q q.decls) over.sides first nss moves out) further_is over.walks);
-    };
+    walk = is_walk over.sides moves out over.keeps over.walks;
     each = each;
     nets = nets_are;
     out_net = out_net;
@@ -158,3 +163,16 @@ module _ (c c' : CatalogueValue) (q : Query) (deltas nets : List (List Signed)) 
     facts = facts;
     facts_net = facts_net;
   }
+
+  pub counts_walk : (old new : ℕ) → IsNet first → AllByRecursion IsNet further → CostsOver c q first further old new → CountsWalk c c' q old new
+  counts_walk old new net each over =
+      let nets_are = over.walk.nets net each in
+      record {
+        sides = over.sides;
+        moves = over.walk.moves;
+        out = over.walk.out;
+        walk = is_walk over.sides over.walk.moves over.walk.out over.keeps over.walk.walks;
+        nets = nets_are.0;
+        out_net = nets_are.1;
+        within = over.walk.within;
+      }

@@ -1,21 +1,17 @@
 -- Moves that pass a plan's tests are those of the law, and walk as it says.
 use Rattle.std.proofs.Common.{◌≡◌, ◌<◌, ◌≤◌, take, get_or, ℕ, suc, List, [], ◌∷◌, ◌++◌, cond, filter, map, Bool, refl, ap, sym, ◌∙◌, subst, arith, length, true, false}
-use Rattle.std.specs.List.{list_all, AllZip, AllByRecursion}
+use Rattle.std.specs.List.{list_all, AllByRecursion}
 use Rattle.std.specs.Prelude.{Vec}
 use Rattle.std.specs.Global.{Global}
 use Rattle.std.proofs.lemmas.List.{length_push, length-map, length-take-le, map-append, take_all}
 use Rattle.ss_text.specs.Texts.{Row}
-use Rattle.schema_model.specs.Catalogue.{CatalogueValue}
 use Rattle.plan_law.specs.Kinds.{Term, Range}
 use Rattle.plan_law.specs.Kinds.range
 use Rattle.view_def.specs.Query.{Query}
 use Rattle.operator_law.specs.declared.delta.Signed.{Signed}
-use Rattle.schema_delta.specs.declared.spec.FlatSpec.{FlatSpec}
-use Rattle.schema_delta.specs.Flat.{flat, MovesBetween}
-use Rattle.net_moves.specs.Net.{SameNet, IsNet}
+use Rattle.net_moves.specs.Net.{IsNet}
 use Rattle.plan_law.specs.Columns.{header}
 use Rattle.plan_law.specs.Links.{own_links, own_holds}
-use Rattle.plan_law.specs.Links as link
 use Rattle.plan_law.specs.PlanMoves.{own_moves, moves_from, first_moves, further_moves}
 use Rattle.plan_form.specs.declared.base.Equal.{Equal}
 use Rattle.plan_form.specs.Bases.{BaseValue, own_cells, equal_holds, base_form, bases_from}

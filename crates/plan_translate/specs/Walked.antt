@@ -8,6 +8,7 @@ use Rattle.plan_law.specs.Laws.{IsWalk}
 use Rattle.plan_law.specs.PlanRows.{plan_joints}
 use Rattle.plan_law.specs.PlanMoves.{PlanKeeps, fact_moves}
 use Rattle.operator_law.specs.declared.delta.Signed.{Signed}
+use Rattle.plan_walk.specs.Cost.{CostsWalk}
 use Rattle.plan_translate.specs.Read.{kept_moves}
 use Rattle.plan_translate.specs.Plans.{PlanMoveValue}
 
@@ -17,6 +18,12 @@ pub record WalksOver (c : CatalogueValue) (q : Query) (first : List Signed) (fur
   pub keeps : PlanKeeps c q sides
   pub walks : Walks (plan_joints q q.decls) sides first further moves out
   pub within : new ≤ old + walk_pairs (plan_joints q q.decls) sides moves
+
+-- the steps are at most the pairs of such a walk, in which no row moves both ways where none does in these
+pub record CostsOver (c : CatalogueValue) (q : Query) (first : List Signed) (further : List (List Signed)) (old new : ℕ) : Type 0 where
+  pub sides : List Sides
+  pub keeps : PlanKeeps c q sides
+  pub walk : CostsWalk (plan_joints q q.decls) sides first further old new
 
 -- they are those of the walk of a change, of which a plan that reads rows keeps those of the left sides alone, and in
 -- net the facts of the rows that come out

@@ -7,6 +7,7 @@ ghost use Rattle.plan_law.specs.PlanRows.{specs_from};
 ghost use Rattle.plan_law.specs.PlanMoves.{FlatMoved};
 ghost use Rattle.plan_translate.specs.Plans.{query_in, PlanStands, IsFresh};
 ghost use Rattle.plan_translate.specs.Walked.{Walked};
+ghost use Rattle.plan_translate.specs.Costs.{CountsWalk};
 
 use crate::facts::facts;
 use crate::moved::PlanMove;
@@ -108,6 +109,8 @@ impl Plan {
         requires { length deltas.items ≡ length (specs_from (query_in self.now) 0 (query_in self.now).decls) }
         ensures walked { let c = catalogue.now.databases in
             IfOk result (λ m. (c' : CatalogueValue) → FlatMoved c c' (query_in self.now) deltas.items → PlanStands c self.now → Walked c c' (query_in self.now) m steps.old steps.new) }
+        ensures within { let c = catalogue.now.databases in
+            (c' : CatalogueValue) → FlatMoved c c' (query_in self.now) deltas.items → PlanStands c self.now → CountsWalk c c' (query_in self.now) steps.old steps.new }
         ensures rises { steps.old ≤ steps.new }
     {
         let (first, further) = self.own_moves(alloc, deltas)?;

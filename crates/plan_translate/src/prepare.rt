@@ -3,7 +3,7 @@ ghost use Rattle.std.specs.Prelude.{◌≡◌, ◌≤◌, None, IfOk, IsTrue};
 ghost use Rattle.std.specs.List.{AllByRecursion};
 ghost use Rattle.schema_model.specs.Changes.{after, after_all, is_well_formed};
 ghost use Rattle.schema_model.specs.Refusals.{fault, group_fault};
-ghost use Rattle.plan_translate.specs.Costs.{CountsPairs, IsRowBounded};
+ghost use Rattle.plan_translate.specs.Costs.{CountsWalk, CountsPairs, IsRowBounded};
 ghost use Rattle.plan_translate.specs.Plans.{query_in, PlanStands, PlanMoves};
 
 use crate::{Plan, PlanMove};
@@ -15,6 +15,7 @@ use std::sync::ledger::Ledger;
 
 impl Plan {
     /// How a change that is not refused moves what the plan keeps for the catalogue, and the fact rows. Nothing is changed.
+    /// Whatever is answered, the steps are at most the pairs of a walk of the change.
     pub fn prepare<L: Ledger>(
         &self,
         alloc: Global,
@@ -27,6 +28,7 @@ impl Plan {
         requires stands { PlanStands catalogue.now.databases self.now }
         ensures moves { IfOk result (PlanMoves catalogue.now.databases (after catalogue.now.databases change.now) (query_in self.now)) }
         ensures cost { IfOk result (λ m. CountsPairs catalogue.now.databases (after catalogue.now.databases change.now) (query_in self.now) m steps.old steps.new) }
+        ensures within { CountsWalk catalogue.now.databases (after catalogue.now.databases change.now) (query_in self.now) steps.old steps.new }
         ensures row { IfOk result (λ m. IsRowBounded catalogue.now.databases (query_in self.now) change.now m steps.old steps.new) }
         ensures rises { steps.old ≤ steps.new }
     {
@@ -38,7 +40,7 @@ impl Plan {
     }
 
     /// How changes move what the plan keeps for the catalogue, and the fact rows, all together. None is refused behind those
-    /// before it. Nothing is changed.
+    /// before it. Nothing is changed. Whatever is answered, the steps are at most the pairs of a walk of the changes.
     pub fn prepare_all<L: Ledger>(
         &self,
         alloc: Global,
@@ -51,6 +53,7 @@ impl Plan {
         requires stands { PlanStands catalogue.now.databases self.now }
         ensures moves { IfOk result (PlanMoves catalogue.now.databases (after_all catalogue.now.databases changes.now) (query_in self.now)) }
         ensures cost { IfOk result (λ m. CountsPairs catalogue.now.databases (after_all catalogue.now.databases changes.now) (query_in self.now) m steps.old steps.new) }
+        ensures within { CountsWalk catalogue.now.databases (after_all catalogue.now.databases changes.now) (query_in self.now) steps.old steps.new }
         ensures rises { steps.old ≤ steps.new }
     {
         // What a catalogue has is sound.

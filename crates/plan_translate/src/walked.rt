@@ -2,6 +2,7 @@
 ghost use Rattle.std.specs.Prelude.{◌≡◌, ◌≤◌, ◌∷◌, [], true, List, map, length, IfOk};
 ghost use Rattle.std.specs.List.{AllZip, AllByRecursion};
 ghost use Rattle.schema_model.specs.Catalogue.{CatalogueValue};
+ghost use Rattle.view_def.specs.Profile.{IsViewOfProfile};
 ghost use Rattle.operator_law.specs.declared.delta.Signed.{Signed as SignedValue};
 ghost use Rattle.net_moves.specs.Net.{SameNet, IsNet};
 ghost use Rattle.plan_law.specs.Chain.{AreNet};
@@ -10,7 +11,7 @@ ghost use Rattle.plan_law.specs.PlanMoves.{first_moves, further_moves};
 ghost use Rattle.plan_walk.specs.Stages.{side_moves};
 ghost use Rattle.plan_translate.specs.Read.{is_read, left_moves};
 ghost use Rattle.plan_translate.specs.Plans.{query_in, PlanStands};
-ghost use Rattle.plan_translate.specs.Walked.{WalksOver};
+ghost use Rattle.plan_translate.specs.Walked.{WalksOver, CostsOver};
 
 use crate::Plan;
 use crate::own::own_moves;
@@ -43,13 +44,15 @@ pub(crate) fn keep_left(alloc: Global, sides: &mut Vec<(Delta, Delta)>)
 }
 
 impl Plan {
-    // The moves of the first declaration's flat rows that pass its tests, in net, and those of each other one's.
+    // The moves of the first declaration's flat rows that pass its tests, in net, and those of each other one's. The view is
+    // one of the profile.
     pub(crate) fn own_moves(
         &self,
         alloc: Global,
         deltas: Vec<Delta>,
     ) -> Result<(Delta, Vec<Delta>), NoMemory>
         requires { length deltas.items ≡ length (specs_from (query_in self.now) 0 (query_in self.now).decls) }
+        ensures profile { IsViewOfProfile (query_in self.now) }
         ensures moves { let q = query_in self.now in IfOk result (λ r. (nets : List (List SignedValue)) × AllZip SameNet deltas.items nets × (r.0 ≡ first_moves q q.decls nets)
             × (r.1.items ≡ further_moves q q.decls nets)) }
         ensures net { IfOk result (λ r. IsNet r.0 × AllByRecursion IsNet r.1.items) }
@@ -72,6 +75,7 @@ impl Plan {
         ensures walks { IfOk result (λ w. WalksOver catalogue.now.databases (query_in self.now) first further.items (map side_moves w.sides.items) w.out steps.old steps.new) }
         ensures each { let q = query_in self.now in IfOk result (λ w. length w.sides.items ≡ length (plan_joints q q.decls)) }
         ensures nets { IfOk result (λ w. IsNet first → AllByRecursion IsNet further.items → AreNet (map side_moves w.sides.items) × IsNet w.out) }
+        ensures within { PlanStands catalogue.now.databases self.now → CostsOver catalogue.now.databases (query_in self.now) first further.items steps.old steps.new }
         ensures rises { steps.old ≤ steps.new }
     {
         let joins = self.filled(alloc, catalogue)?;
@@ -92,6 +96,7 @@ impl Plan {
         ensures walks { IfOk result (λ w. (c : CatalogueValue) → PlanStands c self.now → WalksOver c (query_in self.now) first further.items (map side_moves w.sides.items) w.out steps.old steps.new) }
         ensures each { let q = query_in self.now in IfOk result (λ w. length w.sides.items ≡ length (plan_joints q q.decls)) }
         ensures nets { IfOk result (λ w. IsNet first → AllByRecursion IsNet further.items → AreNet (map side_moves w.sides.items) × IsNet w.out) }
+        ensures within { (c : CatalogueValue) → PlanStands c self.now → CostsOver c (query_in self.now) first further.items steps.old steps.new }
         ensures rises { steps.old ≤ steps.new }
     {
         let moves = walk(alloc, &self.joins, first, further, steps)?;
@@ -112,6 +117,7 @@ impl Plan {
             → WalksOver catalogue.now.databases (query_in self.now) first further.items (map side_moves w.sides.items) w.out steps.old steps.new) }
         ensures each { let q = query_in self.now in IfOk result (λ w. length w.sides.items ≡ length (plan_joints q q.decls)) }
         ensures nets { IfOk result (λ w. IsNet first → AllByRecursion IsNet further.items → AreNet (map side_moves w.sides.items) × IsNet w.out) }
+        ensures within { PlanStands catalogue.now.databases self.now → CostsOver catalogue.now.databases (query_in self.now) first further.items steps.old steps.new }
         ensures rises { steps.old ≤ steps.new }
     {
         if self.reads && !first.moves.is_empty() {

@@ -1,2 +1,4 @@
+pub mod Nets
 pub mod Stages
+pub mod Whole
 pub mod ChainFilled

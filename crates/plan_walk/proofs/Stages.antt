@@ -28,31 +28,31 @@ net_of_join j ms ns d next bag net f =
       ap (go f) pass,
     )
 
-pub walks_push : (js : List Joint) (ks : List Sides) (ms : List Signed) (nss : List (List Signed)) (ps : List SideMoves) (out : List Signed) (j : Joint) (k : Sides) (ns next : List Signed)
-    → length ks ≡ length js → length nss ≡ length js → length ps ≡ length js → Walks js ks ms nss ps out → SameNet (joint_moves j k out ns) next
-    → Walks (js ++ j ∷ []) (ks ++ k ∷ []) ms (nss ++ ns ∷ []) (ps ++ record { left = out; right = ns } ∷ []) next
-walks_push [] [] ms [] [] out j k ns next a b c w h = (ap (λ (l : List Signed). record { left = l; right = ns }) (sym w), (next, subst (λ (l : List Signed). SameNet (joint_moves j k l ns) next) (sym w) h, refl))
-walks_push [] (k' ∷ ks) ms nss ps out j k ns next a b c w h = absurd (omega (arith, a))
-walks_push [] [] ms (n ∷ nss) ps out j k ns next a b c w h = absurd (omega (arith, b))
-walks_push [] [] ms [] (p ∷ ps) out j k ns next a b c w h = absurd (omega (arith, c))
-walks_push (j' ∷ js) [] ms nss ps out j k ns next a b c w h = absurd (omega (arith, a))
-walks_push (j' ∷ js) (k' ∷ ks) ms [] ps out j k ns next a b c w h = absurd (omega (arith, b))
-walks_push (j' ∷ js) (k' ∷ ks) ms (n ∷ nss) [] out j k ns next a b c w h = absurd (omega (arith, c))
-walks_push (j' ∷ js) (k' ∷ ks) ms (n ∷ nss) (p ∷ ps) out j k ns next a b c w h =
-    (w.0, (w.1.0, w.1.1, walks_push js ks w.1.0 nss ps out j k ns next (omega (arith, a)) (omega (arith, b)) (omega (arith, c)) w.1.2 h))
+-- a walk through some joins, and then through others
+pub walks_append : (js js' : List Joint) (ks ks' : List Sides) (ms : List Signed) (nss nss' : List (List Signed)) (ps ps' : List SideMoves) (mid out : List Signed)
+    → length ks ≡ length js → length nss ≡ length js → length ps ≡ length js → Walks js ks ms nss ps mid → Walks js' ks' mid nss' ps' out → Walks (js ++ js') (ks ++ ks') ms (nss ++ nss') (ps ++ ps') out
+walks_append [] js' [] ks' ms [] nss' [] ps' mid out a b c w h = subst (λ (l : List Signed). Walks js' ks' l nss' ps' out) (sym w) h
+walks_append [] js' (k ∷ ks) ks' ms nss nss' ps ps' mid out a b c w h = absurd (omega (arith, a))
+walks_append [] js' [] ks' ms (n ∷ nss) nss' ps ps' mid out a b c w h = absurd (omega (arith, b))
+walks_append [] js' [] ks' ms [] nss' (p ∷ ps) ps' mid out a b c w h = absurd (omega (arith, c))
+walks_append (j ∷ js) js' [] ks' ms nss nss' ps ps' mid out a b c w h = absurd (omega (arith, a))
+walks_append (j ∷ js) js' (k ∷ ks) ks' ms [] nss' ps ps' mid out a b c w h = absurd (omega (arith, b))
+walks_append (j ∷ js) js' (k ∷ ks) ks' ms (n ∷ nss) nss' [] ps' mid out a b c w h = absurd (omega (arith, c))
+walks_append (j ∷ js) js' (k ∷ ks) ks' ms (n ∷ nss) nss' (p ∷ ps) ps' mid out a b c w h =
+    (w.0, (w.1.0, w.1.1, walks_append js js' ks ks' w.1.0 nss nss' ps ps' mid out (omega (arith, a)) (omega (arith, b)) (omega (arith, c)) w.1.2 h))
 
-pub pairs_push : (js : List Joint) (ks : List Sides) (ps : List SideMoves) (j : Joint) (k : Sides) (p : SideMoves)
-    → length ks ≡ length js → length ps ≡ length js → walk_pairs (js ++ j ∷ []) (ks ++ k ∷ []) (ps ++ p ∷ []) ≡ walk_pairs js ks ps + (pairs_right j.keys k.right p.left + pairs_left j.keys k.left p.right)
-pairs_push [] [] [] j k p a c = omega arith
-pairs_push [] (k' ∷ ks) ps j k p a c = absurd (omega (arith, a))
-pairs_push [] [] (p' ∷ ps) j k p a c = absurd (omega (arith, c))
-pairs_push (j' ∷ js) [] ps j k p a c = absurd (omega (arith, a))
-pairs_push (j' ∷ js) (k' ∷ ks) [] j k p a c = absurd (omega (arith, c))
-pairs_push (j' ∷ js) (k' ∷ ks) (p' ∷ ps) j k p a c = omega (arith, pairs_push js ks ps j k p (omega (arith, a)) (omega (arith, c)))
+pub pairs_append : (js js' : List Joint) (ks ks' : List Sides) (ps ps' : List SideMoves)
+    → length ks ≡ length js → length ps ≡ length js → walk_pairs (js ++ js') (ks ++ ks') (ps ++ ps') ≡ walk_pairs js ks ps + walk_pairs js' ks' ps'
+pairs_append [] js' [] ks' [] ps' a c = omega arith
+pairs_append [] js' (k ∷ ks) ks' ps ps' a c = absurd (omega (arith, a))
+pairs_append [] js' [] ks' (p ∷ ps) ps' a c = absurd (omega (arith, c))
+pairs_append (j ∷ js) js' [] ks' ps ps' a c = absurd (omega (arith, a))
+pairs_append (j ∷ js) js' (k ∷ ks) ks' [] ps' a c = absurd (omega (arith, c))
+pairs_append (j ∷ js) js' (k ∷ ks) ks' (p ∷ ps) ps' a c = omega (arith, pairs_append js js' ks ks' ps ps' (omega (arith, a)) (omega (arith, c)))
 
-pub nets_push : (ps : List SideMoves) (p : SideMoves) → AreNet ps → IsNet p.left → IsNet p.right → AreNet (ps ++ p ∷ [])
-nets_push [] p h l r = (l, r, tt)
-nets_push (p' ∷ ps) p h l r = (h.0, h.1, nets_push ps p h.2 l r)
+pub nets_append : (ps ps' : List SideMoves) → AreNet ps → AreNet ps' → AreNet (ps ++ ps')
+nets_append [] ps' h more = more
+nets_append (p ∷ ps) ps' h more = (h.0, h.1, nets_append ps ps' h.2 more)
 
 pub all_last : {X : Type 0} (P : X → Type 0) (xs : List X) (y : X) → AllByRecursion P (xs ++ y ∷ []) → P y
 all_last P [] y h = h.0
@@ -81,7 +81,8 @@ module _ (joins : List JoinValue) (n : ℕ) (j : JoinValue) (lt : n < length joi
   walks_more ms nss ps out ns next a b w h =
       let js = map joint_in (take n joins) in
       let ks = map sides_in (take n joins) in
-      let now = walks_push js ks ms nss ps out (joint_in j) (sides_in j) ns next (omega (arith, joints_long, sides_long)) (omega (arith, joints_long, a)) (omega (arith, joints_long, b)) w h in
+      let p : SideMoves = record { left = out; right = ns } in
+      let now = walks_append js (joint_in j ∷ []) ks (sides_in j ∷ []) ms nss (ns ∷ []) ps (p ∷ []) out next (omega (arith, joints_long, sides_long)) (omega (arith, joints_long, a)) (omega (arith, joints_long, b)) w (refl, (next, h, refl)) in
       subst (λ (kk : List Sides). Walks (map joint_in (take (n + 1) joins)) kk ms (nss ++ ns ∷ []) (ps ++ record { left = out; right = ns } ∷ []) next) (sym sides_more)
       (subst (λ (jj : List Joint). Walks jj (ks ++ sides_in j ∷ []) ms (nss ++ ns ∷ []) (ps ++ record { left = out; right = ns } ∷ []) next) (sym joints_more) now)
 
@@ -89,9 +90,12 @@ module _ (joins : List JoinValue) (n : ℕ) (j : JoinValue) (lt : n < length joi
       → walk_pairs (map joint_in (take (n + 1) joins)) (map sides_in (take (n + 1) joins)) (ps ++ p ∷ [])
       ≡ walk_pairs (map joint_in (take n joins)) (map sides_in (take n joins)) ps + (pairs_right (joint_in j).keys j.right p.left + pairs_left (joint_in j).keys j.left p.right)
   pairs_more ps p a =
+      let js = map joint_in (take n joins) in
+      let ks = map sides_in (take n joins) in
+      let pairs = pairs_append js (joint_in j ∷ []) ks (sides_in j ∷ []) ps (p ∷ []) (omega (arith, joints_long, sides_long)) (omega (arith, joints_long, a)) in
       ap (λ (jj : List Joint). walk_pairs jj (map sides_in (take (n + 1) joins)) (ps ++ p ∷ [])) joints_more
-      ∙ ap (λ (kk : List Sides). walk_pairs (map joint_in (take n joins) ++ joint_in j ∷ []) kk (ps ++ p ∷ [])) sides_more
-      ∙ pairs_push (map joint_in (take n joins)) (map sides_in (take n joins)) ps (joint_in j) (sides_in j) p (omega (arith, joints_long, sides_long)) (omega (arith, joints_long, a))
+      ∙ ap (λ (kk : List Sides). walk_pairs (js ++ joint_in j ∷ []) kk (ps ++ p ∷ [])) sides_more
+      ∙ omega (arith, pairs)
 
   -- as the loop says it
   module _ (qs rs : List (List Signed × List Signed)) (out ns : List Signed) (m : ℕ) (one : m ≡ n + 1) (long : length qs ≡ n) (push : rs ≡ qs ++ (out, ns) ∷ []) where
@@ -120,4 +124,4 @@ module _ (joins : List JoinValue) (n : ℕ) (j : JoinValue) (lt : n < length joi
         ∙ pairs_more (map side_moves qs) (record { left = out; right = ns }) qs_long
 
     pub nets_on : AreNet (map side_moves qs) → IsNet out → IsNet ns → AreNet (map side_moves rs)
-    nets_on h l r = subst AreNet (sym pushed) (nets_push (map side_moves qs) (record { left = out; right = ns }) h l r)
+    nets_on h l r = subst AreNet (sym pushed) (nets_append (map side_moves qs) (record { left = out; right = ns } ∷ []) h (l, r, tt))

@@ -6,6 +6,7 @@ ghost use Rattle.join_delta.specs.Joined.{matches, joined_moves, pairs_right, pa
 ghost use Rattle.net_moves.specs.Net.{SameNet, IsNet};
 ghost use Rattle.plan_law.specs.Chain.{Walks, AreNet, joint_moves, walk_pairs};
 ghost use Rattle.plan_walk.specs.Stages.{joint_in, sides_in, side_moves};
+ghost use Rattle.plan_walk.specs.Cost.{CostsWalk};
 
 use join_delta::Join;
 use net_moves::net;
@@ -64,7 +65,8 @@ fn stage<L: Ledger>(
     Ok(next)
 }
 
-/// How these moves of the first join's left side, and those of each join's right side, walk through the joins.
+/// How these moves of the first join's left side, and those of each join's right side, walk through the joins. Whatever is
+/// answered, the steps are at most the pairs of such a walk.
 pub fn walk<L: Ledger>(
     alloc: Global,
     joins: &[Join],
@@ -77,6 +79,7 @@ pub fn walk<L: Ledger>(
     ensures each { IfOk result (λ w. length w.sides.items ≡ length joins.now) }
     ensures nets { IfOk result (λ w. IsNet first → AllByRecursion IsNet further.items → AreNet (map side_moves w.sides.items) × IsNet w.out) }
     ensures cost { IfOk result (λ w. steps.new ≤ steps.old + walk_pairs (map joint_in joins.now) (map sides_in joins.now) (map side_moves w.sides.items)) }
+    ensures within { CostsWalk (map joint_in joins.now) (map sides_in joins.now) first further.items steps.old steps.new }
     ensures rises { steps.old ≤ steps.new }
 {
     let mut sides = Vec::with_capacity(alloc, joins.len())?;

@@ -1,5 +1,5 @@
 //! Opening an engine.
-ghost use Rattle.std.specs.Prelude.{◌≡◌, ◌≤◌, [], None, IfOk, OnOk};
+ghost use Rattle.std.specs.Prelude.{◌≡◌, ◌≤◌, [], None, IfOk};
 ghost use Rattle.view_def.specs.Query.{query_of};
 ghost use Rattle.view_def.specs.Profile.{IsViewOfProfile};
 ghost use Rattle.fact_tables.specs.Counted.{EachAsOften, each_fact};
@@ -43,7 +43,7 @@ impl Engine {
         requires facts { EachAsOften (view_facts catalogue.now.databases (query_of view.now)) (each_fact facts) }
         ensures view { IfOk result (λ engine. view_in engine ≡ query_of view.now) }
         ensures stands { IfOk result (EngineStands catalogue.now.databases) }
-        ensures steps { OnOk result (steps.new ≡ steps.old) }
+        ensures steps { steps.new ≡ steps.old }
         ensures rises { steps.old ≤ steps.new }
     {
         // What a catalogue has is sound.

@@ -1,5 +1,5 @@
 //! How changes of the catalogue move an engine.
-ghost use Rattle.std.specs.Prelude.{◌≡◌, ◌≢◌, ◌+◌, ◌≤◌, None, Err, IfOk, IfErr, IsTrue};
+ghost use Rattle.std.specs.Prelude.{◌≡◌, ◌+◌, ◌≤◌, None, IfOk, IfErr, IsTrue};
 ghost use Rattle.std.specs.List.{AllByRecursion};
 ghost use Rattle.std.specs.Option.{ForSome};
 ghost use Rattle.schema_model.specs.Catalogue.{CatalogueValue};
@@ -7,7 +7,7 @@ ghost use Rattle.schema_model.specs.Changes.{after, after_all, is_well_formed};
 ghost use Rattle.schema_model.specs.Refusals.{fault, group_fault};
 ghost use Rattle.schema_model.specs.Sound.{IsSound};
 ghost use Rattle.plan_translate.specs.Plans.{PlanMoves};
-ghost use Rattle.plan_translate.specs.Costs.{CountsPairs};
+ghost use Rattle.plan_translate.specs.Costs.{CountsWalk, CountsPairs};
 ghost use Rattle.view_engine.specs.Engines.{view_in, EngineStands, EngineMoves, IsViewFault, row_limit};
 
 use crate::{Engine, EngineMove};
@@ -39,7 +39,8 @@ impl Engine {
     }
 
     /// How a change that the catalogue does not refuse moves what the engine keeps for it, with the lines by which the view's
-    /// tables change; or why the view is refused over the catalogue after it. Nothing is changed.
+    /// tables change; or why the view is refused over the catalogue after it. Nothing is changed. Whatever is answered, the
+    /// steps are at most the pairs of a walk of the change.
     pub fn prepare<L: Ledger>(
         &self,
         alloc: Global,
@@ -53,7 +54,8 @@ impl Engine {
         ensures moves { IfOk result (EngineMoves catalogue.now.databases (after catalogue.now.databases change.now) (view_in self.now)) }
         ensures stops { IfErr result (IsViewFault (after catalogue.now.databases change.now) (view_in self.now)) }
         ensures cost { IfOk result (λ m. CountsPairs catalogue.now.databases (after catalogue.now.databases change.now) (view_in self.now) m.plan steps.old steps.new) }
-        ensures within { result ≢ Err EvalFault.NoMemory → ForSome (row_limit catalogue.now.databases (view_in self.now) change.now) (λ n. steps.new ≤ steps.old + n) }
+        ensures counts { CountsWalk catalogue.now.databases (after catalogue.now.databases change.now) (view_in self.now) steps.old steps.new }
+        ensures within { ForSome (row_limit catalogue.now.databases (view_in self.now) change.now) (λ n. steps.new ≤ steps.old + n) }
         ensures rises { steps.old ≤ steps.new }
     {
         let _databases = catalogue.databases();
@@ -63,6 +65,7 @@ impl Engine {
 
     /// How changes move what the engine keeps for the catalogue, all together, with the lines by which the view's tables change;
     /// or why the view is refused over the catalogue after them. None is refused behind those before it. Nothing is changed.
+    /// The steps are bounded as those of one change are.
     pub fn prepare_all<L: Ledger>(
         &self,
         alloc: Global,
@@ -76,6 +79,7 @@ impl Engine {
         ensures moves { IfOk result (EngineMoves catalogue.now.databases (after_all catalogue.now.databases changes.now) (view_in self.now)) }
         ensures stops { IfErr result (IsViewFault (after_all catalogue.now.databases changes.now) (view_in self.now)) }
         ensures cost { IfOk result (λ m. CountsPairs catalogue.now.databases (after_all catalogue.now.databases changes.now) (view_in self.now) m.plan steps.old steps.new) }
+        ensures counts { CountsWalk catalogue.now.databases (after_all catalogue.now.databases changes.now) (view_in self.now) steps.old steps.new }
         ensures rises { steps.old ≤ steps.new }
     {
         let _databases = catalogue.databases();

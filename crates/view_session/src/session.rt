@@ -1,5 +1,5 @@
 //! A view over a catalogue, and its changes.
-ghost use Rattle.std.specs.Prelude.{◌≡◌, ◌≢◌, ◌+◌, ◌≤◌, [], ◌∷◌, true, None, Err, IfOk, IfErr, OnOk, OnErr, IsTrue, is_some, option_map, unwrap_or, length};
+ghost use Rattle.std.specs.Prelude.{◌≡◌, ◌+◌, ◌≤◌, [], ◌∷◌, true, None, IfOk, IfErr, OnOk, OnErr, IsTrue, is_some, option_map, unwrap_or, length};
 ghost use Rattle.std.specs.List.{AllByRecursion};
 ghost use Rattle.std.specs.Option.{ForSome};
 ghost use Rattle.std.specs.List.Sorted.{IsStrictlySortedBy};
@@ -105,7 +105,7 @@ fn kept_over<L: Ledger>(
     ensures view { IfOk result (λ told. view_of told.1 ≡ query_of view.value) }
     ensures kept { IfOk result (λ told. IsKept catalogue.now.databases told.1) }
     ensures refused { IfErr result (λ fault. IsFault (refusal catalogue.now.databases (query_of view.value)) fault) }
-    ensures steps { result ≢ Err EvalFault.NoMemory → steps.new ≡ steps.old }
+    ensures steps { steps.new ≡ steps.old }
     ensures rises { steps.old ≤ steps.new }
 {
     let shape = shape_of(&view)?;
@@ -133,8 +133,7 @@ fn propose<L: Ledger>(
     ensures allowed { OnOk result (refusal (after_all catalogue.old.databases changes.now) (view_of upkeep.old) ≡ None) }
     ensures script { IfOk result (λ told. told.1 ≡ script (meaning catalogue.old.databases (view_of upkeep.old)) (meaning (after_all catalogue.old.databases changes.now) (view_of upkeep.old))) }
     ensures refused { IfErr result (IsGroupRefused (verdict_of (view_of upkeep.old)) catalogue.old.databases changes.now) }
-    ensures within { (g : ChangeValue) → changes.now ≡ g ∷ [] → result ≢ Err GroupRefused.NoMemory
-        → ForSome (limit_over (view_of upkeep.old) catalogue.old.databases g) (λ n. steps.new ≤ steps.old + n) }
+    ensures within { (g : ChangeValue) → changes.now ≡ g ∷ [] → ForSome (limit_over (view_of upkeep.old) catalogue.old.databases g) (λ n. steps.new ≤ steps.old + n) }
     ensures rises { steps.old ≤ steps.new }
 {
     if let [change] = changes {
@@ -156,7 +155,7 @@ impl Session {
         ensures session { IfOk result (λ session. session ≡ opened (query_of view.value) catalogue.databases) }
         ensures allowed { OnOk result (refusal catalogue.databases (query_of view.value) ≡ None) }
         ensures refused { IfErr result (λ e. IsFault (refusal catalogue.databases (query_of view.value)) e) }
-        ensures steps { result ≢ Err EvalFault.NoMemory → steps.new ≡ steps.old }
+        ensures steps { steps.new ≡ steps.old }
         ensures rises { steps.old ≤ steps.new }
     {
         match kept_over(alloc, &catalogue, view, steps) {
@@ -190,7 +189,7 @@ impl Session {
         ensures moved { OnOk result (self.new ≡ moved self.old change.now) }
         ensures refused { IfErr result (λ e. IsRefused self.old change.now e) }
         ensures same { OnErr result (self.new ≡ self.old) }
-        ensures within { result ≢ Err Refused.NoMemory → ForSome (limit_of self.old change.now) (λ n. steps.new ≤ steps.old + n) }
+        ensures within { ForSome (limit_of self.old change.now) (λ n. steps.new ≤ steps.old + n) }
         ensures rises { steps.old ≤ steps.new }
     {
         let (proposal, script) = propose_one(
@@ -285,7 +284,7 @@ impl Session {
         ensures proposed { OnOk result (self.new ≡ proposing self.old changes.now) }
         ensures refused { IfErr result (IsGroupRefused (verdict_of self.old.query) self.old.catalogue changes.now) }
         ensures same { OnErr result (self.new ≡ self.old) }
-        ensures within { (g : ChangeValue) → changes.now ≡ g ∷ [] → result ≢ Err GroupRefused.NoMemory → ForSome (limit_of self.old g) (λ n. steps.new ≤ steps.old + n) }
+        ensures within { (g : ChangeValue) → changes.now ≡ g ∷ [] → ForSome (limit_of self.old g) (λ n. steps.new ≤ steps.old + n) }
         ensures rises { steps.old ≤ steps.new }
     {
         match propose(
@@ -320,7 +319,7 @@ impl Session {
         ensures proposed { OnOk result (self.new ≡ proposing self.old (change.now ∷ [])) }
         ensures refused { IfErr result (λ e. IsRefused self.old change.now e) }
         ensures same { OnErr result (self.new ≡ self.old) }
-        ensures within { result ≢ Err Refused.NoMemory → ForSome (limit_of self.old change.now) (λ n. steps.new ≤ steps.old + n) }
+        ensures within { ForSome (limit_of self.old change.now) (λ n. steps.new ≤ steps.old + n) }
         ensures rises { steps.old ≤ steps.new }
     {
         let (waiting, script) = propose_one(

@@ -1,13 +1,15 @@
 use Rattle.std.proofs.Common.{◌≡◌, ◌<◌, ◌≤◌, ◌+◌, ◌∷◌, ◌++◌, ◌∙◌, [], ℕ, List, map, take, length, get_or, refl, arith, ap, sym, subst}
 use Rattle.std.specs.List.{AllByRecursion}
-use Rattle.std.proofs.lemmas.List.{length_push, map-id, take_all}
+use Rattle.std.proofs.lemmas.List.{length_push, length-map, map-id, take_all}
 use Rattle.std.proofs.lemmas.Iterator.Adapters.{YieldsList-from_vec}
-use Rattle.std.proofs.lemmas.Iterator.Consumers.{YieldsList-turn, YieldsList-end}
+use Rattle.std.proofs.lemmas.Iterator.Consumers.{YieldsList-turn, YieldsList-end, YieldsList-so_far}
 use Rattle.operator_law.specs.declared.delta.Signed.{Signed}
 use Rattle.join_delta.specs.Joins.{JoinValue}
 use Rattle.net_moves.specs.Net.{IsNet}
 use Rattle.plan_law.specs.Chain.{Walks, walk_pairs}
 use Rattle.plan_walk.specs.Stages.{joint_in, sides_in, side_moves}
+use Rattle.plan_walk.specs.Cost.{CostsWalk}
+use Rattle.plan_walk.proofs.Whole.{walk_there, breaks_off}
 use Rattle.plan_walk.proofs.Stages.{walks_on, pairs_on, nets_on, long_on, all_last}
 use Rattle.plan_walk.proofs.walks.walk.Goals as goal
 use Rattle.ss_text.proofs.GroupLemmas.{all_front}
@@ -90,3 +92,42 @@ returns-clause-each g c =
     let done = YieldsList-end items olds c.loop-right.right-iterator c.loop-right.yielded_by c.next.result c.next.new.self c.in-None.is c.next.ensures.steps in
     let whole : olds ≡ c.args.further.items = sym (map-id olds) ∙ done.0 in
     c.loop-right.invariant.counted ∙ ap length whole ∙ c.requires
+
+pub returns-in_err-sides-clause-within : goal.returns-in_err-sides-clause-within
+returns-in_err-sides-clause-within g c =
+    let joins : List JoinValue = c.args.joins.now in
+    let joints = length-map joins joint_in in
+    let sides = length-map joins sides_in in
+    walk_there (map joint_in joins) (map sides_in joins) c.args.first c.args.further.items (omega (arith, joints, sides)) (omega (arith, joints, c.requires)) c.args.steps.now
+
+pub returns-in_err-moves-clause-within : goal.returns-in_err-moves-clause-within
+returns-in_err-moves-clause-within g c =
+    let joins : List JoinValue = c.args.joins.now in
+    let olds : List (List Signed) = c.loop-right.yielded in
+    let right : List Signed = c.in-Some.right in
+    let was = c.loop-right.invariant in
+    let n = length olds in
+    let gives = c.into_iter-right-iterator.ensures.into_iter_gives in
+    let all = YieldsList-from_vec {s = c.into_iter-right-iterator.result} c.args.further.items gives.0 (gives.1 ∙ c.args.further.ok.0) in
+    let turn = YieldsList-turn all olds c.loop-right.right-iterator c.loop-right.yielded_by c.next.result c.next.new.self right c.in-Some.is c.next.ensures.steps in
+    let front : olds ≡ take n c.args.further.items = sym (map-id olds) ∙ YieldsList-so_far all olds c.loop-right.right-iterator c.loop-right.yielded_by in
+    let lt : n < length joins = omega (arith, turn.0, c.requires) in
+    let join : JoinValue = c.index-joins-len.result in
+    let place : c.len.result ≡ n = omega (arith, c.len.ensures, was.counted) in
+    let at : join ≡ get_or joins n join = c.index-joins-len.is ∙ ap (λ (k : ℕ). get_or joins k join) place in
+    breaks_off joins n join lt at c.loop-right.sides.items c.loop-right.moves was.counted c.args.first olds c.args.further.items right c.args.steps.now c.loop-right.steps c.stage.new.steps c.requires refl front turn.1
+    was.walks was.nets was.cost c.stage.ensures.cost
+
+pub returns-clause-within : goal.returns-clause-within
+returns-clause-within g c =
+    let joins : List JoinValue = c.args.joins.now in
+    let olds : List (List Signed) = c.loop-right.yielded in
+    let gives = c.into_iter-right-iterator.ensures.into_iter_gives in
+    let items = YieldsList-from_vec {s = c.into_iter-right-iterator.result} c.args.further.items gives.0 (gives.1 ∙ c.args.further.ok.0) in
+    let done = YieldsList-end items olds c.loop-right.right-iterator c.loop-right.yielded_by c.next.result c.next.new.self c.in-None.is c.next.ensures.steps in
+    let whole : olds ≡ c.args.further.items = sym (map-id olds) ∙ done.0 in
+    let all : take (length olds) joins ≡ joins = take_all (length olds) joins (omega (arith, ap length whole, c.requires)) in
+    let was = c.loop-right.invariant in
+    subst (λ (nss : List (List Signed)). CostsWalk (map joint_in joins) (map sides_in joins) c.args.first nss c.args.steps.now c.loop-right.steps) whole
+    (subst (λ (js : List JoinValue). CostsWalk (map joint_in js) (map sides_in js) c.args.first olds c.args.steps.now c.loop-right.steps) all
+    (record { moves = map side_moves c.loop-right.sides.items; out = c.loop-right.moves; walks = was.walks; nets = was.nets; within = was.cost }))

@@ -9,7 +9,8 @@ use Rattle.plan_walk.specs.Stages.{side_moves}
 use Rattle.plan_walk.specs.declared.walks.WalkMoves.{WalkMoves}
 use Rattle.plan_translate.specs.Read.{left_moves, kept_moves}
 use Rattle.plan_translate.specs.Plans.{PlanMoveValue, query_in}
-use Rattle.plan_translate.proofs.Moving.{output_in, reads_in, walked_by}
+use Rattle.plan_translate.proofs.Moving.{output_in, reads_in, walked_by, counts_walk}
+use Rattle.plan_translate.proofs.Within.{deltas_there}
 use Rattle.plan_translate.proofs.plan.Plan.moved.Goals as goal
 use Rattle.plan_translate.proofs.plan.Plan.moved.Goals.{then-self, else-self}
 
@@ -40,5 +41,34 @@ returns-clause-walked g c = λ c' flat_moved stands.
     ] in
     let m : PlanMoveValue = record { sides = map side_moves last.sides.items; facts = facts } in
     let same : SameNet (fact_moves q walk.out) facts = subst (λ (out : List Signed). SameNet (fact_moves q out) facts) kept.1 (c.in_ok-facts.ensures.same q (output_in i c.self.invariant p c.self.view_is)) in
-    walked_by d c' q c.args.deltas.items own.moves.0 c.in_ok-first.first c.in_ok-first.further.items moves walk.out c.args.steps.now c.walk_over.new.steps
-    own.moves.1 own.moves.2 own.moves.3 (c.in_ok-walk.ensures.walks stands) each nets.0 nets.1 m kept.0 same c.in_ok-facts.ensures.net flat_moved
+    walked_by d c' q c.args.deltas.items own.moves.0 c.in_ok-first.first c.in_ok-first.further.items own.moves.1 own.moves.2 own.moves.3 flat_moved
+    moves walk.out c.args.steps.now c.walk_over.new.steps (c.in_ok-walk.ensures.walks stands) each nets.0 nets.1 m kept.0 same c.in_ok-facts.ensures.net
+
+pub returns-in_err-first-clause-within : goal.returns-in_err-first-clause-within
+returns-in_err-first-clause-within g c = λ c' flat_moved stands.
+    let p = c.args.self.now in
+    deltas_there c.args.catalogue.now.databases c' (query_in p) c.own_moves.ensures.profile p.sides stands c.args.deltas.items flat_moved c.args.steps.now
+
+pub returns-in_err-walk-clause-within : goal.returns-in_err-walk-clause-within
+returns-in_err-walk-clause-within g c = λ c' flat_moved stands.
+    let d = c.args.catalogue.now.databases in
+    let q = query_in c.args.self.now in
+    let own = c.in_ok-first.ensures in
+    counts_walk d c' q c.args.deltas.items own.moves.0 c.in_ok-first.first c.in_ok-first.further.items own.moves.1 own.moves.2 own.moves.3 flat_moved c.args.steps.now c.walk_over.new.steps own.net.0 own.net.1
+    (c.walk_over.ensures.within stands)
+
+pub returns-in_err-facts-clause-within : goal.returns-in_err-facts-clause-within
+returns-in_err-facts-clause-within g c = λ c' flat_moved stands.
+    let d = c.args.catalogue.now.databases in
+    let q = query_in c.args.self.now in
+    let own = c.in_ok-first.ensures in
+    counts_walk d c' q c.args.deltas.items own.moves.0 c.in_ok-first.first c.in_ok-first.further.items own.moves.1 own.moves.2 own.moves.3 flat_moved c.args.steps.now c.walk_over.new.steps own.net.0 own.net.1
+    (c.walk_over.ensures.within stands)
+
+pub returns-clause-within : goal.returns-clause-within
+returns-clause-within g c = λ c' flat_moved stands.
+    let d = c.args.catalogue.now.databases in
+    let q = query_in c.args.self.now in
+    let own = c.in_ok-first.ensures in
+    counts_walk d c' q c.args.deltas.items own.moves.0 c.in_ok-first.first c.in_ok-first.further.items own.moves.1 own.moves.2 own.moves.3 flat_moved c.args.steps.now c.walk_over.new.steps own.net.0 own.net.1
+    (c.walk_over.ensures.within stands)

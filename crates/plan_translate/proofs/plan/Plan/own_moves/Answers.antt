@@ -3,7 +3,7 @@ use Rattle.operator_law.specs.declared.delta.Signed.{Signed}
 use Rattle.net_moves.specs.Net.{SameNet}
 use Rattle.plan_translate.specs.Parts.{own_tests, each_passing}
 use Rattle.plan_translate.proofs.Each.{zip_long}
-use Rattle.plan_translate.proofs.Moving.{tests_in, joins_long, joined_in, split_in}
+use Rattle.plan_translate.proofs.Moving.{profile_in, tests_in, joins_long, joined_in, split_in}
 use Rattle.plan_translate.proofs.plan.Plan.own_moves.Goals as goal
 
 pub own_moves-requires : goal.own_moves-requires
@@ -26,3 +26,9 @@ returns-clause-moves c =
 pub returns-clause-each : goal.returns-clause-each
 returns-clause-each c =
     omega (arith, ap length c.split.ensures, c.in_ok-own.ensures.each, ap length c.deref.ensures.value, joins_long c.self.inside c.self.invariant, joined_in c.self.inside c.self.invariant c.args.self.now c.self.view_is)
+
+pub returns-in_err-own-clause-profile : goal.returns-in_err-own-clause-profile
+returns-in_err-own-clause-profile c = profile_in c.self.inside c.self.invariant c.args.self.now c.self.view_is
+
+pub returns-clause-profile : goal.returns-clause-profile
+returns-clause-profile c = profile_in c.self.inside c.self.invariant c.args.self.now c.self.view_is

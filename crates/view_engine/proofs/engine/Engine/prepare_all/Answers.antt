@@ -1,5 +1,7 @@
+use Rattle.std.proofs.Common.{sym, subst}
 use Rattle.schema_model.specs.Changes.{after_all}
 use Rattle.schema_model.proofs.SoundAfter.{sound_after_all}
+use Rattle.plan_translate.specs.Costs.{CountsWalk}
 use Rattle.view_engine.specs.Engines.{view_in}
 use Rattle.view_engine.proofs.OneForms.{told_ok, told_err}
 use Rattle.view_engine.proofs.RowLimits.{counts_as}
@@ -26,3 +28,8 @@ returns-clause-stops g c =
 pub returns-clause-cost : goal.returns-clause-cost
 returns-clause-cost g c =
     told_ok _ _ c.with_lines.result (λ m is. counts_as c.args.catalogue.now.databases (after_all c.args.catalogue.now.databases c.args.changes.now) (view_in c.args.self.now) c.in_ok-plan.plan m.plan c.args.steps.now c.prepare_all.new.steps _ is c.with_lines.ensures.steps c.in_ok-plan.ensures.cost) c.with_lines.ensures.plan
+
+pub returns-clause-counts : goal.returns-clause-counts
+returns-clause-counts g c =
+    let d = c.args.catalogue.now.databases in
+    subst (CountsWalk d (after_all d c.args.changes.now) (view_in c.args.self.now) c.args.steps.now) (sym c.with_lines.ensures.steps) c.prepare_all.ensures.within
