@@ -4,6 +4,7 @@ pub mod MovedLemmas
 pub mod LinesLemmas
 pub mod ScriptLemmas
 pub mod StandsLemmas
+pub mod LimitLemmas
 pub mod LawLemmas
 pub mod PutLemmas
 pub mod SlotLemmas

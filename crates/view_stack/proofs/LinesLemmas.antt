@@ -44,12 +44,12 @@ changed_in_order ts label t f h e made =
     subst AreTables (sym (table_changed ts label f place.0 h place.1)) (table_changed_in_order ts f place.0 h (subst (λ (u : TableValue). IsTable (f u)) same made))
 
 -- the table of a line that fits
-record Found (ts : TablesValue) (line : TableLine) : Type 0 where
-  table : TableValue
-  found : table_of ts (label_of line) ≡ Some table
-  fits : fits_table line table ≡ true
+pub record Found (ts : TablesValue) (line : TableLine) : Type 0 where
+  pub table : TableValue
+  pub found : table_of ts (label_of line) ≡ Some table
+  pub fits : fits_table line table ≡ true
 
-found_table : (ts : TablesValue) (line : TableLine) → fits_label ts line ≡ true → Found ts line
+pub found_table : (ts : TablesValue) (line : TableLine) → fits_label ts line ≡ true → Found ts line
 found_table ts line h = by_case (table_of ts (label_of line)) refl
   where
     by_case : (o : Option TableValue) → table_of ts (label_of line) ≡ o → Found ts line
@@ -75,11 +75,11 @@ after_in_order ts (RowPlus label key) h fits = row_line_in_order ts (RowPlus lab
 after_in_order ts (Cell label column value key) h fits = row_line_in_order ts (Cell label column value key) h fits
 
 -- ---- the catalogue of the one database
-after_all-append : (c : CatalogueValue) (gs hs : List Change) → after_all c (gs ++ hs) ≡ after_all (after_all c gs) hs
+pub after_all-append : (c : CatalogueValue) (gs hs : List Change) → after_all c (gs ++ hs) ≡ after_all (after_all c gs) hs
 after_all-append c [] hs = refl
 after_all-append c (g ∷ gs) hs = after_all-append (after c g) gs hs
 
-at_whole : (db : Text) (f : DatabaseValue → DatabaseValue) (rs : List RelationValue) → at_database db f (whole db rs) ≡ f (database_value db rs) ∷ []
+pub at_whole : (db : Text) (f : DatabaseValue → DatabaseValue) (rs : List RelationValue) → at_database db f (whole db rs) ≡ f (database_value db rs) ∷ []
 at_whole db f rs = rw (same_bytes db) refl
 
 pub attributes_found : (db label : Text) (rs : List RelationValue) (r : RelationValue) → relation_at label rs ≡ Some r → attributes_of (whole db rs) db label ≡ r.attributes
@@ -102,11 +102,11 @@ IsDynamic constants line = Unit {0}
 -- ---- one line
 module _ (constants : Row) (db : Text) (distinct : Distinct constants) (rs : List RelationValue) (ts : TablesValue) (order : AreTables ts) (said : AreSaid constants rs ts) where
   -- the record that is read in the catalogue is that of the relation
-  same_record : (label : Text) (key : Row) (r : RelationValue) (t : TableValue) → relation_at label rs ≡ Some r → table_of ts label ≡ Some t
+  pub same_record : (label : Text) (key : Row) (r : RelationValue) (t : TableValue) → relation_at label rs ≡ Some r → table_of ts label ≡ Some t
       → record_of constants r.attributes t key ≡ record_of constants (attributes_of (whole db rs) db label) (table_at ts label) key
   same_record label key r t i j = λ k. record_of constants (sym (attributes_found db label rs r i) k) (sym (ap (λ (o : Option TableValue). unwrap_or o empty_table) j) k) key
 
-  same_after : (label : Text) (key : Row) (cells : List (Text × Text)) (r : RelationValue) (t : TableValue) → relation_at label rs ≡ Some r → table_of ts label ≡ Some t
+  pub same_after : (label : Text) (key : Row) (cells : List (Text × Text)) (r : RelationValue) (t : TableValue) → relation_at label rs ≡ Some r → table_of ts label ≡ Some t
       → record_after constants r.attributes t key cells ≡ record_after constants (attributes_of (whole db rs) db label) (table_at ts label) key cells
   same_after label key cells r t i j = λ k. record_after constants (sym (attributes_found db label rs r i) k) (sym (ap (λ (o : Option TableValue). unwrap_or o empty_table) j) k) key cells
 
@@ -117,16 +117,16 @@ module _ (constants : Row) (db : Text) (distinct : Distinct constants) (rs : Lis
   abbrev read : TableLine → List TableLine → List Change
   read line later = lifted_line db constants (table_at ts (label_of line)) (attributes_of (whole db rs) db (label_of line)) line later
 
-  table_went : (label : Text) (later : List TableLine) → IsSaid constants db (after_all (whole db rs) (read (TableMinus label) later)) (without_table label ts)
+  pub table_went : (label : Text) (later : List TableLine) → IsSaid constants db (after_all (whole db rs) (read (TableMinus label) later)) (without_table label ts)
   table_went label later = (without label rs, at_whole db (with_relations (without label)) rs, said_without constants label rs ts said)
 
-  table_came : (label : Text) (later : List TableLine) → IsSaid constants db (after_all (whole db rs) (read (TablePlus label) later)) (with_table label ts)
+  pub table_came : (label : Text) (later : List TableLine) → IsSaid constants db (after_all (whole db rs) (read (TablePlus label) later)) (with_table label ts)
   table_came label later = (placed (relation_value label constants []) rs, at_whole db (with_relations (placed (relation_value label constants []))) rs, said_placed constants label distinct rs ts said)
 
   abbrev in_relation : Text → (RelationValue → RelationValue) → List RelationValue
   in_relation label f = changed_where (λ (r : RelationValue). text_eq label r.name) f rs
 
-  row_gone : (label : Text) (key : Row) (later : List TableLine) → fits_label ts (RowMinus label key) ≡ true → IsSaid constants db (after_all (whole db rs) (read (RowMinus label key) later)) (at_table label (without_row key) ts)
+  pub row_gone : (label : Text) (key : Row) (later : List TableLine) → fits_label ts (RowMinus label key) ≡ true → IsSaid constants db (after_all (whole db rs) (read (RowMinus label key) later)) (at_table label (without_row key) ts)
   row_gone label key later fits =
       let row = record_of constants (attributes_of (whole db rs) db label) (table_at ts label) key in (
         in_relation label (less_row row),
@@ -135,7 +135,7 @@ module _ (constants : Row) (db : Text) (distinct : Distinct constants) (rs : Lis
             subst (λ (x : Row). Says constants (less_row x r) (without_row key t)) (same_record label key r t i j) (row_went constants r t s label key (fits_found (RowMinus label key) t fits j))),
       )
 
-  row_new : (label : Text) (key : Row) (later : List TableLine) → fits_label ts (RowPlus label key) ≡ true → IsSaid constants db (after_all (whole db rs) (read (RowPlus label key) later)) (at_table label (with_row key) ts)
+  pub row_new : (label : Text) (key : Row) (later : List TableLine) → fits_label ts (RowPlus label key) ≡ true → IsSaid constants db (after_all (whole db rs) (read (RowPlus label key) later)) (at_table label (with_row key) ts)
   row_new label key later fits =
       let row = record_of constants (attributes_of (whole db rs) db label) (table_at ts label) key in (
         in_relation label (put_row row),
@@ -144,7 +144,7 @@ module _ (constants : Row) (db : Text) (distinct : Distinct constants) (rs : Lis
             subst (λ (x : Row). Says constants (put_row x r) (with_row key t)) (same_record label key r t i j) (row_came constants r t s label key (not_true (has_row key t) (fits_found (RowPlus label key) t fits j)))),
       )
 
-  column_gone : (label column : Text) (later : List TableLine) → fits_label ts (ColumnMinus label column) ≡ true → IsSaid constants db (after_all (whole db rs) (read (ColumnMinus label column) later)) (at_table label (without_column column) ts)
+  pub column_gone : (label column : Text) (later : List TableLine) → fits_label ts (ColumnMinus label column) ≡ true → IsSaid constants db (after_all (whole db rs) (read (ColumnMinus label column) later)) (at_table label (without_column column) ts)
   column_gone label column later fits = (
     in_relation label (less_attribute column),
     at_whole db (at_relation_in label (less_attribute column)) rs,
@@ -152,7 +152,7 @@ module _ (constants : Row) (db : Text) (distinct : Distinct constants) (rs : Lis
         column_dropped constants r t s label column (fits_found (ColumnMinus label column) t fits j)),
   )
 
-  column_new : (label column : Text) (later : List TableLine) → fits_label ts (ColumnPlus label column) ≡ true → is_in column constants ≡ false → IsSaid constants db (after_all (whole db rs) (read (ColumnPlus label column) later)) (at_table label (with_column column) ts)
+  pub column_new : (label column : Text) (later : List TableLine) → fits_label ts (ColumnPlus label column) ≡ true → is_in column constants ≡ false → IsSaid constants db (after_all (whole db rs) (read (ColumnPlus label column) later)) (at_table label (with_column column) ts)
   column_new label column later fits dynamic = (
     in_relation label (with_attribute column []),
     at_whole db (at_relation_in label (with_attribute column [])) rs,
@@ -169,7 +169,7 @@ module _ (constants : Row) (db : Text) (distinct : Distinct constants) (rs : Lis
       by_test true e rest = rw (e, same x ∙ e, rest) refl
       by_test false e rest = rw (e, e, rest) refl
 
-  row_changes : (label : Text) (key : Row) (cells : List (Text × Text)) → ((t : TableValue) → table_of ts label ≡ Some t → (has_row key t ≡ true) × HasColumns t cells)
+  pub row_changes : (label : Text) (key : Row) (cells : List (Text × Text)) → ((t : TableValue) → table_of ts label ≡ Some t → (has_row key t ≡ true) × HasColumns t cells)
       → IsSaid constants db (after_all (whole db rs) (Delete db label (record_of constants (attributes_of (whole db rs) db label) (table_at ts label) key) ∷ Insert db label (record_after constants (attributes_of (whole db rs) db label) (table_at ts label) key cells) ∷ []))
       (at_table label (cells_after key cells) ts)
   row_changes label key cells there =
@@ -208,12 +208,12 @@ table_stays label (p ∷ ps) = by_test (text_eq label p.0) refl (table_stays lab
     by_test true e rest = rw (e, rest) refl
     by_test false e rest = rw (e, rest) refl
 
-after_cells : (label : Text) (key : Row) (cells : List (Text × Text)) (ts : TablesValue) → after_lines ts (cell_lines label key cells) ≡ at_table label (cells_after key cells) ts
+pub after_cells : (label : Text) (key : Row) (cells : List (Text × Text)) (ts : TablesValue) → after_lines ts (cell_lines label key cells) ≡ at_table label (cells_after key cells) ts
 after_cells label key [] ts = sym (table_stays label ts)
 after_cells label key (x ∷ cells) ts = after_cells label key cells (at_table label (with_cell key x.0 x.1) ts) ∙ table_twice label (with_cell key x.0 x.1) (cells_after key cells) ts
 
 -- columns of the cells at the front are there
-cells_fit : (label : Text) (key : Row) (lines : List TableLine) (ts : TablesValue) (t : TableValue) → table_of ts label ≡ Some t → fit_lines ts lines ≡ true → HasColumns t (front_cells label key lines)
+pub cells_fit : (label : Text) (key : Row) (lines : List TableLine) (ts : TablesValue) (t : TableValue) → table_of ts label ≡ Some t → fit_lines ts lines ≡ true → HasColumns t (front_cells label key lines)
 cells_fit label key [] ts t e h = tt
 cells_fit label key (TableMinus l ∷ lines) ts t e h = tt
 cells_fit label key (TablePlus l ∷ lines) ts t e h = tt
@@ -253,7 +253,7 @@ Reads before ts row [] = Unit {0}
 Reads before ts row (line ∷ lines) = (goes_on row line ≡ false → LineReads (table_at before (label_of line)) (table_at ts (label_of line)) line) × Reads before (after_line ts line) (row_of line) lines
 
 -- a table that is there has its relation
-said_found : (constants : Row) (label : Text) (rs : List RelationValue) (ts : TablesValue) (t : TableValue) → AreSaid constants rs ts → table_of ts label ≡ Some t → (r : RelationValue) × (relation_at label rs ≡ Some r) × Says constants r t
+pub said_found : (constants : Row) (label : Text) (rs : List RelationValue) (ts : TablesValue) (t : TableValue) → AreSaid constants rs ts → table_of ts label ≡ Some t → (r : RelationValue) × (relation_at label rs ≡ Some r) × Says constants r t
 said_found constants label [] [] t h e = absurd (cc)
 said_found constants label [] (p ∷ ps) t h e = absurd h
 said_found constants label (r ∷ rs) [] t h e = absurd h
@@ -294,7 +294,7 @@ module _ (constants : Row) (db : Text) (before : TablesValue) (rs : List Relatio
           let column : is_in name t.columns ≡ true = sym (ap (λ (b : Bool). b || is_in name t.columns) k) ∙ either in
           rw k (agrees name (ap (has_column name) (sym now) ∙ column))
 
-  same_line : (line : TableLine) (lines : List TableLine) → fits_line ts line ≡ true → LineReads (table_at before (label_of line)) (table_at ts (label_of line)) line
+  pub same_line : (line : TableLine) (lines : List TableLine) → fits_line ts line ≡ true → LineReads (table_at before (label_of line)) (table_at ts (label_of line)) line
       → lifted_line db constants (table_at before (label_of line)) (attributes_of (whole db rs) db (label_of line)) line lines ≡ lifted_line db constants (table_at ts (label_of line)) (attributes_of (whole db rs) db (label_of line)) line lines
   same_line (TableMinus label) lines fits reads = refl
   same_line (TablePlus label) lines fits reads = refl
@@ -316,7 +316,7 @@ module _ (constants : Row) (db : Text) (before : TablesValue) (rs : List Relatio
       λ i. Delete db label (old i) ∷ Insert db label (new i) ∷ []
 
 -- ---- the attributes of a relation after a line
-find_changed : (label l : Text) (f : RelationValue → RelationValue) (rs : List RelationValue) → ((r : RelationValue) → (f r).name ≡ r.name)
+pub find_changed : (label l : Text) (f : RelationValue → RelationValue) (rs : List RelationValue) → ((r : RelationValue) → (f r).name ≡ r.name)
     → relation_at l (changed_where (λ (r : RelationValue). text_eq label r.name) f rs) ≡ cond (text_eq l label) (option_map f (relation_at l rs)) (relation_at l rs)
 find_changed label l f [] named = either (text_eq l label)
   where
@@ -400,7 +400,7 @@ attributes_are db label rs = ap (λ (o : Option DatabaseValue). names_in (option
     here = rw (same_bytes db) refl
 
 -- no table, no relation
-said_missing : (constants : Row) (label : Text) (rs : List RelationValue) (ts : TablesValue) → AreSaid constants rs ts → has_table ts label ≡ false → relation_at label rs ≡ None
+pub said_missing : (constants : Row) (label : Text) (rs : List RelationValue) (ts : TablesValue) → AreSaid constants rs ts → has_table ts label ≡ false → relation_at label rs ≡ None
 said_missing constants label [] [] h none = refl
 said_missing constants label [] (p ∷ ps) h none = absurd h
 said_missing constants label (r ∷ rs) [] h none = absurd h
@@ -428,15 +428,15 @@ edited_names db rs label l f g named names none =
     by_label true e = rw e (mapped (relation_at l rs) (none e) ∙ ap g (sym (attributes_are db l rs)))
     by_label false e = rw e (sym (attributes_are db l rs))
 
-same_both : (b : Bool) (x : Row) → cond b x x ≡ x
+pub same_both : (b : Bool) (x : Row) → cond b x x ≡ x
 same_both true x = refl
 same_both false x = refl
 
-abbrev AfterNames : Row → Text → List RelationValue → TableValue → Row → TableLine → List TableLine → Text → Type 0
+abbrev pub AfterNames : Row → Text → List RelationValue → TableValue → Row → TableLine → List TableLine → Text → Type 0
 AfterNames constants db rs t names line later l =
     attributes_of (after_all (whole db rs) (lifted_line db constants t names line later)) db l ≡ cond (text_eq l (label_of line)) (names_after constants line (attributes_of (whole db rs) db l)) (attributes_of (whole db rs) db l)
 
-after_names : (constants : Row) (db : Text) (rs : List RelationValue) (ts : TablesValue) (said : AreSaid constants rs ts) (t : TableValue) (names : Row) (line : TableLine) (later : List TableLine) (l : Text) → fits_line ts line ≡ true → AfterNames constants db rs t names line later l
+pub after_names : (constants : Row) (db : Text) (rs : List RelationValue) (ts : TablesValue) (said : AreSaid constants rs ts) (t : TableValue) (names : Row) (line : TableLine) (later : List TableLine) (l : Text) → fits_line ts line ≡ true → AfterNames constants db rs t names line later l
 after_names constants db rs ts said t names (TableMinus label) later l fits =
     ap (λ (c : CatalogueValue). attributes_of c db l) (at_whole db (with_relations (without label)) rs)
     ∙ attributes_are db l (without label rs)
@@ -495,7 +495,7 @@ Leaves (Some left) lines = LeavesBehind left.0 lines
 abbrev pub Heads : CatalogueValue → Text → Option (Text × Row) → List RelationValue → List TableLine → Type 0
 Heads c db left rs lines = (l : Text) → is_in l (map label_of lines) ≡ true → names_of c db left l ≡ attributes_of (whole db rs) db l
 
-own_names : (names : Row) (constants : Row) (row : Option (Text × Row)) (line : TableLine) → goes_on row line ≡ true → names_after constants line names ≡ names
+pub own_names : (names : Row) (constants : Row) (row : Option (Text × Row)) (line : TableLine) → goes_on row line ≡ true → names_after constants line names ≡ names
 own_names names constants None line h = absurd (cc)
 own_names names constants (Some row) (TableMinus l) h = absurd (cc)
 own_names names constants (Some row) (TablePlus l) h = absurd (cc)
@@ -518,7 +518,7 @@ not_left c db (Some left) line lines l leaves there other = by_test (text_eq lef
         let bad : true ≡ false = sym there ∙ ap (λ (x : Text). is_in x (map label_of lines)) (sym same) ∙ gone in
         absurd (cc)
 
-next_heads : (constants : Row) (c : CatalogueValue) (db : Text) (left : Option (Text × Row)) (rs ss : List RelationValue) (line : TableLine) (lines : List TableLine) → Heads c db left rs (line ∷ lines) → Leaves left (line ∷ lines)
+pub next_heads : (constants : Row) (c : CatalogueValue) (db : Text) (left : Option (Text × Row)) (rs ss : List RelationValue) (line : TableLine) (lines : List TableLine) → Heads c db left rs (line ∷ lines) → Leaves left (line ∷ lines)
     → ((l : Text) → attributes_of (whole db ss) db l ≡ cond (text_eq l (label_of line)) (names_after constants line (attributes_of (whole db rs) db l)) (attributes_of (whole db rs) db l))
     → Heads c db (Some (label_of line, names_after constants line (names_of c db left (label_of line)))) ss lines
 next_heads constants c db left rs ss line lines heads leaves after l there = by_label (text_eq (label_of line) l) refl
@@ -536,7 +536,7 @@ next_heads constants c db left rs ss line lines heads leaves after l there = by_
         let now : names_of c db left l ≡ attributes_of (whole db rs) db l = heads l (ap (λ (b : Bool). text_eq l (label_of line) || b) there ∙ or_right (text_eq l (label_of line))) in
         rw e (sym (not_left c db left line lines l leaves there e) ∙ now ∙ sym (after l ∙ ap (λ (b : Bool). cond b (names_after constants line (attributes_of (whole db rs) db l)) (attributes_of (whole db rs) db l)) back))
 
-off_pending : (row : Option (Text × Row)) (line : TableLine) (lines : List TableLine) → goes_on row line ≡ false → pending row (line ∷ lines) ≡ []
+pub off_pending : (row : Option (Text × Row)) (line : TableLine) (lines : List TableLine) → goes_on row line ≡ false → pending row (line ∷ lines) ≡ []
 off_pending None line lines h = refl
 off_pending (Some row) (TableMinus l) lines h = refl
 off_pending (Some row) (TablePlus l) lines h = refl
@@ -546,7 +546,7 @@ off_pending (Some row) (ColumnPlus l c) lines h = refl
 off_pending (Some row) (RowPlus l k) lines h = refl
 off_pending (Some row) (Cell l c v k) lines h = rw h refl
 
-on_pending : (row : Option (Text × Row)) (line : TableLine) (lines : List TableLine) → goes_on row line ≡ true → pending row (line ∷ lines) ≡ line ∷ pending (row_of line) lines
+pub on_pending : (row : Option (Text × Row)) (line : TableLine) (lines : List TableLine) → goes_on row line ≡ true → pending row (line ∷ lines) ≡ line ∷ pending (row_of line) lines
 on_pending None line lines h = absurd (cc)
 on_pending (Some row) (TableMinus l) lines h = absurd (cc)
 on_pending (Some row) (TablePlus l) lines h = absurd (cc)
@@ -559,70 +559,6 @@ on_pending (Some row) (Cell l c v k) lines h =
     let key = rows_same row.1 k (and_second (text_eq row.0 l) (row_eq row.1 k) h) in
     rw h (λ i. Cell (name i) c v (key i) ∷ cell_lines (name i) (key i) (front_cells (name i) (key i) lines))
 
-none_pending : (row : Option (Text × Row)) → pending row [] ≡ []
+pub none_pending : (row : Option (Text × Row)) → pending row [] ≡ []
 none_pending None = refl
 none_pending (Some row) = refl
-
-module _ (constants : Row) (db : Text) (distinct : Distinct constants) (before : TablesValue) where
-  -- what a line with those of its row comes to
-  line_said : (rs : List RelationValue) (ts : TablesValue) → AreTables ts → AreSaid constants rs ts → (line : TableLine) (lines : List TableLine) → fit_lines ts (line ∷ lines) ≡ true → IsDynamic constants line
-      → IsSaid constants db (after_all (whole db rs) (lifted_line db constants (table_at ts (label_of line)) (attributes_of (whole db rs) db (label_of line)) line lines)) (after_lines (after_line ts line) (pending (row_of line) lines))
-  line_said rs ts order said (TableMinus label) lines fits dynamic = table_went constants db distinct rs ts order said label lines
-  line_said rs ts order said (TablePlus label) lines fits dynamic = table_came constants db distinct rs ts order said label lines
-  line_said rs ts order said (RowMinus label key) lines fits dynamic = row_gone constants db distinct rs ts order said label key lines (and_first _ _ fits)
-  line_said rs ts order said (ColumnMinus label column) lines fits dynamic = column_gone constants db distinct rs ts order said label column lines (and_first _ _ fits)
-  line_said rs ts order said (ColumnPlus label column) lines fits dynamic = column_new constants db distinct rs ts order said label column lines (and_first _ _ fits) dynamic
-  line_said rs ts order said (RowPlus label key) lines fits dynamic = row_new constants db distinct rs ts order said label key lines (and_first _ _ fits)
-  line_said rs ts order said (Cell label column value key) lines fits dynamic =
-      subst (λ (us : TablesValue). IsSaid constants db (after_all (whole db rs) (lifted_line db constants (table_at ts label) (attributes_of (whole db rs) db label) (Cell label column value key) lines)) us)
-      (sym (after_cells label key ((column, value) ∷ front_cells label key lines) ts))
-      (row_changes constants db distinct rs ts order said label key ((column, value) ∷ front_cells label key lines) there)
-    where
-      there : (t : TableValue) → table_of ts label ≡ Some t → (has_row key t ≡ true) × HasColumns t ((column, value) ∷ front_cells label key lines)
-      there t e =
-          let first = and_first (fits_label ts (Cell label column value key)) (fit_lines (after_line ts (Cell label column value key)) lines) fits in
-          let both : (has_row key t && has_column column t) ≡ true = sym (ap (λ (o : Option TableValue). option_map_or (fits_table (Cell label column value key)) o false) e) ∙ first in
-          let front = cells_fit label key (Cell label column value key ∷ lines) ts t e fits in
-          let same : (text_eq label label && row_eq key key) ≡ true = rw (same_bytes label, same_rows key) refl in
-          (and_first (has_row key t) (has_column column t) both, subst (λ (b : Bool). HasColumns t (cond b ((column, value) ∷ front_cells label key lines) [])) same front)
-
-  pub lines_said : (c : CatalogueValue) (lines : List TableLine) (left row : Option (Text × Row)) (rs : List RelationValue) (ts : TablesValue) → AreTables ts → AreSaid constants rs (after_lines ts (pending row lines)) → Heads c db left rs lines → Leaves left lines → AreBlocks lines
-      → fit_lines ts lines ≡ true → AllByRecursion (IsDynamic constants) lines → Reads before ts row lines
-      → IsSaid constants db (after_all (whole db rs) (lifted_behind db constants before c left row lines)) (after_lines ts lines)
-  lines_said c [] left row rs ts order said heads leaves blocks fits dynamic reads = (rs, refl, subst (λ (ls : List TableLine). AreSaid constants rs (after_lines ts ls)) (none_pending row) said)
-  lines_said c (line ∷ lines) left row rs ts order said heads leaves blocks fits dynamic reads = by_on (goes_on row line) refl (lines_said c lines (Some (label_of line, names_after constants line (names_of c db left (label_of line)))) (row_of line))
-    where
-      here_names : names_of c db left (label_of line) ≡ attributes_of (whole db rs) db (label_of line)
-      here_names = heads (label_of line) (ap (λ (b : Bool). b || is_in (label_of line) (map label_of lines)) (same_bytes (label_of line)))
-
-      first : fits_line ts line ≡ true
-      first = and_first (fits_line ts line) (fit_lines (after_line ts line) lines) fits
-
-      second : fit_lines (after_line ts line) lines ≡ true
-      second = and_second (fits_line ts line) (fit_lines (after_line ts line) lines) fits
-
-      order_then : AreTables (after_line ts line)
-      order_then = after_in_order ts line order first
-
-      by_on : (b : Bool) → goes_on row line ≡ b
-          → ((ss : List RelationValue) (us : TablesValue) → AreTables us → AreSaid constants ss (after_lines us (pending (row_of line) lines)) → Heads c db (Some (label_of line, names_after constants line (names_of c db left (label_of line)))) ss lines → Leaves (Some (label_of line, names_after constants line (names_of c db left (label_of line)))) lines → AreBlocks lines
-          → fit_lines us lines ≡ true → AllByRecursion (IsDynamic constants) lines → Reads before us (row_of line) lines
-          → IsSaid constants db (after_all (whole db ss) (lifted_behind db constants before c (Some (label_of line, names_after constants line (names_of c db left (label_of line)))) (row_of line) lines)) (after_lines us lines))
-          → IsSaid constants db (after_all (whole db rs) (lifted_behind db constants before c left row (line ∷ lines))) (after_lines ts (line ∷ lines))
-      by_on true e rest =
-          let heads_then = next_heads constants c db left rs rs line lines heads leaves (λ l.
-          sym (ap (λ (ns : Row). cond (text_eq l (label_of line)) ns (attributes_of (whole db rs) db l)) (own_names (attributes_of (whole db rs) db l) constants row line e) ∙ same_both (text_eq l (label_of line)) (attributes_of (whole db rs) db l))) in
-          let later = rest rs (after_line ts line) order_then (subst (λ (ls : List TableLine). AreSaid constants rs (after_lines ts ls)) (on_pending row line lines e) said) heads_then blocks.0 blocks.1 second dynamic.1 reads.1 in
-          rw e later
-      by_on false e rest =
-          let now = subst (λ (ls : List TableLine). AreSaid constants rs (after_lines ts ls)) (off_pending row line lines e) said in
-          let here = line_said rs ts order now line lines fits dynamic.0 in
-          let at = table_at before (label_of line) in
-          let same = ap (λ (ns : Row). lifted_line db constants at ns line lines) here_names ∙ same_line constants db before rs ts now line lines first (reads.0 e) in
-          let changes = lifted_line db constants at (names_of c db left (label_of line)) line lines in
-          let comes : after_all (whole db rs) changes ≡ whole db here.0 = ap (after_all (whole db rs)) same ∙ here.1 in
-          let heads_then = next_heads constants c db left rs here.0 line lines heads leaves (λ l.
-          ap (λ (d : CatalogueValue). attributes_of d db l) (sym comes) ∙ after_names constants db rs ts now at (names_of c db left (label_of line)) line lines l first) in
-          let later = rest here.0 (after_line ts line) order_then here.2 heads_then blocks.0 blocks.1 second dynamic.1 reads.1 in
-          let there = subst (λ (d : CatalogueValue). IsSaid constants db (after_all d (lifted_behind db constants before c (Some (label_of line, names_after constants line (names_of c db left (label_of line)))) (row_of line) lines)) (after_lines ts (line ∷ lines))) (sym comes) later in
-          rw e (subst (λ (d : CatalogueValue). IsSaid constants db d (after_lines ts (line ∷ lines))) (sym (after_all-append (whole db rs) changes (lifted_behind db constants before c (Some (label_of line, names_after constants line (names_of c db left (label_of line)))) (row_of line) lines))) there)

@@ -239,14 +239,14 @@ halves zero xs = refl
 halves (suc n) [] = refl
 halves (suc n) (x ∷ xs) = ap (λ ys. x ∷ ys) (halves n xs)
 
-weigh_inserted : {X : Type 0} (f : X → ℕ) (xs : List X) (p : ℕ) (x : X) → weigh f (insert xs p x) ≡ f x + weigh f xs
+pub weigh_inserted : {X : Type 0} (f : X → ℕ) (xs : List X) (p : ℕ) (x : X) → weigh f (insert xs p x) ≡ f x + weigh f xs
 weigh_inserted f xs p x =
     let a = weigh_append f (take p xs) (x ∷ drop p xs) in
     let b = weigh_append f (take p xs) (drop p xs) in
     let c : weigh f (take p xs ++ drop p xs) ≡ weigh f xs = ap (weigh f) (halves p xs) in
     omega (arith, a, b, c)
 
-weigh_removed : {X : Type 0} (f : X → ℕ) (xs : List X) (i : ℕ) (d : X) → i < length xs → weigh f xs ≡ f (slice_index_or xs i d) + weigh f (remove xs i)
+pub weigh_removed : {X : Type 0} (f : X → ℕ) (xs : List X) (i : ℕ) (d : X) → i < length xs → weigh f xs ≡ f (slice_index_or xs i d) + weigh f (remove xs i)
 weigh_removed f [] i d l = absurd (omega (arith, l))
 weigh_removed f (x ∷ xs) zero d l = refl
 weigh_removed f (x ∷ xs) (suc i) d l = let rest = weigh_removed f xs i d (omega (arith, l)) in omega (arith, rest)
@@ -274,11 +274,11 @@ weigh_less_name f a (n ∷ ns) h = by_first (text_eq a n) refl (weigh_less_name 
         rw (e, one_more) (omega (arith, behind))
 
 -- ---- the keys of a table
-keys_weighed : (g : Row → ℕ) (rows : List (Row × Row)) → weigh g (keys_of rows) ≡ weigh (λ (x : Row × Row). g x.0) rows
+pub keys_weighed : (g : Row → ℕ) (rows : List (Row × Row)) → weigh g (keys_of rows) ≡ weigh (λ (x : Row × Row). g x.0) rows
 keys_weighed g [] = refl
 keys_weighed g (x ∷ rows) = ap (λ n. g x.0 + n) (keys_weighed g rows)
 
-one_key_more : (g : Row → ℕ) (key cells : Row) (rows : List (Row × Row)) → list_any (λ (x : Row × Row). row_eq key x.0) rows ≡ false → weigh g (keys_of (with_element by_key (key, cells) rows)) ≡ g key + weigh g (keys_of rows)
+pub one_key_more : (g : Row → ℕ) (key cells : Row) (rows : List (Row × Row)) → list_any (λ (x : Row × Row). row_eq key x.0) rows ≡ false → weigh g (keys_of (with_element by_key (key, cells) rows)) ≡ g key + weigh g (keys_of rows)
 one_key_more g key cells [] h = refl
 one_key_more g key cells (y ∷ ys) h = by_cmp (row_cmp key y.0) refl (one_key_more g key cells ys (or_false_right (row_eq key y.0) (list_any (λ (x : Row × Row). row_eq key x.0) ys) h))
   where
@@ -290,7 +290,7 @@ one_key_more g key cells (y ∷ ys) h = by_cmp (row_cmp key y.0) refl (one_key_m
         absurd (cc)
     by_cmp Greater e rest = rw e (omega (arith, rest))
 
-one_key_less : (t : TableValue) (key : Row) (g : Row → ℕ) → IsTable t → has_row key t ≡ true → weigh g (row_keys t) ≡ g key + weigh g (row_keys (without_row key t))
+pub one_key_less : (t : TableValue) (key : Row) (g : Row → ℕ) → IsTable t → has_row key t ≡ true → weigh g (row_keys t) ≡ g key + weigh g (row_keys (without_row key t))
 one_key_less t key g table there =
     let place = place_there row_order key_of key t.rows there in
     let a = keys_weighed g t.rows in

@@ -16,13 +16,16 @@ use Rattle.flow_law.specs.InOrder.{IsTable, AreTables}
 use Rattle.flow_law.specs.Lines.{label_of, without_row, with_row, without_column, with_column, with_cell, at_table, with_table, after_line, after_lines, has_row, has_column, fits_table, fits_line, fit_lines}
 use Rattle.flow_law.specs.Script.{columns_beyond, keys_beyond, cell_line, lines_between, lines_for, script}
 use Rattle.flow_law.specs.declared.line.TableLine.{TableLine}
-use Rattle.flow_law.specs.declared.line.TableLine.TheVariants.{TablePlus, RowMinus, ColumnMinus, ColumnPlus, RowPlus, Cell}
+use Rattle.flow_law.specs.declared.line.TableLine.TheVariants.{TableMinus, TablePlus, RowMinus, ColumnMinus, ColumnPlus, RowPlus, Cell}
 use Rattle.flow_law.proofs.TableLemmas.{empty_in_order, line_in_order}
 use Rattle.flow_law.proofs.StepLemmas.{has_key, key_is_there, row_minus_keys, row_minus_cells, column_minus_columns, column_minus_keys, column_minus_cells, column_plus_columns, column_plus_keys, column_plus_cells, row_plus_keys, row_plus_cells, cell_cells, cell_no_column, cell_no_key}
 use Rattle.flow_law.proofs.ScriptLaw.{lines_passed, script_fits}
+use Rattle.change_script.specs.Fits.{TableFits}
+use Rattle.flow_law.specs.declared.shape.Shape.{Shape}
 use Rattle.view_stack.specs.Lifted.{row_of, goes_on, table_at}
 use Rattle.view_stack.proofs.SaysLemmas.{same_bytes, bytes_same, same_rows, rows_same, and_first, and_second, not_true, or_right, or_false_left, or_false_right}
 use Rattle.view_stack.proofs.LinesLemmas.{Agrees, Reads, AreBlocks, IsDynamic, table_found_in_order}
+use Rattle.view_stack.proofs.LimitLemmas.{IsLegal}
 
 -- ---- lists
 all_append : {A : Type 0} (P : A → Type 0) (xs ys : List A) → AllByRecursion P xs → AllByRecursion P ys → AllByRecursion P (xs ++ ys)
@@ -453,21 +456,31 @@ module _ (before new : TablesValue) (old_order : AreTables before) (new_order : 
   are_blocks [] sorted = tt
   are_blocks (l ∷ ls) sorted = blocks_append l (block l) (flat_map block ls) (block_labels l (table_of before l) (table_of new l)) (not_among l ls sorted.0) (are_blocks ls sorted.1)
 
-  -- columns that come are no constant columns
-  module _ (constants : Row) (dynamic : (l : Text) (t : TableValue) → table_of new l ≡ Some t → AllByRecursion (λ c. is_in c constants ≡ false) t.columns) where
-    block_dynamic : (label : Text) (o n : Option TableValue) → table_of new label ≡ n → AllByRecursion (IsDynamic constants) (lines_for label o n)
-    block_dynamic label None None f = tt
-    block_dynamic label (Some old) None f = (tt, tt)
-    block_dynamic label None (Some t) f = (tt, each_between (IsDynamic constants) label empty_table t (λ k. tt) (λ c. tt) (dynamic label t f) (λ k. tt) (λ c v k. tt))
-    block_dynamic label (Some old) (Some t) f = each_between (IsDynamic constants) label old t (λ k. tt) (λ c. tt) (dynamic label t f) (λ k. tt) (λ c v k. tt)
+  -- what holds of each line that may come holds of all
+  module _ (P : TableLine → Type 0) (gone : (l : Text) → P (TableMinus l)) (come : (l : Text) (t : TableValue) → table_of new l ≡ Some t → P (TablePlus l)) (row_gone : (l : Text) (k : Row) → P (RowMinus l k))
+      (column_gone : (l c : Text) → P (ColumnMinus l c)) (columns_come : (l : Text) (t : TableValue) → table_of new l ≡ Some t → AllByRecursion (λ c. P (ColumnPlus l c)) t.columns) (row_comes : (l : Text) (k : Row) → P (RowPlus l k))
+      (cell : (l c v : Text) (k : Row) → P (Cell l c v k)) where
+    block_each : (label : Text) (o n : Option TableValue) → table_of new label ≡ n → AllByRecursion P (lines_for label o n)
+    block_each label None None f = tt
+    block_each label (Some old) None f = (gone label, tt)
+    block_each label None (Some t) f = (come label t f, each_between P label empty_table t (row_gone label) (column_gone label) (columns_come label t f) (row_comes label) (cell label))
+    block_each label (Some old) (Some t) f = each_between P label old t (row_gone label) (column_gone label) (columns_come label t f) (row_comes label) (cell label)
 
-    all_dynamic : (labels : List Text) → AllByRecursion (IsDynamic constants) (flat_map block labels)
-    all_dynamic [] = tt
-    all_dynamic (l ∷ ls) = all_append (IsDynamic constants) (block l) (flat_map block ls) (block_dynamic l (table_of before l) (table_of new l) refl) (all_dynamic ls)
+    each_block : (labels : List Text) → AllByRecursion P (flat_map block labels)
+    each_block [] = tt
+    each_block (l ∷ ls) = all_append P (block l) (flat_map block ls) (block_each l (table_of before l) (table_of new l) refl) (each_block ls)
 
-    pub script_dynamic : AllByRecursion (IsDynamic constants) (script before new)
+    script_each : AllByRecursion P (script before new)
     unfolding script
-    script_dynamic = all_dynamic (ascending text_cmp (labels_of before ++ labels_of new))
+    script_each = each_block (ascending text_cmp (labels_of before ++ labels_of new))
+
+  -- columns that come are no constant columns
+  pub script_dynamic : (constants : Row) → ((l : Text) (t : TableValue) → table_of new l ≡ Some t → AllByRecursion (λ c. is_in c constants ≡ false) t.columns) → AllByRecursion (IsDynamic constants) (script before new)
+  script_dynamic constants dynamic = script_each (IsDynamic constants) (λ l. tt) (λ l t e. tt) (λ l k. tt) (λ l c. tt) dynamic (λ l k. tt) (λ l c v k. tt)
+
+  -- tables that come have legal labels, and columns come only where there is a variable column
+  pub script_legal : (shape : Shape) → ((l : Text) (t : TableValue) → table_of new l ≡ Some t → TableFits shape l t) → AllByRecursion (IsLegal shape) (script before new)
+  script_legal shape fits = script_each (IsLegal shape) (λ l. tt) (λ l t e. (fits l t e).legal) (λ l k. tt) (λ l c. tt) (λ l t e. (fits l t e).spot) (λ l k. tt) (λ l c v k. tt)
 
   abbrev labels : List Text
   labels = ascending text_cmp (labels_of before ++ labels_of new)

@@ -284,7 +284,7 @@ module _ (shape : Shape) (label : Text) (t : TableValue) (table : IsTable t) (fi
   }
 
 -- ---- the header of a table
-splice_long : (spot : Option ℕ) (constants columns : Row) → (spot ≡ None → columns ≡ []) → length (spliced spot constants columns) ≡ length constants + length columns
+pub splice_long : (spot : Option ℕ) (constants columns : Row) → (spot ≡ None → columns ≡ []) → length (spliced spot constants columns) ≡ length constants + length columns
 splice_long None constants columns none = let gone : length columns ≡ 0 = ap length (none refl) in omega (arith, gone)
 splice_long (Some n) constants columns none =
     let a = length-append (take n constants ++ columns) (drop n constants) in

@@ -1,13 +1,17 @@
--- The first limit that a database passes.
-use Rattle.std.specs.Prelude.{◌≡◌, ℕ, Bool, length, Option, None, Some, nat_lt, sum_by, if◌then◌else◌, ⊤}
+-- The first limit that a database passes, and that lines pass on the way to others.
+use Rattle.std.specs.Prelude.{◌≡◌, ℕ, Bool, List, [], ◌∷◌, length, Option, None, Some, nat_lt, sum_by, if◌then◌else◌, ⊤}
 use Rattle.std.specs.List.{list_any}
 use Rattle.std.specs.Option.{option_or}
 use Rattle.ss_text.specs.Texts.{Text}
+use Rattle.flow_law.specs.declared.shape.Shape.{Shape}
 use Rattle.flow_law.specs.Tables.{TableValue, TablesValue}
+use Rattle.flow_law.specs.Lines.{after_line}
+use Rattle.flow_law.specs.declared.line.TableLine.{TableLine}
 use Rattle.schema_model.specs.Catalogue.{RelationValue, DatabaseValue, rows_in}
 use Rattle.schema_model.specs.Limits.{most_relations, most_attributes, most_rows}
 use Rattle.schema_model.specs.declared.refusal.Which.{Which}
 use Rattle.schema_model.specs.declared.refusal.Which.TheVariants.{Relations, Attributes, Rows}
+use Rattle.view_stack.specs.Stands.{database_for}
 use Rattle.view_stack.specs.declared.fault.LiftFault.{LiftFault}
 use Rattle.view_stack.specs.declared.fault.LiftFault.TheVariants.{Limit, NoMemory}
 
@@ -33,3 +37,9 @@ first_limit d =
 abbrev pub IsLiftFault : Option Which → LiftFault → Type 0
 IsLiftFault o (Limit which) = o ≡ Some which
 IsLiftFault o NoMemory = ⊤
+
+-- the first that is passed by the databases that tables are after each of these lines in turn
+abbrev pub lifted_limit : Text → Shape → TablesValue → List TableLine → Option Which
+lifted_limit db shape ts [] = None
+lifted_limit db shape ts (line ∷ lines) =
+    option_or (first_limit (database_for db shape (after_line ts line))) (lifted_limit db shape (after_line ts line) lines)
