@@ -14,7 +14,7 @@ use Rattle.change_script.specs.declared.applying.ApplyFault.{ApplyFault}
 use Rattle.change_script.specs.declared.applying.ApplyFault.TheVariants.{KeyLength}
 use Rattle.change_script.specs.Applied.{wrong_key, key_fault, line_fault, unless, applied_line, applied_behind, applied}
 use Rattle.change_script.specs.Reading.{HasKeyText}
-use Rattle.view_answers.specs.Answers.{Said, Refuses, Begins, Holds, Aborts, Scripts, Syncs}
+use Rattle.view_answers.specs.Answers.{Said, Tells, Scripts, Syncs}
 use Rattle.upkeep_law.specs.Promises.{TakesBy}
 use Rattle.pipe_law.proofs.TellingLemmas.{lines_in}
 
@@ -81,11 +81,8 @@ module _ (shape : Shape) where
   pub applied_both : (old mid new : TablesValue) (xs ys : List TableLine) → applied shape old xs ≡ Ok mid → applied shape mid ys ≡ Ok new → applied shape old (xs ++ ys) ≡ Ok new
   applied_both old mid new xs ys e f = behind_both (Ok old) xs ys ∙ ap (λ r. applied_behind shape r ys) e ∙ f
 
-  -- what is said to a line takes the tables along
+  -- what is said of the tables takes them along
   pub takes_along : (old new : TablesValue) (said : Said) → TakesBy shape old new said → applied shape old (lines_in said) ≡ Ok new
-  takes_along old new (Refuses fields) e = ap Ok (sym e)
-  takes_along old new Begins e = ap Ok (sym e)
-  takes_along old new Holds e = ap Ok (sym e)
-  takes_along old new Aborts e = ap Ok (sym e)
+  takes_along old new Tells e = ap Ok (sym e)
   takes_along old new (Scripts lines) e = e
-  takes_along old new (Syncs count) e = ap Ok (sym e)
+  takes_along old new Syncs e = ap Ok (sym e)

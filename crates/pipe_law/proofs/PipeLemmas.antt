@@ -1,5 +1,5 @@
 -- The output of a view that was kept up to date takes a folder like its own along.
-use Rattle.std.proofs.Common.{◌≡◌, ◌≢◌, ◌≤◌, ◌-◌, ◌∷◌, ◌++◌, ◌∙◌, [], ℕ, List, Bool, true, false, Option, Some, None, refl, sym, ap, subst, length, map, take, drop, append-nil, arith}
+use Rattle.std.proofs.Common.{◌≡◌, ◌≢◌, ◌≤◌, ◌-◌, ◌∷◌, ◌++◌, ◌∙◌, [], ℕ, List, Bool, true, false, Option, Some, None, refl, sym, ap, subst, length, map, take, drop, append-nil, append_assoc, arith}
 use Rattle.std.specs.Prelude.{codes, option_map, unwrap_or, Result, Ok, Err}
 use Rattle.std.specs.Option.{ForSome}
 use Rattle.std.proofs.lemmas.List.{take-append-drop}
@@ -11,7 +11,7 @@ use Rattle.outside.specs.Tree.{Tree, file_at, files_of}
 use Rattle.effects.specs.Effects.{Effect, World}
 use Rattle.tab_lines.specs.Lines.{lines_of}
 use Rattle.course.specs.declared.status.Verdict.TheVariants as verdict
-use Rattle.course.specs.Answering.{Reply, Continues, Finishes, follow}
+use Rattle.course.specs.Answering.{Reply, Continues, Finishes, Ending}
 use Rattle.schema_model.specs.Catalogue.{CatalogueValue}
 use Rattle.view_def.specs.Profile.{IsViewOfProfile}
 use Rattle.view_def.specs.Query.{Query}
@@ -32,15 +32,17 @@ use Rattle.view_session.specs.Session.{tables_of}
 use Rattle.view_session.proofs.UpkeepLemmas.{meaning_in_order}
 use Rattle.view_apply.specs.Applying as applying
 use Rattle.view_apply.specs.Scripts.{script_said}
-use Rattle.view_answers.specs.Answers.{answer, finish, step}
+use Rattle.view_answers.specs.Answers.{Answer, answer, answers_to, finish}
 use Rattle.plain_commands.specs.Applies.{IsApplied, apply_opening, named_by}
 use Rattle.ss_top.specs.Commands.{Apply}
 use Rattle.run_course.specs.Course.{by_lines}
 use Rattle.view_stages.specs.Open.{OpenValue}
 use Rattle.view_stages.specs.Opening.{IsDefinition}
-use Rattle.upkeep_law.specs.Promises.{EachTakes, IsMaintained, effects_so_far, opening_of, printed_by, TakesBy}
+use Rattle.upkeep_law.specs.Lists.{effects_by}
+use Rattle.upkeep_law.specs.Promises.{EachTakes, IsMaintained, all_answers, effects_so_far, end_answers, opening_of, printed_by, TakesBy, view_behind}
+use Rattle.upkeep_law.proofs.LineLemmas.{all_done, course_is, lines_followed}
 use Rattle.view_stages.specs.Opened.{folder_of, view_at_first}
-use Rattle.ss_top.specs.Runs.{course_of}
+use Rattle.ss_top.specs.Runs.{of_view, course_of}
 use Rattle.view_stages.specs.Stages.{DefinitionOrRefusal, files_of_view}
 use Rattle.run_course.specs.declared.status.Status.{Status}
 use Rattle.view_answers.proofs.AnswerCases.{answer_query}
@@ -95,7 +97,7 @@ module _ (folder : Text) (shape : Shape) (before after : TablesValue) (script : 
       let is : name ≡ file_name label = sym (take-append-drop (length name - 4) name) ∙ ap (λ (x : Text). label ++ x) (equal_is text_order (drop (length name - 4) name) (codes ".csv") csv) in
       ap (file_at u folder) is ∙ file_after label ∙ sym (bytes_of_label shape after label) ∙ ap (bytes_in (table_files shape after)) (sym is)
 
--- lines that are answered in turn
+-- answers to lines
 module _ (q : Query) (some : q.constants ≢ []) (first : TablesValue) where
   -- what was printed so far says a script that takes the first tables to those of the view
   record IsFollowing (es : List Effect) (o : OpenValue) : Type 0 where
@@ -104,14 +106,10 @@ module _ (q : Query) (some : q.constants ≢ []) (first : TablesValue) where
     takes : applied (shape_of q) first script ≡ Ok (tables_of o.session)
     same : o.session.query ≡ q
 
-  abbrev IsReply : Reply OpenValue → Type 0
-  IsReply (Continues es o) = IsFollowing es o
-  IsReply (Finishes es v) = Unit {0}
-
-  following_more : (line : List ℕ) (lines : List (List ℕ)) (es : List Effect) (o : OpenValue) → IsFollowing es o → EachTakes o (line ∷ lines) → IsFollowing (es ++ (answer o line).effects) (answer o line).view
-  following_more line lines es o h each =
+  following_more : (line : List ℕ) (es : List Effect) (o : OpenValue) → IsFollowing es o → TakesBy (shape_of o.session.query) (tables_of o.session) (tables_of (answer o line).view.session) (answer o line).said → IsFollowing (es ++ (answer o line).effects) (answer o line).view
+  following_more line es o h taken =
       let a = answer o line in
-      let takes = takes_along (shape_of q) (tables_of o.session) (tables_of a.view.session) a.said (subst (λ (x : Query). TakesBy (shape_of x) (tables_of o.session) (tables_of a.view.session) a.said) h.same each.0) in
+      let takes = takes_along (shape_of q) (tables_of o.session) (tables_of a.view.session) a.said (subst (λ (x : Query). TakesBy (shape_of x) (tables_of o.session) (tables_of a.view.session) a.said) h.same taken) in
       let keys = keys_applied (shape_of q) (tables_of o.session) (tables_of a.view.session) (lines_in a.said) some takes in
       record {
         script = h.script ++ lines_in a.said;
@@ -120,9 +118,17 @@ module _ (q : Query) (some : q.constants ≢ []) (first : TablesValue) where
         same = answer_query o line ∙ h.same;
       }
 
-  followed : (lines : List (List ℕ)) (es : List Effect) (o : OpenValue) → IsFollowing es o → EachTakes o lines → IsReply (follow step lines (Continues es o))
-  followed [] es o h each = h
-  followed (line ∷ lines) es o h each = followed lines (es ++ (answer o line).effects) (answer o line).view (following_more line lines es o h each) each.1
+  followed : (lines : List (List ℕ)) (es : List Effect) (o : OpenValue) → IsFollowing es o → EachTakes o (answers_to o lines) → IsFollowing (es ++ effects_by (answers_to o lines)) (view_behind o lines)
+  followed [] es o h each = subst (λ (fs : List Effect). IsFollowing fs o) (sym (append-nil es)) h
+  followed (line ∷ lines) es o h each =
+      let p : OpenValue = (answer o line).view in
+      subst (λ (fs : List Effect). IsFollowing fs (view_behind p lines)) (append_assoc es (answer o line).effects (effects_by (answers_to p lines)))
+      (followed lines (es ++ (answer o line).effects) p (following_more line es o h each.0) each.1)
+
+-- the first of all answers
+takes_first : (o : OpenValue) (xs ys : List Answer) → EachTakes o (xs ++ ys) → EachTakes o xs
+takes_first o [] ys h = tt
+takes_first o (a ∷ xs) ys h = (h.0, takes_first a.view xs ys h.1)
 
 module _ (name : Text) (bytes : Option (List ℕ)) (d : DefinitionOrRefusal) (t u : Tree) (lines : List (List ℕ)) (old new : World) (s : Status) (output : List ℕ) (did : IsMaintained d t lines old new s)
     (defined : IsDefinition name bytes d) (empty : old.output.held ≡ Some []) (printed : new.output.held ≡ Some output)
@@ -147,33 +153,46 @@ module _ (name : Text) (bytes : Option (List ℕ)) (d : DefinitionOrRefusal) (t 
   opens plain =
       tables_read_back (shape_of q) (meaning c q) (view_folder q.view_db) u (is_form q profile) (some_constants q profile) (meaning_in_order c q) (meaning_fits_form q profile c did.opened.unrefused) plain folder_holds
 
-  abbrev all_effects : List Effect
-  all_effects = effects_so_far t did.opened.accepted c did.answers ++ (finish did.last).effects
+  abbrev o : OpenValue
+  o = view_at_first did.opened
 
-  following : IsFollowing q (some_constants q profile) (meaning c q) did.answers did.last
+  abbrev all_effects : List Effect
+  all_effects = effects_so_far t q c (all_answers o lines)
+
+  -- the last view is that behind the lines
+  abbrev state_in : Reply OpenValue → OpenValue
+  state_in (Continues es p) = p
+  state_in (Finishes es v) = o
+
+  following : IsFollowing q (some_constants q profile) (meaning c q) (effects_by (answers_to o lines)) did.last
   following =
-      subst (IsReply q (some_constants q profile) (meaning c q)) did.answered
-      (followed q (some_constants q profile) (meaning c q) lines [] (view_at_first did.opened) (record { script = []; tells = opening_nothing; takes = refl; same = refl }) did.takes)
+      subst (IsFollowing q (some_constants q profile) (meaning c q) (effects_by (answers_to o lines))) (ap state_in (sym (lines_followed lines o) ∙ did.answered))
+      (followed q (some_constants q profile) (meaning c q) lines [] o (record { script = []; tells = opening_nothing; takes = refl; same = refl }) (takes_first o (answers_to o lines) (end_answers (view_behind o lines)) did.upheld.takes))
     where
       opening_nothing : IsTelling [] []
       opening_nothing = record { rows = []; fields = tt; text = refl; said = λ rest more h. h }
 
+  effects_are : opening_of t q c ++ (effects_by (answers_to o lines) ++ (finish (view_behind o lines)).effects) ≡ all_effects
+  effects_are = ap (λ (es : List Effect). opening_of t q c ++ es) (sym (all_done lines o ∙ ap (λ (e : Ending). e.effects) (course_is lines o)))
+
   tells_all : IsTelling all_effects following.script
   tells_all =
       let before = opening_tells (folder_of did.opened.accepted) (files_of_view c q) (files_of t (folder_of did.opened.accepted)) in
-      subst (IsTelling all_effects) (append-nil following.script)
-      (telling_more (effects_so_far t did.opened.accepted c did.answers) (finish did.last).effects following.script [] (telling_more (opening_of t did.opened.accepted c) did.answers [] following.script before following.tells) (end_tells did.last))
+      subst (λ (es : List Effect). IsTelling es following.script) effects_are
+      (telling_more (opening_of t q c) (effects_by (answers_to o lines) ++ (finish (view_behind o lines)).effects) [] following.script before
+      (subst (IsTelling (effects_by (answers_to o lines) ++ (finish (view_behind o lines)).effects)) (append-nil following.script)
+      (telling_more (effects_by (answers_to o lines)) (finish (view_behind o lines)).effects following.script [] following.tells (end_tells (view_behind o lines)))))
 
   output_is : output ≡ printed_by all_effects
-  output_is = ap (λ (o : Option (List ℕ)). unwrap_or o output) (sym printed ∙ did.printed ∙ ap (with_bytes (printed_by all_effects)) empty)
+  output_is = ap (λ (x : Option (List ℕ)). unwrap_or x output) (sym printed ∙ did.upheld.printed ∙ ap (with_bytes (printed_by all_effects)) empty)
 
   says : script_said (lines_of output) ≡ Some following.script
-  says = ap (λ (o : List ℕ). script_said (lines_of o)) output_is ∙ telling_says all_effects following.script tells_all
+  says = ap (λ (x : List ℕ). script_said (lines_of x)) output_is ∙ telling_says all_effects following.script tells_all
 
   takes : applied (shape_of q) (meaning c q) following.script ≡ Ok (meaning e q)
   takes = following.takes ∙ ap (λ (x : Query). Ok (meaning e x)) following.same
 
-  ends : HavePlainHeaders (shape_of q) (meaning c q) → (view : Text) → ((course_of (Apply view) u d).whole (lines_of output)).status ≡ verdict.Done
+  ends : HavePlainHeaders (shape_of q) (meaning c q) → (view : Text) → ((course_of (of_view Apply view u d)).whole (lines_of output)).status ≡ verdict.Done
   ends plain view =
       ap (λ (x : DefinitionOrRefusal). ((by_lines applying.step applying.finish (apply_opening u x)).whole (lines_of output)).status) did.opened.defined
       ∙ applying_ends q.view_db (shape_of q) u (lines_of output) following.script (meaning c q) (meaning e q) (opens plain) says takes
@@ -195,7 +214,7 @@ module _ (name : Text) (bytes : Option (List ℕ)) (d : DefinitionOrRefusal) (t 
     before_is = ap (tables_in p.before) (sym (subst (λ (x : Query). held (shape_of x) u (view_folder x.view_db) ≡ Ok p.before) same_query p.holds) ∙ opens plain)
 
     script_is : p.script ≡ following.script
-    script_is = ap (λ (o : Option (List TableLine)). unwrap_or o p.script) (sym p.says ∙ says)
+    script_is = ap (λ (x : Option (List TableLine)). unwrap_or x p.script) (sym p.says ∙ says)
 
     after_is : p.after ≡ meaning e q
     after_is =

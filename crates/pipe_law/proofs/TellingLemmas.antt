@@ -23,7 +23,7 @@ use Rattle.source_law.proofs.AfterLemmas.{Silent}
 use Rattle.source_law.specs.Synced.{saving}
 use Rattle.ss_print.specs.Printing.{says, lines_text, script_rows, prints_script, prints_synced}
 use Rattle.view_apply.specs.Scripts.{script_said}
-use Rattle.view_answers.specs.Answers.{Answer, Said, Refuses, Begins, Holds, Aborts, Scripts, Syncs, answer, end_effects, end_view, finish}
+use Rattle.view_answers.specs.Answers.{Answer, Said, Tells, Scripts, Syncs, answer, syncing, end_effects, end_view, finish}
 use Rattle.view_stages.specs.Syncs.{sync_effects}
 use Rattle.view_stages.specs.Open.{OpenValue}
 use Rattle.view_stages.specs.Opening.{opening_effects}
@@ -130,19 +130,16 @@ sync_tells o =
 
 -- the lines of the script that is said, where one is
 abbrev pub lines_in : Said → List TableLine
-lines_in (Refuses fields) = []
-lines_in Begins = []
-lines_in Holds = []
-lines_in Aborts = []
+lines_in Tells = []
 lines_in (Scripts lines) = lines
-lines_in (Syncs count) = []
+lines_in Syncs = []
 
 -- the answer to a line
-abbrev Tells : Answer → Type 0
-Tells a = AllByRecursion HasKeyText (lines_in a.said) → IsTelling a.effects (lines_in a.said)
+abbrev TellsAll : Answer → Type 0
+TellsAll a = AllByRecursion HasKeyText (lines_in a.said) → IsTelling a.effects (lines_in a.said)
 
-pub answer_tells : (o : OpenValue) (line : List ℕ) → Tells (answer o line)
-answer_tells o = answer_case o Tells (record {
+pub answer_tells : (o : OpenValue) (line : List ℕ) → TellsAll (answer o line)
+answer_tells o = answer_case syncing o TellsAll (record {
   refused = λ fields h. telling_row (codes "refused") fields refl;
   gave_up = λ fields h. telling_row (codes "refused") fields refl;
   began = λ h. telling_row (codes "begun") [] refl;

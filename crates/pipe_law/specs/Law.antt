@@ -27,7 +27,7 @@ use Rattle.ss_top.specs.Commands.{Apply}
 use Rattle.view_stages.specs.Opening.{IsDefinition}
 use Rattle.upkeep_law.specs.Promises.{IsMaintained}
 use Rattle.view_stages.specs.Opened.{folder_of}
-use Rattle.ss_top.specs.Runs.{course_of}
+use Rattle.ss_top.specs.Runs.{of_view, course_of}
 use Rattle.view_stages.specs.Stages.{DefinitionOrRefusal, files_of_view}
 
 -- the headers of these tables do not begin with a byte order mark
@@ -45,7 +45,7 @@ pub record IsPiped (d : DefinitionOrRefusal) (q : Query) (first last : Catalogue
   pub script : List TableLine
   pub says : script_said (lines_of output) ≡ Some script
   pub takes : applied (shape_of q) (meaning first q) script ≡ Ok (meaning last q)
-  pub ends : HavePlainHeaders (shape_of q) (meaning first q) → (name : Text) → ((course_of (Apply name) t d).whole (lines_of output)).status ≡ verdict.Done
+  pub ends : HavePlainHeaders (shape_of q) (meaning first q) → (name : Text) → ((course_of (of_view Apply name t d)).whole (lines_of output)).status ≡ verdict.Done
   pub leaves : HavePlainHeaders (shape_of q) (meaning first q) → (old new : World) (did : IsApplied d t (lines_of output) old new) → Holds (view_folder q.view_db) (files_of_view last q) did.tree
 
 -- where a view was kept up to date, with an output of its own, and a folder in another place holds what the view's folder held behind the opening, the output is piped there

@@ -1,20 +1,12 @@
--- What is known of the changes that a group holds, and of what the end of the input leaves of it.
+-- What is known of the changes that a group holds.
 use Rattle.std.proofs.Common.{◌≡◌, ◌∷◌, ◌++◌, [], List, Option, None, Some, refl, sym, ap, subst}
 use Rattle.std.specs.Prelude.{IsTrue, unwrap_or, option_map}
 use Rattle.std.specs.List.{AllByRecursion}
-use Rattle.outside.specs.Tree.{Tree}
-use Rattle.schema_model.specs.Catalogue.{CatalogueValue}
 use Rattle.schema_model.specs.declared.change.Change.{Change}
-use Rattle.schema_model.specs.Changes.{after, after_all, is_well_formed}
+use Rattle.schema_model.specs.Changes.{after_all, is_well_formed}
 use Rattle.schema_model.specs.Refusals.{fault, group_fault}
-use Rattle.view_session.specs.Named.{Names, with_change, with_changes}
 use Rattle.view_session.specs.Session.{SessionState, holding, working}
-use Rattle.source_law.specs.Synced.{Synced, synced}
 use Rattle.change_draft.proofs.DraftLemmas.{accepted_one_more}
-use Rattle.view_stages.specs.Open.{OpenValue}
-use Rattle.view_stages.specs.Syncs.{sync_writes}
-use Rattle.view_answers.specs.Answers.{end_view}
-use Rattle.view_answers.proofs.AnswerCases.{end_case}
 
 -- the changes that a group holds are well formed, and each is accepted after those before it
 pub record IsGroup (s : SessionState) : Type 0 where
@@ -40,21 +32,3 @@ one_more s g well fits h = record { formed = each s.held h.formed; accepted = al
     all : (o : Option (List Change)) → group_fault s.catalogue (unwrap_or o []) ≡ None → fault (after_all s.catalogue (unwrap_or o [])) g ≡ None → group_fault s.catalogue (unwrap_or (option_map (λ gs. gs ++ g ∷ []) o) []) ≡ None
     all None f fits = refl
     all (Some gs) f fits = accepted_one_more s.catalogue gs g f fits
-
--- changes name no labels
-pub labels_stay : (n : Names) (c : CatalogueValue) (gs : List Change) → (with_changes n c gs).labels ≡ n.labels
-labels_stay n c [] = refl
-labels_stay n c (g ∷ gs) = labels_stay (with_change n c g) (after c g) gs
-
--- what the end of the input leaves as it was
-pub end_query : (o : OpenValue) → (end_view o).session.query ≡ o.session.query
-end_query o = end_case o (λ es p. p.session.query ≡ o.session.query) refl (λ fields. refl)
-
-pub end_catalogue : (o : OpenValue) → (end_view o).session.catalogue ≡ o.session.catalogue
-end_catalogue o = end_case o (λ es p. p.session.catalogue ≡ o.session.catalogue) refl (λ fields. refl)
-
-pub end_saved : (o : OpenValue) (y : Synced) → synced (end_view o).session y ≡ synced o.session y
-end_saved o y = end_case o (λ es p. synced p.session y ≡ synced o.session y) refl (λ fields. refl)
-
-pub end_writes : (o : OpenValue) (t : Tree) → sync_writes t (end_view o) ≡ sync_writes t o
-end_writes o t = end_case o (λ es p. sync_writes t p ≡ sync_writes t o) refl (λ fields. refl)

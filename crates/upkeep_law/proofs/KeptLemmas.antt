@@ -1,12 +1,12 @@
--- What the folder of an opened view holds while lines are answered.
+-- What the folder of an opened view and the sources hold while answers are given.
 use Rattle.std.proofs.Common.{◌≡◌, ℕ, Bool, true, false, ◌||◌, map, length, List, [], ◌∷◌, ◌++◌, Option, None, Some, refl, sym, ap, ◌∙◌, subst, append_assoc, ◌+◌, arith, filter, append-nil}
 use Rattle.std.specs.Prelude.{Ok, IsTrue, unwrap_or}
 use Rattle.std.specs.List.{AllByRecursion}
 use Rattle.std.specs.Option.{option_map_or}
 use Rattle.std.specs.Ordering.{eq_by_cmp}
-use Rattle.std.proofs.lemmas.Bool.{false_from_ne_true}
+use Rattle.std.proofs.lemmas.Bool.{false_from_ne_true, false≢true}
 use Rattle.std.specs.Cmp.Lexicographic.{nat_list_cmp_total}
-use Rattle.ss_text.specs.Texts.{Text, Row, text_eq, text_cmp, is_in}
+use Rattle.ss_text.specs.Texts.{Text, text_eq, text_cmp, is_in}
 use Rattle.ss_text.specs.Ascending.{ascending}
 use Rattle.ss_text.proofs.AscendingLemmas.{ascending_ascends}
 use Rattle.ss_text.proofs.SetLemmas.{same_ascending}
@@ -19,12 +19,14 @@ use Rattle.effects.specs.Effects.{Effect, Write, Remove, Replace, Print, Stored,
 use Rattle.effects.proofs.EffectLemmas.{performed_append, with_more}
 use Rattle.schema_model.specs.Catalogue.{CatalogueValue}
 use Rattle.schema_model.specs.declared.change.Change.{Change}
-use Rattle.schema_model.specs.Changes.{after, is_well_formed}
-use Rattle.schema_model.specs.Refusals.{fault}
+use Rattle.schema_model.specs.Changes.{after, after_all, is_well_formed}
+use Rattle.schema_model.specs.Refusals.{group_fault}
+use Rattle.schema_model.specs.Sound.{IsSound}
 use Rattle.schema_model.specs.declared.pair.Pair.{Pair}
 use Rattle.csv_catalog.specs.Loaded.{loaded}
 use Rattle.csv_catalog.specs.SavedTree.{place_of, is_place_among}
 use Rattle.view_def.specs.Query.{Query}
+use Rattle.flow_law.specs.declared.line.TableLine.{TableLine}
 use Rattle.flow_law.specs.declared.shape.Shape.{Shape}
 use Rattle.flow_law.specs.Tables.{TablesValue, table_of, labels_of}
 use Rattle.flow_law.specs.Lines.{label_of}
@@ -37,26 +39,25 @@ use Rattle.view_folder.specs.Sync.{Holds, written, removed, opening_sync, openin
 use Rattle.outside.specs.Counts.{risen}
 use Rattle.view_folder.proofs.FolderLemmas.{apart_sorted, now, synced as synced_files, counted as counted_files, holds_exactly}
 use Rattle.view_folder.proofs.LaterLemmas.{later, later_synced, later_holds, later_counted}
-use Rattle.view_session.specs.Named.{Names}
-use Rattle.view_session.specs.Session.{opened, cleared, tables_of, lines_to, moved, holding, working, committed, SessionState}
+use Rattle.view_session.specs.Named.{Names, no_names, with_change, with_changes}
+use Rattle.view_session.specs.Session.{SessionState, tables_of, lines_to, made, committed}
 use Rattle.view_session.proofs.UpkeepLemmas.{meaning_in_order}
 use Rattle.source_law.specs.Counted.{tree_after, counted}
 use Rattle.source_law.specs.Synced.{Synced, unsaved, synced, saving}
 use Rattle.source_law.proofs.AfterLemmas.{Silent, stored_by, stored_after, silent_after, none_risen}
 use Rattle.source_law.proofs.LoadedLemmas.{sound_loaded}
-use Rattle.source_law.proofs.SavingLemmas.{SourcesKept, Pending, InView, kept_first, pending_first, pending_change, pending_committed, kept_synced, kept_beside, tree_saved}
-use Rattle.course.specs.Answering.{Continues, follow}
+use Rattle.source_law.proofs.SavingLemmas.{SourcesKept, Pending, InView, kept_first, pending_first, pending_committed, kept_synced, kept_beside, tree_saved}
 use Rattle.ss_print.specs.Printing.{prints_synced}
 use Rattle.view_stages.specs.Open.{OpenValue, just_opened}
 use Rattle.view_stages.specs.Opening.{opening_effects}
 use Rattle.view_stages.specs.Stages.{files_of_view}
-use Rattle.view_stages.specs.Syncs.{view_effects, sync_effects, sync_count, sync_writes}
+use Rattle.view_stages.specs.Syncs.{view_effects, sync_effects, sync_count}
 use Rattle.view_stages.specs.Opened.{opening_writes}
 use Rattle.view_stages.proofs.StageLemmas.{are_view_files}
-use Rattle.view_answers.specs.Answers.{Answer, answer, refusing, giving_up, beginning, keeping, aborting, scripting, changing, committing, syncing, writes_by, synced_by, last_synced, step, end_effects, end_view}
-use Rattle.upkeep_law.specs.Promises.{printed_by, Takes}
-use Rattle.view_answers.proofs.AnswerCases.{answer_case, answer_query, end_case}
-use Rattle.upkeep_law.proofs.GroupLemmas.{IsGroup, no_group, one_more, labels_stay}
+use Rattle.view_answers.specs.Answers.{Said, Tells, Scripts, Syncs, Answer, synced_view, syncing, syncing_view}
+use Rattle.upkeep_law.specs.Given.{IsPrint, AreAlike, Prints, IsSync, sync_by, MayGive, AreGiven}
+use Rattle.upkeep_law.specs.Lists.{effects_by, view_after, writes_by, shown_by, last_shown, synced_by, last_synced}
+use Rattle.upkeep_law.specs.Promises.{printed_by, opening_of, Takes}
 
 -- the script of two meanings takes the one to the other
 pub script_takes : (o : SessionState) (c : CatalogueValue) → Takes (tables_of o) (meaning c o.query) (lines_to o c)
@@ -73,18 +74,7 @@ in_neither l (x ∷ xs) ys h = elim (text_eq l x) as (λ b. (b || is_in l (xs ++
 in_ascending : (l : Text) (xs : List Text) → is_in l (ascending text_cmp xs) ≡ is_in l xs
 in_ascending l xs = sym ((same_ascending text_order.total text_order.same xs).same (text_eq l))
 
--- the folder holds the files of the tables over the catalogue at the last sync, only tables of labels that were named since are others now, and the sources hold what was saved, before which they were t and gave c0; and a group stands over the catalogue
-pub record IsKept (t : Tree) (c0 : CatalogueValue) (o : OpenValue) (y : Synced) (s : Stored) : Type 0 where
-  pub files : Holds (view_folder o.session.query.view_db) (table_files (shape_of o.session.query) (meaning y.catalogue o.session.query)) s.tree
-  pub unnamed : (label : Text) → is_in label o.session.changed.labels ≡ false → table_of (meaning y.catalogue o.session.query) label ≡ table_of (tables_of o.session) label
-  pub labels : o.synced ≡ labels_of (meaning y.catalogue o.session.query)
-  pub apart : Apart o.session.changed.labels
-  pub sources : SourcesKept t c0 y s.tree
-  pub pending : Pending y o.session
-  pub group : IsGroup o.session
-
 -- what effects print, one after the other
-
 pub printed_append : (es fs : List Effect) → printed_by (es ++ fs) ≡ printed_by es ++ printed_by fs
 printed_append [] fs = refl
 printed_append (Write folder file bytes ∷ es) fs = printed_append es fs
@@ -122,15 +112,12 @@ silent (Remove folder file ∷ es) fs h = silent es fs h.1
 silent (Replace edits ∷ es) fs h = silent es fs h.1
 silent (Print bytes ∷ es) fs h = absurd h.0
 
--- what effects leave of a store that was kept: it is kept for the view after them, and so many files and folders were written, made or removed
-pub record Keeps (t : Tree) (c0 : CatalogueValue) (s : Stored) (es : List Effect) (o : OpenValue) (y : Synced) (n : ℕ) : Type 0 where
-  pub stored : Stored
-  pub done : (held : Option (List ℕ)) → performed es (record { stored = Some s; held = held }) ≡ record { stored = Some stored; held = with_bytes (printed_by es) held }
-  pub kept : IsKept t c0 o y stored
-  pub writes : stored.writes ≡ risen s.writes n
+-- effects take a store to another, and print
+abbrev pub Performs : List Effect → Stored → Stored → Type 0
+Performs es s u = (held : Option (List ℕ)) → performed es (record { stored = Some s; held = held }) ≡ record { stored = Some u; held = with_bytes (printed_by es) held }
 
--- the tree that effects leave
-pub tree_left : (es : List Effect) (s u : Stored) → ((held : Option (List ℕ)) → performed es (record { stored = Some s; held = held }) ≡ record { stored = Some u; held = with_bytes (printed_by es) held }) → u.tree ≡ tree_after es s.tree
+-- the tree that they leave
+pub tree_left : (es : List Effect) (s u : Stored) → Performs es s u → u.tree ≡ tree_after es s.tree
 tree_left es s u done =
     ap (λ (o : Option Stored). (unwrap_or o u).tree) (sym (ap (λ (c : Contents). c.stored) (done None)) ∙ stored_after es (record { stored = Some s; held = None }) s refl)
 
@@ -144,6 +131,14 @@ nothing_done s held = ap (λ (h : Option (List ℕ)). record { stored = Some s; 
 
 printing : (s : Stored) (bytes : List ℕ) (held : Option (List ℕ)) → performed (Print bytes ∷ []) (record { stored = Some s; held = held }) ≡ record { stored = Some s; held = with_bytes (printed_by (Print bytes ∷ [])) held }
 printing s bytes held = ap (λ (b : List ℕ). record { stored = Some s; held = with_bytes b held }) (sym (append-nil bytes))
+
+-- prints leave the store
+prints_done : (es : List Effect) → AllByRecursion IsPrint es → (s : Stored) → Performs es s s
+prints_done [] h s held = nothing_done s held
+prints_done (Print bytes ∷ es) h s held = prints_done es h.1 s (with_bytes bytes held) ∙ ap (λ (b : Option (List ℕ)). record { stored = Some s; held = b }) (with_more bytes (printed_by es) held)
+prints_done (Write folder file bytes ∷ es) h s held = absurd h.0
+prints_done (Remove folder file ∷ es) h s held = absurd h.0
+prints_done (Replace edits ∷ es) h s held = absurd h.0
 
 -- a file of a view's folder is none of the sources
 abbrev first_byte : List ℕ → ℕ
@@ -188,196 +183,222 @@ module _ (x : Text) where
 view_in_view : (o : OpenValue) → AllByRecursion (InView o.session.query.view_db) (view_effects o)
 view_in_view o = both_in_view o.session.query.view_db (later_sync (view_folder o.session.query.view_db) (shape_of o.session.query) (tables_of o.session) o.session.changed.labels) _ (later_in_view o.session.query.view_db (shape_of o.session.query) (tables_of o.session) o.session.changed.labels) (tt, tt)
 
-module _ (t : Tree) (c0 : CatalogueValue) (first : loaded t ≡ Ok c0) (whole : IsWhole t) (o : OpenValue) (y : Synced) (s : Stored) (k : IsKept t c0 o y s) where
-  abbrev KeepsBy : Answer → Type 0
-  KeepsBy a = Keeps t c0 s a.effects a.view (synced_by a.said o.session y) (a.writes s.tree)
-
+-- a sync of the view's files, over a store that holds those of other tables, of which only those of labels that were named are others now
+module _ (o : OpenValue) (shown : CatalogueValue) (u : Stored) where
   abbrev q : Query
   q = o.session.query
 
   abbrev d : Text
   d = view_folder q.view_db
 
-  refusing_keeps : (fields : Row) → KeepsBy (refusing o fields)
-  refusing_keeps fields = record {
-    stored = s;
-    done = printing s _;
-    kept = record { files = k.files; unnamed = k.unnamed; labels = k.labels; apart = k.apart; sources = k.sources; pending = k.pending; group = k.group };
-    writes = none_risen s.writes;
-  }
-
-  -- what is kept goes by the query, the catalogue and the names, and not by what a group holds
-  pub group_kept : (h : Option (List Change)) (refused : Bool) (broken : ℕ) → IsGroup (record o.session { held = h }) → IsKept t c0 (record { session = record o.session { held = h }; synced = o.synced; refused = refused; broken = broken }) y s
-  group_kept h refused broken group = record {
-    files = k.files;
-    unnamed = k.unnamed;
-    labels = k.labels;
-    apart = k.apart;
-    sources = k.sources;
-    pending = record { sound = k.pending.sound; relations = k.pending.relations; databases = k.pending.databases; labels = k.pending.labels };
-    group = group;
-  }
-
-  giving_up_kept : (fields : Row) → IsKept t c0 (giving_up o fields).view y s
-  giving_up_kept fields = group_kept None true 0 (no_group _ refl)
-
-  giving_up_keeps : (fields : Row) → KeepsBy (giving_up o fields)
-  giving_up_keeps fields = record { stored = s; done = printing s _; kept = giving_up_kept fields; writes = none_risen s.writes }
-
-  beginning_keeps : KeepsBy (beginning o)
-  beginning_keeps = record { stored = s; done = printing s _; kept = group_kept (Some []) o.refused 0 (no_group _ refl); writes = none_risen s.writes }
-
-  keeping_keeps : (g : Change) → IsTrue (is_well_formed g) → fault (working o.session) g ≡ None → KeepsBy (keeping o g)
-  keeping_keeps g formed fits = record {
-    stored = s;
-    done = printing s _;
-    kept = group_kept (holding o.session g).held o.refused o.broken (one_more o.session g formed fits k.group);
-    writes = none_risen s.writes;
-  }
-
-  aborting_keeps : KeepsBy (aborting o)
-  aborting_keeps = record { stored = s; done = printing s _; kept = group_kept None o.refused 0 (no_group _ refl); writes = none_risen s.writes }
-
-  -- a script, behind which the session stands for another catalogue
-  abbrev over : CatalogueValue → Names → Option (List Change) → Option (List Change) → SessionState
-  over c names h p = record { query = q; catalogue = c; changed = names; held = h; proposed = p }
-
-  abbrev labels_to : CatalogueValue → List Text
-  labels_to c = o.session.changed.labels ++ map label_of (lines_to o.session c)
-
-  scripting_keeps : (c : CatalogueValue) (names : Names) (h p : Option (List Change)) (broken : ℕ) → names.labels ≡ ascending text_cmp (labels_to c) → Pending y (over c names h p) → IsGroup (over c names h p) → KeepsBy (scripting o c (over c names h p) broken)
-  scripting_keeps c names h p broken named pending group = record {
-    stored = s;
-    done = printing s _;
-    kept = record {
-      files = k.files;
-      unnamed = λ label apart.
-          let neither = in_neither label o.session.changed.labels (map label_of (lines_to o.session c)) (sym (in_ascending label (labels_to c)) ∙ ap (is_in label) (sym named) ∙ apart) in
-          k.unnamed label neither.0 ∙ unnamed_table_stays label (tables_of o.session) (meaning c q) (meaning_in_order o.session.catalogue q) (meaning_in_order c q) neither.1;
-      labels = k.labels;
-      apart = subst Apart (sym named) (apart_sorted (ascending text_cmp (labels_to c)) (ascending_ascends text_cmp nat_list_cmp_total (labels_to c)));
-      sources = k.sources;
-      pending = pending;
-      group = group;
-    };
-    writes = none_risen s.writes;
-  }
-
-  changing_keeps : (g : Change) → o.session.held ≡ None → IsTrue (is_well_formed g) → fault o.session.catalogue g ≡ None → KeepsBy (changing o g)
-  changing_keeps g none formed fits =
-      scripting_keeps (after o.session.catalogue g) (moved o.session g).changed o.session.held o.session.proposed o.broken refl (pending_change y o.session g formed fits k.pending) (no_group _ (ap (λ (h : Option (List Change)). unwrap_or h []) none))
-
-  committing_keeps : KeepsBy (committing o)
-  committing_keeps =
-      scripting_keeps (working o.session) (committed o.session).changed None None 0
-      (ap (λ (ls : List Text). ascending text_cmp (ls ++ map label_of (lines_to o.session (working o.session)))) (labels_stay o.session.changed o.session.catalogue (unwrap_or o.session.held [])))
-      (pending_committed y o.session k.group.formed k.group.accepted k.pending) (no_group _ refl)
-
   abbrev tables_held : TablesValue
-  tables_held = meaning y.catalogue q
+  tables_held = meaning shown q
 
-  -- the sources are saved
-  abbrev saved_silently : AllByRecursion Silent (saving o.session)
-  saved_silently = (tt, tt)
+  module _ (held_there : Holds d (table_files (shape_of q) tables_held) u.tree) (unnamed : (label : Text) → is_in label o.session.changed.labels ≡ false → table_of tables_held label ≡ table_of (tables_of o.session) label)
+      (labels : o.synced ≡ labels_of tables_held) (apart : Apart o.session.changed.labels) where
+    abbrev view_store : Stored
+    view_store = later d (shape_of q) tables_held (tables_of o.session) o.session.changed.labels u
 
-  abbrev saved_store : Stored
-  saved_store = stored_by (saving o.session) s
+    view_held : Holds d (table_files (shape_of q) (tables_of o.session)) view_store.tree
+    view_held = (later_holds d (shape_of q) tables_held (tables_of o.session) o.session.changed.labels u held_there unnamed).tables
 
-  still_held : Holds d (table_files (shape_of q) tables_held) saved_store.tree
-  still_held name csv =
-      (tree_saved o.session.catalogue o.session.changed.databases o.session.changed.relations s.tree k.pending.labels).others (d, name) (beside_sources q.view_db name o.session.changed.relations)
-      ∙ k.files name csv
+    view_done : Performs (view_effects o) u view_store
+    view_done held =
+        let files = later_sync d (shape_of q) (tables_of o.session) o.session.changed.labels in
+        let line = prints_synced (sync_count o) ∷ [] in
+        performed_append files line (record { stored = Some u; held = held })
+        ∙ ap (performed line) (later_synced d (shape_of q) tables_held (tables_of o.session) o.session.changed.labels u held)
+        ∙ printing view_store _ held
+        ∙ ap (λ (b : List ℕ). record { stored = Some view_store; held = with_bytes b held }) (sym (sync_silent d (shape_of q) (tables_of o.session) o.session.changed.labels line))
 
-  -- and then the view's files are synced
-  abbrev pub synced_store : Stored
-  synced_store = later d (shape_of q) tables_held (tables_of o.session) o.session.changed.labels saved_store
+    view_counted : view_store.writes ≡ risen u.writes (sync_count o)
+    view_counted =
+        later_counted d (shape_of q) tables_held (tables_of o.session) o.session.changed.labels u held_there apart
+        ∙ ap (λ (ls : List Text). risen u.writes (length (filter (λ l. is_in l (labels_of (tables_of o.session)) || is_in l ls) o.session.changed.labels))) (sym labels)
 
-  pub now_held : Holds d (table_files (shape_of q) (tables_of o.session)) synced_store.tree
-  now_held = (later_holds d (shape_of q) tables_held (tables_of o.session) o.session.changed.labels saved_store still_held k.unnamed).tables
+-- changes name no labels
+labels_stay : (n : Names) (c : CatalogueValue) (gs : List Change) → (with_changes n c gs).labels ≡ n.labels
+labels_stay n c [] = refl
+labels_stay n c (g ∷ gs) = labels_stay (with_change n c g) (after c g) gs
 
-  view_done : (held : Option (List ℕ)) → performed (view_effects o) (record { stored = Some saved_store; held = held }) ≡ record { stored = Some synced_store; held = with_bytes (printed_by (view_effects o)) held }
-  view_done held =
-      let files = later_sync d (shape_of q) (tables_of o.session) o.session.changed.labels in
-      let line = prints_synced (sync_count o) ∷ [] in
-      performed_append files line (record { stored = Some saved_store; held = held })
-      ∙ ap (performed line) (later_synced d (shape_of q) tables_held (tables_of o.session) o.session.changed.labels saved_store held)
-      ∙ printing synced_store _ held
-      ∙ ap (λ (b : List ℕ). record { stored = Some synced_store; held = with_bytes b held }) (sym (sync_silent d (shape_of q) (tables_of o.session) o.session.changed.labels line))
+-- a session over a catalogue, with the names that wait for the next sync
+abbrev pub session_of : Query → CatalogueValue → Names → SessionState
+session_of q c names = record { query = q; catalogue = c; changed = names; held = None; proposed = None }
 
-  pub sync_done : (held : Option (List ℕ)) → performed (sync_effects o) (record { stored = Some s; held = held }) ≡ record { stored = Some synced_store; held = with_bytes (printed_by (sync_effects o)) held }
-  sync_done held =
-      performed_append (saving o.session) (view_effects o) (record { stored = Some s; held = held })
-      ∙ ap (performed (view_effects o)) (silent_after (saving o.session) s held saved_silently)
-      ∙ view_done held
-      ∙ ap (λ (b : List ℕ). record { stored = Some synced_store; held = with_bytes b held }) (sym (silent (saving o.session) (view_effects o) saved_silently))
+module _ (saves : Bool) (t : Tree) (c0 : CatalogueValue) where
+  -- the folder holds the files of the tables over the catalogue at the last sync, and only tables of labels that were named since are others now; and the sources hold what was saved, before which they were t and gave c0
+  pub record IsKept (q : Query) (c : CatalogueValue) (names : Names) (had : List Text) (shown : CatalogueValue) (y : Synced) (s : Stored) : Type 0 where
+    pub files : Holds (view_folder q.view_db) (table_files (shape_of q) (meaning shown q)) s.tree
+    pub unnamed : (label : Text) → is_in label names.labels ≡ false → table_of (meaning shown q) label ≡ table_of (meaning c q) label
+    pub labels : had ≡ labels_of (meaning shown q)
+    pub apart : Apart names.labels
+    pub sources : SourcesKept t c0 y s.tree
+    pub pending : saves ≡ true → Pending y (session_of q c names)
 
-  store_counted : synced_store.writes ≡ risen saved_store.writes (sync_count o)
-  store_counted =
-      later_counted d (shape_of q) tables_held (tables_of o.session) o.session.changed.labels saved_store still_held k.apart
-      ∙ ap (λ (labels : List Text). risen saved_store.writes (length (filter (λ l. is_in l (labels_of (tables_of o.session)) || is_in l labels) o.session.changed.labels))) (sym k.labels)
+  abbrev pub KeptFor : OpenValue → CatalogueValue → Synced → Stored → Type 0
+  KeptFor o shown y s = IsKept o.session.query o.session.catalogue o.session.changed o.synced shown y s
 
-  twice : (u v w a b : ℕ) → v ≡ risen u a → w ≡ risen v b → w ≡ risen u (a + b)
-  twice u v w a b e f = omega (arith, e, f)
+  alike_kept : (o p : OpenValue) (shown : CatalogueValue) (y : Synced) (s : Stored) → AreAlike o p → KeptFor o shown y s → KeptFor p shown y s
+  alike_kept o p shown y s h k = rw (h.query, h.catalogue, h.changed, h.synced) k
 
-  pub store_writes : synced_store.writes ≡ risen s.writes (sync_writes s.tree o)
-  store_writes = twice s.writes saved_store.writes synced_store.writes (counted (saving o.session) s.tree) (sync_count o) refl store_counted
+  -- what effects leave of a store that was kept: it is kept for the view after them, and so many files and folders were written, made or removed
+  pub record Keeps (s : Stored) (es : List Effect) (o : OpenValue) (shown : CatalogueValue) (y : Synced) (n : ℕ) : Type 0 where
+    pub stored : Stored
+    pub done : Performs es s stored
+    pub kept : KeptFor o shown y stored
+    pub writes : stored.writes ≡ risen s.writes n
 
-  -- the sources then hold the catalogue
-  pub sources_synced : SourcesKept t c0 (synced o.session y) synced_store.tree
-  sources_synced =
-      subst (SourcesKept t c0 (synced o.session y)) (sym (tree_left (view_effects o) saved_store synced_store view_done))
-      (kept_beside t c0 (synced o.session y) saved_store.tree q.view_db (view_effects o) (view_in_view o) (kept_synced t c0 first whole y s.tree o.session k.sources k.pending))
+-- changes that wait to be saved
+pending_as : (y : Synced) (n m : SessionState) → m.catalogue ≡ n.catalogue → m.changed ≡ n.changed → Pending y n → Pending y m
+pending_as y n m e f p = record { sound = rw e p.sound; relations = rw (e, f) p.relations; databases = rw (e, f) p.databases; labels = rw f p.labels }
 
-  syncing_keeps : KeepsBy (syncing o)
-  syncing_keeps = record {
-    stored = synced_store;
-    done = sync_done;
-    kept = record {
-      files = now_held;
-      unnamed = λ label apart. refl;
-      labels = refl;
-      apart = tt;
-      sources = sources_synced;
-      pending = pending_first (synced o.session y) (cleared o.session) k.pending.sound refl refl;
-      group = record { formed = k.group.formed; accepted = k.group.accepted };
-    };
-    writes = store_writes;
+pending_made : (y : Synced) (o : OpenValue) (gs : List Change) → AllByRecursion (λ g. IsTrue (is_well_formed g)) gs → group_fault o.session.catalogue gs ≡ None → Pending y (session_of o.session.query o.session.catalogue o.session.changed)
+    → Pending y (session_of o.session.query (after_all o.session.catalogue gs) (made o.session gs).changed)
+pending_made y o gs formed accepted p =
+    let n : SessionState = record { query = o.session.query; catalogue = o.session.catalogue; changed = o.session.changed; held = Some gs; proposed = None } in
+    pending_as y (committed n) (session_of o.session.query (after_all o.session.catalogue gs) (made o.session gs).changed) refl refl
+    (pending_committed y n formed accepted (pending_as y (session_of o.session.query o.session.catalogue o.session.changed) n refl refl p))
+
+twice : (u v w a b : ℕ) → v ≡ risen u a → w ≡ risen v b → w ≡ risen u (a + b)
+twice u v w a b e f = omega (arith, e, f)
+
+module _ (t : Tree) (c0 : CatalogueValue) (first : loaded t ≡ Ok c0) (whole : IsWhole t) where
+  -- an answer that only prints
+  prints_keep : (saves : Bool) (o : OpenValue) (shown : CatalogueValue) (y : Synced) (s : Stored) (a : Answer) → KeptFor saves t c0 o shown y s → Prints o a → Keeps saves t c0 s a.effects a.view shown y (a.writes s.tree)
+  prints_keep saves o shown y s a k h = record {
+    stored = s;
+    done = prints_done a.effects h.prints s;
+    kept = alike_kept saves t c0 o a.view shown y s h.alike k;
+    writes = none_risen s.writes ∙ ap (risen s.writes) (sym (h.writes s.tree));
   }
 
-  answer_keeps : (line : List ℕ) → KeepsBy (answer o line)
-  answer_keeps = answer_case o KeepsBy (record {
-    refused = refusing_keeps;
-    gave_up = giving_up_keeps;
-    began = beginning_keeps;
-    kept = keeping_keeps;
-    aborted = aborting_keeps;
-    changed = λ g none formed fits unrefused. changing_keeps g none formed fits;
-    committed = λ unrefused. committing_keeps;
-    synced = syncing_keeps;
-  })
+  -- changes that are made
+  moved_kept : (saves : Bool) (o : OpenValue) (shown : CatalogueValue) (y : Synced) (s : Stored) (gs : List Change) → AllByRecursion (λ g. IsTrue (is_well_formed g)) gs → group_fault o.session.catalogue gs ≡ None → KeptFor saves t c0 o shown y s
+      → IsKept saves t c0 o.session.query (after_all o.session.catalogue gs) (made o.session gs).changed o.synced shown y s
+  moved_kept saves o shown y s gs formed accepted k =
+      let q : Query = o.session.query in
+      let lines : List TableLine = lines_to o.session (after_all o.session.catalogue gs) in
+      let all : List Text = o.session.changed.labels ++ map label_of lines in
+      let named : (made o.session gs).changed.labels ≡ ascending text_cmp all = ap (λ (ls : List Text). ascending text_cmp (ls ++ map label_of lines)) (labels_stay o.session.changed o.session.catalogue gs) in
+      record {
+        files = k.files;
+        unnamed = λ label apart.
+            let neither = in_neither label o.session.changed.labels (map label_of lines) (sym (in_ascending label all) ∙ ap (is_in label) (sym named) ∙ apart) in
+            k.unnamed label neither.0 ∙ unnamed_table_stays label (tables_of o.session) (meaning (after_all o.session.catalogue gs) q) (meaning_in_order o.session.catalogue q) (meaning_in_order (after_all o.session.catalogue gs) q) neither.1;
+        labels = k.labels;
+        apart = subst Apart (sym named) (apart_sorted (ascending text_cmp all) (ascending_ascends text_cmp nat_list_cmp_total all));
+        sources = k.sources;
+        pending = λ on. pending_made y o gs formed accepted (k.pending on);
+      }
 
-  -- the end of the input prints at most, and leaves what is kept
-  pub end_kept : IsKept t c0 (end_view o) y s
-  end_kept = end_case o (λ es p. IsKept t c0 p y s) k giving_up_kept
+  -- a sync that saves the sources, and then the view's files
+  module _ (o : OpenValue) (shown : CatalogueValue) (y : Synced) (s : Stored) (k : KeptFor true t c0 o shown y s) where
+    abbrev folder : Text
+    folder = view_folder o.session.query.view_db
 
-  pub end_done : (held : Option (List ℕ)) → performed (end_effects o) (record { stored = Some s; held = held }) ≡ record { stored = Some s; held = with_bytes (printed_by (end_effects o)) held }
-  end_done held =
-      end_case o (λ es p. performed es (record { stored = Some s; held = held }) ≡ record { stored = Some s; held = with_bytes (printed_by es) held }) (nothing_done s held) (λ fields. printing s _ held)
+    abbrev waits : Pending y (session_of o.session.query o.session.catalogue o.session.changed)
+    waits = k.pending refl
+
+    abbrev saved_silently : AllByRecursion Silent (saving o.session)
+    saved_silently = (tt, tt)
+
+    abbrev saved_store : Stored
+    saved_store = stored_by (saving o.session) s
+
+    still_held : Holds folder (table_files (shape_of o.session.query) (meaning shown o.session.query)) saved_store.tree
+    still_held name csv =
+        (tree_saved o.session.catalogue o.session.changed.databases o.session.changed.relations s.tree waits.labels).others (folder, name) (beside_sources o.session.query.view_db name o.session.changed.relations)
+        ∙ k.files name csv
+
+    abbrev synced_store : Stored
+    synced_store = view_store o shown saved_store still_held k.unnamed k.labels k.apart
+
+    sync_done : Performs (sync_effects o) s synced_store
+    sync_done held =
+        performed_append (saving o.session) (view_effects o) (record { stored = Some s; held = held })
+        ∙ ap (performed (view_effects o)) (silent_after (saving o.session) s held saved_silently)
+        ∙ view_done o shown saved_store still_held k.unnamed k.labels k.apart held
+        ∙ ap (λ (b : List ℕ). record { stored = Some synced_store; held = with_bytes b held }) (sym (silent (saving o.session) (view_effects o) saved_silently))
+
+    -- the sources then hold the catalogue
+    sources_synced : SourcesKept t c0 (synced o.session y) synced_store.tree
+    sources_synced =
+        subst (SourcesKept t c0 (synced o.session y)) (sym (tree_left (view_effects o) saved_store synced_store (view_done o shown saved_store still_held k.unnamed k.labels k.apart)))
+        (kept_beside t c0 (synced o.session y) saved_store.tree o.session.query.view_db (view_effects o) (view_in_view o)
+        (kept_synced t c0 first whole y s.tree o.session k.sources (pending_as y (session_of o.session.query o.session.catalogue o.session.changed) o.session refl refl waits)))
+
+    saving_keeps : Keeps true t c0 s (syncing o).effects (synced_view o) o.session.catalogue (synced o.session y) ((syncing o).writes s.tree)
+    saving_keeps = record {
+      stored = synced_store;
+      done = sync_done;
+      kept = record {
+        files = view_held o shown saved_store still_held k.unnamed k.labels k.apart;
+        unnamed = λ label apart. refl;
+        labels = refl;
+        apart = tt;
+        sources = sources_synced;
+        pending = λ on. pending_first (synced o.session y) (session_of o.session.query o.session.catalogue no_names) waits.sound refl refl;
+      };
+      writes = twice s.writes saved_store.writes synced_store.writes (counted (saving o.session) s.tree) (sync_count o) refl (view_counted o shown saved_store still_held k.unnamed k.labels k.apart);
+    }
+
+  -- and one of the view's files alone
+  module _ (o : OpenValue) (shown : CatalogueValue) (y : Synced) (s : Stored) (k : KeptFor false t c0 o shown y s) where
+    abbrev left_store : Stored
+    left_store = view_store o shown s k.files k.unnamed k.labels k.apart
+
+    leaving_keeps : Keeps false t c0 s (syncing_view o).effects (synced_view o) o.session.catalogue y ((syncing_view o).writes s.tree)
+    leaving_keeps = record {
+      stored = left_store;
+      done = view_done o shown s k.files k.unnamed k.labels k.apart;
+      kept = record {
+        files = view_held o shown s k.files k.unnamed k.labels k.apart;
+        unnamed = λ label apart. refl;
+        labels = refl;
+        apart = tt;
+        sources =
+            subst (SourcesKept t c0 y) (sym (tree_left (view_effects o) s left_store (view_done o shown s k.files k.unnamed k.labels k.apart)))
+            (kept_beside t c0 y s.tree o.session.query.view_db (view_effects o) (view_in_view o) k.sources);
+        pending = λ on. absurd (false≢true on);
+      };
+      writes = view_counted o shown s k.files k.unnamed k.labels k.apart;
+    }
+
+  -- an answer that does what a sync does
+  sync_keeps : (saves : Bool) (o : OpenValue) (shown : CatalogueValue) (y : Synced) (s : Stored) → KeptFor saves t c0 o shown y s
+      → Keeps saves t c0 s (sync_by saves o).effects (sync_by saves o).view o.session.catalogue (synced_by Syncs saves o.session y) ((sync_by saves o).writes s.tree)
+  sync_keeps true o shown y s k = saving_keeps o shown y s k
+  sync_keeps false o shown y s k = leaving_keeps o shown y s k
+
+  keeps_as : (saves : Bool) (shown : CatalogueValue) (y : Synced) (s : Stored) (sync a : Answer) → IsSync sync a → Keeps saves t c0 s sync.effects sync.view shown y (sync.writes s.tree) → Keeps saves t c0 s a.effects a.view shown y (a.writes s.tree)
+  keeps_as saves shown y s sync a h k = record {
+    stored = k.stored;
+    done = subst (λ (es : List Effect). Performs es s k.stored) (sym h.effects) k.done;
+    kept = alike_kept saves t c0 sync.view a.view shown y k.stored h.alike k.kept;
+    writes = k.writes ∙ ap (risen s.writes) (sym (h.writes s.tree));
+  }
+
+  by_said : (saves : Bool) (o : OpenValue) (shown : CatalogueValue) (y : Synced) (s : Stored) (a : Answer) (said : Said) → KeptFor saves t c0 o shown y s → MayGive saves o a said
+      → Keeps saves t c0 s a.effects a.view (shown_by said o shown) (synced_by said saves o.session y) (a.writes s.tree)
+  by_said saves o shown y s a Tells k h = prints_keep saves o shown y s a k h
+  by_said saves o shown y s a (Scripts lines) k h =
+      prints_keep saves (record { session = made o.session h.changes; synced = o.synced; refused = o.refused; broken = o.broken }) shown y s a (moved_kept saves o shown y s h.changes h.formed h.accepted k) h.prints
+  by_said saves o shown y s a Syncs k h = keeps_as saves o.session.catalogue (synced_by Syncs saves o.session y) s (sync_by saves o) a h (sync_keeps saves o shown y s k)
 
 -- an opening leaves a store that is kept
 pub opening_files : (c : CatalogueValue) (q : Query) → files_of_view c q ≡ table_files (shape_of q) (meaning c q)
 unfolding files_of_view
 opening_files c q = refl
 
-pub opening_keeps : (s : Stored) (q : Query) (c : CatalogueValue) → loaded s.tree ≡ Ok c → IsWhole s.tree
-    → Keeps s.tree c s (opening_effects (view_folder q.view_db) (files_of_view c q) (files_of s.tree (view_folder q.view_db))) (just_opened q c) (unsaved c) (opening_writes s.tree c q)
-opening_keeps s q c first whole =
+pub opening_keeps : (saves : Bool) (s : Stored) (q : Query) (c0 c : CatalogueValue) → loaded s.tree ≡ Ok c0 → IsWhole s.tree → (saves ≡ true → c ≡ c0)
+    → Keeps saves s.tree c0 s (opening_of s.tree q c) (just_opened q c) c (unsaved c0) (opening_writes s.tree c q)
+opening_keeps saves s q c0 c first whole same =
     let d : Text = view_folder q.view_db in
     let fs : List File = files_of_view c q in
     let last : Stored = now d fs s (are_view_files c q) in
     let line : List Effect = prints_synced (opening_count fs (files_of s.tree d)) ∷ [] in
     let es : List Effect = opening_effects d fs (files_of s.tree d) in
-    let done : (held : Option (List ℕ)) → performed es (record { stored = Some s; held = held }) ≡ record { stored = Some last; held = with_bytes (printed_by es) held }
+    let done : Performs es s last
     = λ held.
     performed_append (opening_sync d fs (files_of s.tree d)) line (record { stored = Some s; held = held })
     ∙ ap (performed line) (synced_files d fs s (are_view_files c q) held)
@@ -391,76 +412,45 @@ opening_keeps s q c first whole =
         unnamed = λ label apart. refl;
         labels = refl;
         apart = tt;
-        sources = subst (SourcesKept s.tree c (unsaved c)) (sym (tree_left es s last done)) (kept_beside s.tree c (unsaved c) s.tree q.view_db es (opening_in_view q.view_db fs (files_of s.tree d)) (kept_first s.tree c whole first));
-        pending = pending_first (unsaved c) (opened q c) (sound_loaded s.tree c first) refl refl;
-        group = no_group (opened q c) refl;
+        sources = subst (SourcesKept s.tree c0 (unsaved c0)) (sym (tree_left es s last done)) (kept_beside s.tree c0 (unsaved c0) s.tree q.view_db es (opening_in_view q.view_db fs (files_of s.tree d)) (kept_first s.tree c0 whole first));
+        pending = λ on. pending_first (unsaved c0) (session_of q c no_names) (subst IsSound (sym (same on)) (sound_loaded s.tree c0 first)) (same on) refl;
       };
       writes = counted_files d fs s (are_view_files c q);
     }
 
 -- one after the other
-pub done_more : (s m u : Stored) (es fs : List Effect)
-    → ((held : Option (List ℕ)) → performed es (record { stored = Some s; held = held }) ≡ record { stored = Some m; held = with_bytes (printed_by es) held })
-    → ((held : Option (List ℕ)) → performed fs (record { stored = Some m; held = held }) ≡ record { stored = Some u; held = with_bytes (printed_by fs) held })
-    → (held : Option (List ℕ)) → performed (es ++ fs) (record { stored = Some s; held = held }) ≡ record { stored = Some u; held = with_bytes (printed_by (es ++ fs)) held }
+pub done_more : (s m u : Stored) (es fs : List Effect) → Performs es s m → Performs fs m u → Performs (es ++ fs) s u
 done_more s m u es fs f g held =
     performed_append es fs (record { stored = Some s; held = held })
     ∙ ap (performed fs) (f held)
     ∙ g (with_bytes (printed_by es) held)
     ∙ ap (λ (h : Option (List ℕ)). record { stored = Some u; held = h }) (with_more (printed_by es) (printed_by fs) held ∙ ap (λ (b : List ℕ). with_bytes b held) (sym (printed_append es fs)))
 
-pub risen_more : (u v w m n : ℕ) → v ≡ risen u m → w ≡ risen v n → w ≡ risen u (m + n)
-risen_more u v w m n e f = omega (arith, e, f)
+module _ (saves : Bool) (t : Tree) (c0 : CatalogueValue) where
+  pub keeps_more : (s : Stored) (es fs : List Effect) (o p : OpenValue) (c d : CatalogueValue) (y z : Synced) (m n : ℕ) → (k : Keeps saves t c0 s es o c y m) → Keeps saves t c0 k.stored fs p d z n → Keeps saves t c0 s (es ++ fs) p d z (m + n)
+  keeps_more s es fs o p c d y z m n k l = record {
+    stored = l.stored;
+    done = done_more s k.stored l.stored es fs k.done l.done;
+    kept = l.kept;
+    writes = twice s.writes k.stored.writes l.stored.writes m n k.writes l.writes;
+  }
 
-keeps_more : (t : Tree) (c0 : CatalogueValue) (s : Stored) (es fs : List Effect) (o p : OpenValue) (y z : Synced) (m n : ℕ) → (k : Keeps t c0 s es o y m) → Keeps t c0 k.stored fs p z n → Keeps t c0 s (es ++ fs) p z (m + n)
-keeps_more t c0 s es fs o p y z m n k l = record {
-  stored = l.stored;
-  done = done_more s k.stored l.stored es fs k.done l.done;
-  kept = l.kept;
-  writes = risen_more s.writes k.stored.writes l.stored.writes m n k.writes l.writes;
-}
+  keeps_yet : (s : Stored) (o : OpenValue) (c : CatalogueValue) (y : Synced) → KeptFor saves t c0 o c y s → Keeps saves t c0 s [] o c y 0
+  keeps_yet s o c y k = record { stored = s; done = nothing_done s; kept = k; writes = none_risen s.writes }
 
-keeps_yet : (t : Tree) (c0 : CatalogueValue) (o : OpenValue) (y : Synced) (s : Stored) → IsKept t c0 o y s → Keeps t c0 s [] o y 0
-keeps_yet t c0 o y s k = record { writes = none_risen s.writes; stored = s; done = nothing_done s; kept = k }
+  pub recounted : (s : Stored) (es : List Effect) (o : OpenValue) (c : CatalogueValue) (y : Synced) (m n : ℕ) → m ≡ n → Keeps saves t c0 s es o c y m → Keeps saves t c0 s es o c y n
+  recounted s es o c y m n e k = subst (Keeps saves t c0 s es o c y) e k
 
--- all lines of an input
-pub record Followed (t : Tree) (c0 : CatalogueValue) (s : Stored) (lines : List (List ℕ)) (es : List Effect) (o : OpenValue) (y : Synced) (n : ℕ) : Type 0 where
-  pub effects : List Effect
-  pub last : OpenValue
-  pub answered : follow step lines (Continues es o) ≡ Continues effects last
-  pub query : last.session.query ≡ o.session.query
-  pub keeps : Keeps t c0 s effects last (last_synced o y lines) n
-
-recounted : (t : Tree) (c0 : CatalogueValue) (s : Stored) (es : List Effect) (o : OpenValue) (y : Synced) (m n : ℕ) → m ≡ n → Keeps t c0 s es o y m → Keeps t c0 s es o y n
-recounted t c0 s es o y m n e k = subst (Keeps t c0 s es o y) e k
-
-none_more : (n : ℕ) → n ≡ n + 0
-none_more n = omega arith
-
-grouped : (n m k : ℕ) → (n + m) + k ≡ n + (m + k)
-grouped n m k = omega arith
-
-module _ (t : Tree) (c0 : CatalogueValue) (first : loaded t ≡ Ok c0) (whole : IsWhole t) where
-  followed : (s : Stored) (lines : List (List ℕ)) (es : List Effect) (o : OpenValue) (y : Synced) (n : ℕ) → (k : Keeps t c0 s es o y n) → Followed t c0 s lines es o y (n + writes_by k.stored.tree o lines)
-  unfolding answer_keeps keeps_more
-  followed s [] es o y n k = record { effects = es; last = o; answered = refl; query = refl; keeps = recounted t c0 s es o y n (n + 0) (none_more n) k }
-  followed s (line ∷ lines) es o y n k =
-      let a = answer o line in
-      let z = synced_by a.said o.session y in
-      let w = a.writes k.stored.tree in
-      let l = answer_keeps t c0 first whole o y k.stored k.kept line in
-      let tree : l.stored.tree ≡ tree_after a.effects k.stored.tree = tree_left a.effects k.stored l.stored l.done in
-      let rest = followed s lines (es ++ a.effects) a.view z (n + w) (keeps_more t c0 s es a.effects o a.view y z n w k l) in
-      record {
-        effects = rest.effects;
-        last = rest.last;
-        answered = rest.answered;
-        query = rest.query ∙ answer_query o line;
-        keeps = recounted t c0 s rest.effects rest.last (last_synced a.view z lines) ((n + w) + writes_by l.stored.tree a.view lines) (n + (w + writes_by (tree_after a.effects k.stored.tree) a.view lines))
-            (grouped n w (writes_by l.stored.tree a.view lines) ∙ ap (λ (u : Tree). n + (w + writes_by u a.view lines)) tree) rest.keeps;
-      }
-
-  -- behind an opening
-  pub followed_first : (s : Stored) (lines : List (List ℕ)) (o : OpenValue) (y : Synced) → IsKept t c0 o y s → Followed t c0 s lines [] o y (0 + writes_by s.tree o lines)
-  unfolding keeps_yet
-  followed_first s lines o y k = followed s lines [] o y 0 (keeps_yet t c0 o y s k)
+  -- all answers
+  pub answers_keep : loaded t ≡ Ok c0 → IsWhole t → (answers : List Answer) (o : OpenValue) (c : CatalogueValue) (y : Synced) (s : Stored) → KeptFor saves t c0 o c y s → AreGiven saves o answers
+      → Keeps saves t c0 s (effects_by answers) (view_after o answers) (last_shown o c answers) (last_synced saves o y answers) (writes_by s.tree answers)
+  unfolding keeps_more by_said
+  answers_keep first whole [] o c y s k are = keeps_yet s o c y k
+  answers_keep first whole (a ∷ answers) o c y s k are =
+      let d : CatalogueValue = shown_by a.said o c in
+      let z : Synced = synced_by a.said saves o.session y in
+      let l = by_said t c0 first whole saves o c y s a a.said k are.0 in
+      let rest = answers_keep first whole answers a.view d z l.stored l.kept are.1 in
+      recounted s (a.effects ++ effects_by answers) (view_after a.view answers) (last_shown a.view d answers) (last_synced saves a.view z answers) (a.writes s.tree + writes_by l.stored.tree answers) (a.writes s.tree + writes_by (tree_after a.effects s.tree) answers)
+      (ap (λ (u : Tree). a.writes s.tree + writes_by u answers) (tree_left a.effects s l.stored l.done))
+      (keeps_more s a.effects (effects_by answers) a.view (view_after a.view answers) d (last_shown a.view d answers) z (last_synced saves a.view z answers) (a.writes s.tree) (writes_by l.stored.tree answers) l rest)

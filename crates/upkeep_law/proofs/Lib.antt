@@ -1,7 +1,11 @@
+pub mod GivenLemmas
 pub mod GroupLemmas
 pub mod KeptLemmas
+pub mod LineLemmas
+pub mod ListLemmas
 pub mod MaintainedLemmas
 pub mod RefusedLemmas
 pub mod StopLemmas
 pub mod TakeLemmas
+pub mod UpheldLemmas
 pub mod WithinLemmas

@@ -1,5 +1,5 @@
--- Each script that is said, applied to the tables before its line, gives those after it.
-use Rattle.std.proofs.Common.{◌≡◌, ℕ, true, List, [], ◌∷◌, Option, None, Some, refl, sym, ap, ◌∙◌, inl, inr}
+-- Each script that is said, applied to the tables before its answer, gives those after it.
+use Rattle.std.proofs.Common.{◌≡◌, ℕ, Bool, true, List, [], ◌∷◌, Option, None, Some, refl, sym, ap, ◌∙◌, subst, inl, inr}
 use Rattle.std.specs.Prelude.{is_some, option_map, Result, Ok, Err}
 use Rattle.std.specs.List.{AllByRecursion}
 use Rattle.std.specs.Option.{ForSome}
@@ -7,7 +7,7 @@ use Rattle.std.proofs.lemmas.List.{length-map}
 use Rattle.ss_text.specs.Texts.{Text}
 use Rattle.ss_text.specs.Label.{is_table_label}
 use Rattle.schema_model.specs.Catalogue.{CatalogueValue}
-use Rattle.schema_model.specs.Changes.{after}
+use Rattle.schema_model.specs.Changes.{after_all}
 use Rattle.view_def.specs.Query.{Query}
 use Rattle.view_def.specs.Profile.{IsViewOfProfile, is_label_over}
 use Rattle.view_def.specs.declared.typed.Place.{Place}
@@ -30,16 +30,17 @@ use Rattle.valuation_meaning.specs.Terms.{Reading, value_of}
 use Rattle.valuation_meaning.specs.Elements.{Valuation}
 use Rattle.valuation_meaning.specs.Valuations.{valuations}
 use Rattle.valuation_meaning.specs.Meaning.{facts, fact_of, cell_of_reading, constant_label, shape_of, meaning, given}
-use Rattle.view_session.specs.Session.{tables_of, lines_to, working}
+use Rattle.view_session.specs.Session.{tables_of, lines_to}
 use Rattle.view_session.proofs.UpkeepLemmas.{meaning_in_order}
 use Rattle.load_run.proofs.TableLemmas.{all_mapped}
 use Rattle.ss_print.specs.Fields.{illegal_fields, clash_fields}
 use Rattle.view_stages.specs.Open.{OpenValue}
 use Rattle.view_stages.specs.Stages.{DefinitionOrRefusal, Accepted, ReadsAs, by_typing, typed_or_refused, refusal_of}
 use Rattle.view_stages.specs.Opening.{IsDefinition}
-use Rattle.view_answers.specs.Answers.{Answer, answer}
+use Rattle.view_answers.specs.Answers.{Said, Tells, Scripts, Syncs, Answer}
+use Rattle.upkeep_law.specs.Given.{MayGive, AreGiven}
 use Rattle.upkeep_law.specs.Promises.{TakesBy, EachTakes}
-use Rattle.view_answers.proofs.AnswerCases.{answer_case}
+use Rattle.upkeep_law.proofs.GivenLemmas.{sync_alike, first_query, first_unrefused}
 
 -- the facts of a view of the profile fit its form
 module _ (q : Query) (p : IsViewOfProfile q) where
@@ -88,33 +89,22 @@ pub definition_of_profile : (name : Text) (o : Option (List ℕ)) (a : Accepted)
 definition_of_profile name None a h = absurd (cc)
 definition_of_profile name (Some bytes) a h = read_of_profile bytes a (Ok a) refl h
 
--- an answer, and that the view behind it is of the profile and is not refused
-module _ (o : OpenValue) (p : IsViewOfProfile o.session.query) (unrefused : refusal_of o.session.catalogue o.session.query ≡ None) where
-  record TakesOn (a : Answer) : Type 0 where
-    takes : TakesBy (shape_of o.session.query) (tables_of o.session) (tables_of a.view.session) a.said
-    of_profile : IsViewOfProfile a.view.session.query
-    still : refusal_of a.view.session.catalogue a.view.session.query ≡ None
-
+-- an answer of a view of the profile that is not refused takes its tables along
+module _ (saves : Bool) (o : OpenValue) (p : IsViewOfProfile o.session.query) (unrefused : refusal_of o.session.catalogue o.session.query ≡ None) where
   -- a script takes the tables to those over another catalogue
   scripted : (c : CatalogueValue) → refusal_of c o.session.query ≡ None → applied (shape_of o.session.query) (tables_of o.session) (lines_to o.session c) ≡ Ok (meaning c o.session.query)
   scripted c after_it =
       script_applies (shape_of o.session.query) (tables_of o.session) (meaning c o.session.query) (meaning_in_order o.session.catalogue o.session.query) (meaning_in_order c o.session.query)
       (meaning_fits_form o.session.query p o.session.catalogue unrefused) (meaning_fits_form o.session.query p c after_it)
 
-  takes_on : (line : List ℕ) → TakesOn (answer o line)
-  takes_on = answer_case o TakesOn (record {
-    refused = λ fields. record { takes = refl; of_profile = p; still = unrefused };
-    gave_up = λ fields. record { takes = refl; of_profile = p; still = unrefused };
-    began = record { takes = refl; of_profile = p; still = unrefused };
-    kept = λ g well fits. record { takes = refl; of_profile = p; still = unrefused };
-    aborted = record { takes = refl; of_profile = p; still = unrefused };
-    changed = λ g none well fits after_it. record { takes = scripted (after o.session.catalogue g) after_it; of_profile = p; still = after_it };
-    committed = λ after_it. record { takes = scripted (working o.session) after_it; of_profile = p; still = after_it };
-    synced = record { takes = refl; of_profile = p; still = unrefused };
-  })
+  takes_on : (a : Answer) (said : Said) → MayGive saves o a said → TakesBy (shape_of o.session.query) (tables_of o.session) (tables_of a.view.session) said
+  takes_on a Tells h = rw (h.alike.catalogue, h.alike.query) refl
+  takes_on a (Scripts lines) h = rw (h.script, h.prints.alike.catalogue, h.prints.alike.query) (scripted (after_all o.session.catalogue h.changes) h.unrefused)
+  takes_on a Syncs h = let alike = sync_alike saves o a.view h.alike in rw (alike.catalogue, alike.query) refl
 
-pub each_takes : (lines : List (List ℕ)) (o : OpenValue) → IsViewOfProfile o.session.query → refusal_of o.session.catalogue o.session.query ≡ None → EachTakes o lines
-each_takes [] o p unrefused = tt
-each_takes (line ∷ lines) o p unrefused =
-    let this = takes_on o p unrefused line in
-    (this.takes, each_takes lines (answer o line).view this.of_profile this.still)
+pub each_takes : (saves : Bool) (answers : List Answer) (o : OpenValue) → AreGiven saves o answers → IsViewOfProfile o.session.query → refusal_of o.session.catalogue o.session.query ≡ None → EachTakes o answers
+each_takes saves [] o are p unrefused = tt
+each_takes saves (a ∷ answers) o are p unrefused = (
+  takes_on saves o p unrefused a a.said are.0,
+  each_takes saves answers a.view are.1 (subst IsViewOfProfile (sym (first_query saves o a are.0)) p) (first_unrefused saves o a are.0 unrefused),
+)

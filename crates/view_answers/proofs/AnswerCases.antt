@@ -20,10 +20,10 @@ use Rattle.view_stages.specs.Open.{OpenValue}
 use Rattle.view_stages.specs.Stages.{refusal_of}
 use Rattle.view_answers.specs.declared.word.Word.{Word}
 use Rattle.view_answers.specs.declared.word.Word.TheVariants as word
-use Rattle.view_answers.specs.Answers.{Answer, answer, by_spelling, by_first, by_word, by_broken, by_group, by_change, by_fault, by_view, by_open, refusing, giving_up, beginning, keeping, aborting, changing, committing, syncing, in_group, word_in, end_effects, end_view}
+use Rattle.view_answers.specs.Answers.{Answer, answer, answer_by, by_spelling, by_first, by_word, by_broken, by_group, by_change, by_fault, by_view, by_open, refusing, giving_up, beginning, keeping, aborting, changing, committing, syncing, in_group, word_in, end_effects, end_view}
 
--- what holds of each kind of answer, by what is known there
-pub record Cases (o : OpenValue) (P : Answer → Type 0) : Type 0 where
+-- what holds of each kind of answer, by what is known there, where a sync is answered so
+pub record Cases (sync : OpenValue → Answer) (o : OpenValue) (P : Answer → Type 0) : Type 0 where
   pub refused : (fields : Row) → P (refusing o fields)
   pub gave_up : (fields : Row) → P (giving_up o fields)
   pub began : P (beginning o)
@@ -31,9 +31,9 @@ pub record Cases (o : OpenValue) (P : Answer → Type 0) : Type 0 where
   pub aborted : P (aborting o)
   pub changed : (g : Change) → o.session.held ≡ None → IsTrue (is_well_formed g) → fault o.session.catalogue g ≡ None → refusal_of (after o.session.catalogue g) o.session.query ≡ None → P (changing o g)
   pub committed : refusal_of (working o.session) o.session.query ≡ None → P (committing o)
-  pub synced : P (syncing o)
+  pub synced : P (sync o)
 
-module _ (o : OpenValue) (P : Answer → Type 0) (c : Cases o P) where
+module _ (sync : OpenValue → Answer) (o : OpenValue) (P : Answer → Type 0) (c : Cases sync o P) where
   either : (b : Bool) (x y : Answer) → P x → P y → P (if b then x else y)
   either true x y p q = p
   either false x y p q = q
@@ -62,26 +62,26 @@ module _ (o : OpenValue) (P : Answer → Type 0) (c : Cases o P) where
   ended zero = grouped (refusal_of (working o.session) o.session.query) refl
   ended (suc n) = c.gave_up (group_broken_fields (suc n))
 
-  alone : (row : Row) (w : Word) → P (by_word o row w)
+  alone : (row : Row) (w : Word) → P (by_word sync o row w)
   alone row word.Begin = either (in_group o) (refusing o (in_group_fields row)) (beginning o) (c.refused (in_group_fields row)) c.began
   alone row word.Commit = either (in_group o) (by_broken o o.broken) (refusing o (no_group_fields row)) (ended o.broken) (c.refused (no_group_fields row))
   alone row word.Abort = either (in_group o) (aborting o) (refusing o (no_group_fields row)) c.aborted (c.refused (no_group_fields row))
-  alone row word.Sync = either (in_group o) (refusing o (in_group_fields row)) (syncing o) (c.refused (in_group_fields row)) c.synced
+  alone row word.Sync = either (in_group o) (refusing o (in_group_fields row)) (sync o) (c.refused (in_group_fields row)) c.synced
 
-  began_with : (row : Row) (w : Option Word) → P (by_first o row w)
-  began_with row (Some w) = either (length row == 1) (by_word o row w) (refusing o (line_fields row (FieldCount (length row)))) (alone row w) (c.refused (line_fields row (FieldCount (length row))))
+  began_with : (row : Row) (w : Option Word) → P (by_first sync o row w)
+  began_with row (Some w) = either (length row == 1) (by_word sync o row w) (refusing o (line_fields row (FieldCount (length row)))) (alone row w) (c.refused (line_fields row (FieldCount (length row))))
   began_with row None = read row (change_of row) refl
 
-  spelled : (r : Result Row ℕ) → P (by_spelling o r)
+  spelled : (r : Result Row ℕ) → P (by_spelling sync o r)
   spelled (Err at) = c.refused (escape_fields at)
   spelled (Ok row) = began_with row (word_in (first_field row))
 
-  pub answer_case : (line : List ℕ) → P (answer o line)
+  pub answer_case : (line : List ℕ) → P (answer_by sync o line)
   answer_case line = spelled (unspell line)
 
 -- the view stays the same
 pub answer_query : (o : OpenValue) (line : List ℕ) → (answer o line).view.session.query ≡ o.session.query
-answer_query o = answer_case o (λ a. a.view.session.query ≡ o.session.query) (record {
+answer_query o = answer_case syncing o (λ a. a.view.session.query ≡ o.session.query) (record {
   refused = λ fields. refl;
   gave_up = λ fields. refl;
   began = refl;

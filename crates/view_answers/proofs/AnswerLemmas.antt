@@ -40,7 +40,7 @@ use Rattle.view_stages.proofs.StageLemmas.{not_refused, refused_label, refused_c
 use Rattle.view_answers.specs.declared.opening.Viewing.TheVariants as viewing
 use Rattle.view_answers.specs.declared.word.Word.{Word}
 use Rattle.view_answers.specs.Steps.{IsFieldsOf, IsHoldFieldsOf, IsFaultFieldsOf, Views}
-use Rattle.view_answers.specs.Answers.{Answer, answer, by_spelling, by_row, by_first, by_fields, by_word, by_broken, by_group, by_open, by_change, by_fault, by_view, refusing, giving_up, keeping, changing, committing, word_in, end_effects, end_view, finish}
+use Rattle.view_answers.specs.Answers.{Answer, answer, by_spelling, by_row, by_first, by_fields, by_word, by_broken, by_group, by_open, by_change, by_fault, by_view, refusing, giving_up, keeping, changing, committing, syncing, word_in, end_effects, end_view, finish}
 
 -- a view that is refused over a catalogue
 pub refused_views : (f : EvalFault) (row : Row) (c : CatalogueValue) (q : Query) → IsFault (refusal c q) f → IsFaultFieldsOf f row → Views (viewing.Refused row) q c (refusal_of c q)
@@ -55,10 +55,10 @@ own_catalogue s g none = ap (λ (h : Option (List Change)). fault (after_all s.c
 alone : (o : OpenValue) (g : Change) → o.session.held ≡ None → by_fault o g None ≡ by_view o g (refusal_of (after o.session.catalogue g) o.session.query)
 alone o g none = ap (λ (h : Option (List Change)). if is_some h then keeping o g else by_view o g (refusal_of (after o.session.catalogue g) o.session.query)) none
 
-accepted_is : (o : OpenValue) (g : Change) → o.session.held ≡ None → IsAccepted o.session g → by_fault o g (fault (working o.session) g) ≡ changing o g
+pub accepted_is : (o : OpenValue) (g : Change) → o.session.held ≡ None → IsAccepted o.session g → by_fault o g (fault (working o.session) g) ≡ changing o g
 accepted_is o g none h = ap (by_fault o g) (own_catalogue o.session g none ∙ h.change) ∙ alone o g none ∙ ap (by_view o g) (not_refused (after o.session.catalogue g) o.session.query h.view)
 
-refused_is : (o : OpenValue) (g : Change) (e : Refused) (row : Row) → o.session.held ≡ None → IsRefused o.session g e → IsFieldsOf g e row → by_fault o g (fault (working o.session) g) ≡ refusing o row
+pub refused_is : (o : OpenValue) (g : Change) (e : Refused) (row : Row) → o.session.held ≡ None → IsRefused o.session g e → IsFieldsOf g e row → by_fault o g (fault (working o.session) g) ≡ refusing o row
 refused_is o g (refused.Change r) row none h f = ap (by_fault o g) (own_catalogue o.session g none ∙ h) ∙ ap (refusing o) (sym f)
 refused_is o g (refused.Illegal e) row none h f =
     ap (by_fault o g) (own_catalogue o.session g none ∙ h.0) ∙ alone o g none ∙ ap (by_view o g) (refused_label (after o.session.catalogue g) o.session.query e h.1) ∙ ap (refusing o) (sym f)
@@ -67,33 +67,33 @@ refused_is o g (refused.Conflict e) row none h f =
 refused_is o g refused.NoMemory row none h f = absurd f
 
 -- a change in a group
-held_is : (o : OpenValue) (g : Change) → is_some o.session.held ≡ true → fault (working o.session) g ≡ None → by_fault o g (fault (working o.session) g) ≡ keeping o g
+pub held_is : (o : OpenValue) (g : Change) → is_some o.session.held ≡ true → fault (working o.session) g ≡ None → by_fault o g (fault (working o.session) g) ≡ keeping o g
 held_is o g inside fits = ap (by_fault o g) fits ∙ ap (λ (b : Bool). if b then keeping o g else by_view o g (refusal_of (after o.session.catalogue g) o.session.query)) inside
 
-unheld_is : (o : OpenValue) (g : Change) (e : HoldRefused) (row : Row) → IsHoldRefused o.session g e → IsHoldFieldsOf g e row → by_fault o g (fault (working o.session) g) ≡ refusing o row
+pub unheld_is : (o : OpenValue) (g : Change) (e : HoldRefused) (row : Row) → IsHoldRefused o.session g e → IsHoldFieldsOf g e row → by_fault o g (fault (working o.session) g) ≡ refusing o row
 unheld_is o g (hold.Change r) row h f = ap (by_fault o g) h ∙ ap (refusing o) (sym f)
 unheld_is o g hold.NoMemory row h f = absurd f
 
 -- a group that is made, and one that is refused
-made_is : (o : OpenValue) → refusal (working o.session) o.session.query ≡ None → by_group o (refusal_of (working o.session) o.session.query) ≡ committing o
+pub made_is : (o : OpenValue) → refusal (working o.session) o.session.query ≡ None → by_group o (refusal_of (working o.session) o.session.query) ≡ committing o
 made_is o h = ap (by_group o) (not_refused (working o.session) o.session.query h)
 
-stopped_is : (o : OpenValue) (e : EvalFault) (row : Row) → IsFault (refusal (working o.session) o.session.query) e → IsFaultFieldsOf e row → by_group o (refusal_of (working o.session) o.session.query) ≡ giving_up o row
+pub stopped_is : (o : OpenValue) (e : EvalFault) (row : Row) → IsFault (refusal (working o.session) o.session.query) e → IsFaultFieldsOf e row → by_group o (refusal_of (working o.session) o.session.query) ≡ giving_up o row
 stopped_is o (eval.Illegal e) row h f = ap (by_group o) (refused_label (working o.session) o.session.query e h) ∙ ap (giving_up o) (sym f)
 stopped_is o (eval.Conflict e) row h f = ap (by_group o) (refused_clash (working o.session) o.session.query e h) ∙ ap (giving_up o) (sym f)
 stopped_is o eval.NoMemory row h f = absurd f
 
 -- a word alone, and with further fields
-one_word : (o : OpenValue) (row : Row) (w : Word) → length row ≡ 1 → by_fields o row w ≡ by_word o row w
-one_word o row w one = ap (λ (n : ℕ). if n == 1 then by_word o row w else refusing o (line_fields row (change.FieldCount (length row)))) one
+one_word : (o : OpenValue) (row : Row) (w : Word) → length row ≡ 1 → by_fields syncing o row w ≡ by_word syncing o row w
+one_word o row w one = ap (λ (n : ℕ). if n == 1 then by_word syncing o row w else refusing o (line_fields row (change.FieldCount (length row)))) one
 
-more_words : (o : OpenValue) (row : Row) (w : Word) → length row ≢ 1 → by_fields o row w ≡ refusing o (line_fields row (change.FieldCount (length row)))
-more_words o row w more = ap (λ (b : Bool). if b then by_word o row w else refusing o (line_fields row (change.FieldCount (length row)))) (false_from_ne_true _ (λ e. more (eqb-true (length row) 1 e)))
+more_words : (o : OpenValue) (row : Row) (w : Word) → length row ≢ 1 → by_fields syncing o row w ≡ refusing o (line_fields row (change.FieldCount (length row)))
+more_words o row w more = ap (λ (b : Bool). if b then by_word syncing o row w else refusing o (line_fields row (change.FieldCount (length row)))) (false_from_ne_true _ (λ e. more (eqb-true (length row) 1 e)))
 
-pub one_word_view : (o n : OpenValue) (row : Row) (w : Word) → length row ≡ 1 → n ≡ (by_word o row w).view → n ≡ (by_fields o row w).view
+pub one_word_view : (o n : OpenValue) (row : Row) (w : Word) → length row ≡ 1 → n ≡ (by_word syncing o row w).view → n ≡ (by_fields syncing o row w).view
 one_word_view o n row w one e = e ∙ ap (λ (a : Answer). a.view) (sym (one_word o row w one))
 
-pub more_words_view : (o n : OpenValue) (row fields : Row) (w : Word) → length row ≢ 1 → n ≡ (refusing o fields).view → n ≡ (by_fields o row w).view
+pub more_words_view : (o n : OpenValue) (row fields : Row) (w : Word) → length row ≢ 1 → n ≡ (refusing o fields).view → n ≡ (by_fields syncing o row w).view
 more_words_view o n row fields w more e = e ∙ ap (λ (a : Answer). a.view) (sym (more_words o row w more))
 
 -- a group without a refused line, and one with
@@ -172,23 +172,23 @@ module _ {A : Type 0} (before v : World) (r : Result A Stop) where
   pub ended_does : (o p : OpenValue) (mid : World) → contents mid ≡ performed (end_effects o) (contents before) → p ≡ end_view o → Does (sync_effects p) mid v r → Does (finish o).effects before v r
   ended_does o p mid h is d = behind (end_effects o) (sync_effects (end_view o)) before mid v r h (subst (λ (x : OpenValue). Does (sync_effects x) mid v r) is d)
 
-  pub one_word_does : (o : OpenValue) (row : Row) (w : Word) → length row ≡ 1 → DoesBy (by_word o row w) → DoesBy (by_fields o row w)
+  pub one_word_does : (o : OpenValue) (row : Row) (w : Word) → length row ≡ 1 → DoesBy (by_word syncing o row w) → DoesBy (by_fields syncing o row w)
   one_word_does o row w one d = subst DoesBy (sym (one_word o row w one)) d
 
-  pub more_words_does : (o : OpenValue) (row fields : Row) (w : Word) → length row ≢ 1 → fields ≡ line_fields row (change.FieldCount (length row)) → Does (refuses fields ∷ []) before v r → DoesBy (by_fields o row w)
+  pub more_words_does : (o : OpenValue) (row fields : Row) (w : Word) → length row ≢ 1 → fields ≡ line_fields row (change.FieldCount (length row)) → Does (refuses fields ∷ []) before v r → DoesBy (by_fields syncing o row w)
   more_words_does o row fields w more e d = subst DoesBy (sym (more_words o row w more)) (subst (λ (x : Row). Does (refuses x ∷ []) before v r) e d)
 
-  pub words_does : (o : OpenValue) (row : Row) (x : Option Word) (w : Word) → x ≡ word_in (first_field row) → x ≡ Some w → DoesBy (by_fields o row w) → DoesBy (by_row o row)
-  words_does o row x w e is d = subst (λ (y : Option Word). DoesBy (by_first o row y)) (sym is ∙ e) d
+  pub words_does : (o : OpenValue) (row : Row) (x : Option Word) (w : Word) → x ≡ word_in (first_field row) → x ≡ Some w → DoesBy (by_fields syncing o row w) → DoesBy (by_row syncing o row)
+  words_does o row x w e is d = subst (λ (y : Option Word). DoesBy (by_first syncing o row y)) (sym is ∙ e) d
 
-  pub changes_does : (o : OpenValue) (row : Row) (x : Option Word) → x ≡ word_in (first_field row) → x ≡ None → DoesBy (by_change o row (change_of row)) → DoesBy (by_row o row)
-  changes_does o row x e is d = subst (λ (y : Option Word). DoesBy (by_first o row y)) (sym is ∙ e) d
+  pub changes_does : (o : OpenValue) (row : Row) (x : Option Word) → x ≡ word_in (first_field row) → x ≡ None → DoesBy (by_change o row (change_of row)) → DoesBy (by_row syncing o row)
+  changes_does o row x e is d = subst (λ (y : Option Word). DoesBy (by_first syncing o row y)) (sym is ∙ e) d
 
-  pub spelled_does : (o : OpenValue) (line : List ℕ) (row : Row) → unspell line ≡ Ok row → DoesBy (by_row o row) → DoesBy (answer o line)
-  spelled_does o line row e d = subst (λ x. DoesBy (by_spelling o x)) (sym e) d
+  pub spelled_does : (o : OpenValue) (line : List ℕ) (row : Row) → unspell line ≡ Ok row → DoesBy (by_row syncing o row) → DoesBy (answer o line)
+  spelled_does o line row e d = subst (λ x. DoesBy (by_spelling syncing o x)) (sym e) d
 
   pub unspelled_does : (o : OpenValue) (line : List ℕ) (f : LineFault) (at : ℕ) (fields : Row) → IsUnspelled line (Err f) → f ≡ BadEscape at → fields ≡ escape_fields at → Does (refuses fields ∷ []) before v r → DoesBy (answer o line)
-  unspelled_does o line f at fields h is e d = subst (λ x. DoesBy (by_spelling o x)) (sym (subst (λ (x : LineFault). IsUnspelled line (Err x)) is h)) (subst (λ (x : Row). DoesBy (refusing o x)) e d)
+  unspelled_does o line f at fields h is e d = subst (λ x. DoesBy (by_spelling syncing o x)) (sym (subst (λ (x : LineFault). IsUnspelled line (Err x)) is h)) (subst (λ (x : Row). DoesBy (refusing o x)) e d)
 
 -- the view after a change, and after a group
 pub accepted_view : (o n : OpenValue) (g : Change) → o.session.held ≡ None → IsAccepted o.session g → n ≡ (changing o g).view → n ≡ (by_fault o g (fault (working o.session) g)).view

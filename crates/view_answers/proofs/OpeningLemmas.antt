@@ -1,5 +1,5 @@
 -- What an opening did that stopped.
-use Rattle.std.proofs.Common.{◌≡◌, ◌∙◌, [], Result, Ok, Err, sym, ap, subst}
+use Rattle.std.proofs.Common.{◌≡◌, ◌∙◌, [], Option, None, Some, Result, Ok, Err, sym, ap, subst}
 use Rattle.ss_text.specs.Texts.{Row}
 use Rattle.outside.specs.Tree.{Tree}
 use Rattle.effects.specs.Effects.{World, Contents, contents, performed, Partly}
@@ -8,10 +8,11 @@ use Rattle.effects.proofs.EffectLemmas.{partly_more}
 use Rattle.course.specs.Answering.{Reply, Continues, Finishes}
 use Rattle.schema_model.specs.Catalogue.{CatalogueValue}
 use Rattle.view_def.specs.Query.{Query}
-use Rattle.view_stages.specs.Open.{OpenValue}
+use Rattle.view_stages.specs.Open.{OpenValue, just_opened}
 use Rattle.view_stages.specs.Stages.{loaded_or_refused, refusal_of}
 use Rattle.view_stages.specs.Opening.{with_view, with_catalogue}
-use Rattle.view_answers.specs.Steps.{Opens}
+use Rattle.view_answers.specs.Steps.{Opens, Views}
+use Rattle.view_answers.specs.declared.opening.Viewing.TheVariants as viewing
 use Rattle.view_answers.specs.declared.opening.Opened.{Opened}
 use Rattle.view_answers.specs.declared.opening.Opened.TheVariants as opened_as
 
@@ -21,7 +22,7 @@ nothing_opened (Continues es a) old new e h = partly_more [] es (contents old) (
 nothing_opened (Finishes es v) old new e h = partly_more [] es (contents old) (contents new) h
 
 -- an opening that begins where nothing else was done
-from_same : (r : Reply OpenValue) (old mid new : World) (x : Result Opened Stop) → contents mid ≡ contents old → Opens r mid new x → Opens r old new x
+pub from_same : (r : Reply OpenValue) (old mid new : World) (x : Result Opened Stop) → contents mid ≡ contents old → Opens r mid new x → Opens r old new x
 from_same (Continues es a) old mid new (Ok (opened_as.Open s)) e h = (h.0 ∙ ap (performed es) e, h.1)
 from_same (Continues es a) old mid new (Ok (opened_as.Ended v)) e h = h
 from_same (Finishes es w) old mid new (Ok (opened_as.Open s)) e h = h
@@ -34,3 +35,8 @@ pub opened_behind : (t : Tree) (q : Query) (c : CatalogueValue) (old mid new : W
     → Opens (with_catalogue t q (loaded_or_refused t)) old new x
 opened_behind t q c old mid new x loaded e h =
     subst (λ (r : Result CatalogueValue Row). Opens (with_catalogue t q r) old new x) (sym loaded) (from_same (with_view t q c (refusal_of c q)) old mid new x e h)
+
+-- a view over a catalogue was just opened
+pub views_fresh : (v : OpenValue) (q : Query) (c : CatalogueValue) (x : Option Row) → Views (viewing.View v) q c x → v ≡ just_opened v.session.query v.session.catalogue
+views_fresh v q c None h = h ∙ sym (ap (λ (w : OpenValue). just_opened w.session.query w.session.catalogue) h)
+views_fresh v q c (Some fields) h = absurd h

@@ -1,5 +1,5 @@
 -- How an opened view answers the lines of its input.
-use Rattle.std.specs.Prelude.{Bool, true, ℕ, suc, zero, ◌+◌, ◌==◌, List, [], ◌∷◌, ◌++◌, length, Option, None, Some, is_some, Result, Ok, Err, if◌then◌else◌, codes}
+use Rattle.std.specs.Prelude.{Bool, true, ℕ, suc, zero, ◌==◌, List, [], ◌∷◌, ◌++◌, length, Option, None, Some, is_some, Result, Ok, Err, if◌then◌else◌, codes}
 use Rattle.std.specs.Option.{option_map_or}
 use Rattle.ss_text.specs.Texts.{Text, Row, text_eq}
 use Rattle.schema_model.specs.Catalogue.{CatalogueValue}
@@ -16,28 +16,23 @@ use Rattle.flow_law.specs.declared.line.TableLine.{TableLine}
 use Rattle.flow_law.specs.Tables.{labels_of}
 use Rattle.outside.specs.Tree.{Tree}
 use Rattle.view_session.specs.Session.{SessionState, cleared, tables_of, lines_to, moved, begun, holding, closed, working, committed}
-use Rattle.source_law.specs.Counted.{tree_after}
-use Rattle.source_law.specs.Synced.{Synced, synced}
 use Rattle.course.specs.declared.status.Verdict.TheVariants as verdict
 use Rattle.course.specs.Answering.{Reply, Continues, Ending}
 use Rattle.ss_print.specs.Fields.{escape_fields, first_field, line_fields, refusal_fields, group_broken_fields, open_group_fields, in_group_fields, no_group_fields}
 use Rattle.ss_print.specs.Printing.{refuses, prints_begun, prints_held, prints_aborted, prints_script}
 use Rattle.view_stages.specs.Open.{OpenValue}
 use Rattle.view_stages.specs.Stages.{refusal_of}
-use Rattle.view_stages.specs.Syncs.{sync_count, sync_writes, sync_effects}
+use Rattle.view_stages.specs.Syncs.{sync_count, sync_writes, sync_effects, view_effects}
 use Rattle.view_answers.specs.declared.word.Word.{Word}
 use Rattle.view_answers.specs.declared.word.Word.TheVariants as word
 
--- what is said to a line: a refusal with its fields, a group that opens, a change that it holds, a group that is given up, the lines of a script, or the count of a sync
+-- what an answer says of the tables: nothing, the script by which they change, or that their files are synced
 pub data Said : Type 0 where
-  Refuses : Row → Said
-  Begins : Said
-  Holds : Said
-  Aborts : Said
+  Tells : Said
   Scripts : List TableLine → Said
-  Syncs : ℕ → Said
+  Syncs : Said
 
--- an answer to a line: what is said, what is done, what the view then is, and how many files and folders that writes, makes or removes over a tree
+-- an answer to a line: what it says of the tables, what is done, what the view then is, and how many files and folders that writes, makes or removes over a tree
 pub record Answer : Type 0 where
   pub said : Said
   pub effects : List Effect
@@ -54,7 +49,7 @@ more_broken o = if in_group o then suc o.broken else o.broken
 -- a line is refused, and changes nothing else
 abbrev pub refusing : OpenValue → Row → Answer
 refusing o fields = record {
-  said = Refuses fields;
+  said = Tells;
   effects = refuses fields ∷ [];
   view = record { session = o.session; synced = o.synced; refused = true; broken = more_broken o };
   writes = λ t. 0;
@@ -63,7 +58,7 @@ refusing o fields = record {
 -- a group opens, holds a change, is given up, and is refused at its end, which gives it up too
 abbrev pub beginning : OpenValue → Answer
 beginning o = record {
-  said = Begins;
+  said = Tells;
   effects = prints_begun ∷ [];
   view = record { session = begun o.session; synced = o.synced; refused = o.refused; broken = 0 };
   writes = λ t. 0;
@@ -71,7 +66,7 @@ beginning o = record {
 
 abbrev pub keeping : OpenValue → Change → Answer
 keeping o g = record {
-  said = Holds;
+  said = Tells;
   effects = prints_held ∷ [];
   view = record { session = holding o.session g; synced = o.synced; refused = o.refused; broken = o.broken };
   writes = λ t. 0;
@@ -79,7 +74,7 @@ keeping o g = record {
 
 abbrev pub aborting : OpenValue → Answer
 aborting o = record {
-  said = Aborts;
+  said = Tells;
   effects = prints_aborted ∷ [];
   view = record { session = closed o.session; synced = o.synced; refused = o.refused; broken = 0 };
   writes = λ t. 0;
@@ -87,7 +82,7 @@ aborting o = record {
 
 abbrev pub giving_up : OpenValue → Row → Answer
 giving_up o fields = record {
-  said = Refuses fields;
+  said = Tells;
   effects = refuses fields ∷ [];
   view = record { session = closed o.session; synced = o.synced; refused = true; broken = 0 };
   writes = λ t. 0;
@@ -111,17 +106,26 @@ changing o g = scripting o (after o.session.catalogue g) (moved o.session g) o.b
 abbrev pub committing : OpenValue → Answer
 committing o = scripting o (working o.session) (committed o.session) 0
 
+-- the files are synced, and nothing waits for the next sync
+abbrev pub synced_view : OpenValue → OpenValue
+synced_view o = record { session = cleared o.session; synced = labels_of (tables_of o.session); refused = o.refused; broken = o.broken }
+
+-- a sync: the sources that were named are saved, and then the view's files are synced
 abbrev pub syncing : OpenValue → Answer
 syncing o = record {
-  said = Syncs (sync_count o);
+  said = Syncs;
   effects = sync_effects o;
-  view = record {
-    session = cleared o.session;
-    synced = labels_of (tables_of o.session);
-    refused = o.refused;
-    broken = o.broken;
-  };
+  view = synced_view o;
   writes = λ t. sync_writes t o;
+}
+
+-- a sync of the view's files alone, which leaves the sources as they are
+abbrev pub syncing_view : OpenValue → Answer
+syncing_view o = record {
+  said = Syncs;
+  effects = view_effects o;
+  view = synced_view o;
+  writes = λ t. sync_count o;
 }
 
 -- the view over the catalogue after a change is refused, or the change is made
@@ -158,60 +162,50 @@ word_in field =
     else if text_eq field (codes "sync") then Some word.Sync
     else None
 
--- a word alone: a group does not stand in another, nor a sync in a group, and none is ended that is not open
-abbrev pub by_word : OpenValue → Row → Word → Answer
-by_word o row word.Begin = if in_group o then refusing o (in_group_fields row) else beginning o
-by_word o row word.Commit = if in_group o then by_broken o o.broken else refusing o (no_group_fields row)
-by_word o row word.Abort = if in_group o then aborting o else refusing o (no_group_fields row)
-by_word o row word.Sync = if in_group o then refusing o (in_group_fields row) else syncing o
+-- the answers to lines, by what a sync is answered
+module _ (sync : OpenValue → Answer) where
+  -- a word alone: a group does not stand in another, nor a sync in a group, and none is ended that is not open
+  abbrev pub by_word : OpenValue → Row → Word → Answer
+  by_word o row word.Begin = if in_group o then refusing o (in_group_fields row) else beginning o
+  by_word o row word.Commit = if in_group o then by_broken o o.broken else refusing o (no_group_fields row)
+  by_word o row word.Abort = if in_group o then aborting o else refusing o (no_group_fields row)
+  by_word o row word.Sync = if in_group o then refusing o (in_group_fields row) else sync o
 
--- a word has no further fields
-abbrev pub by_fields : OpenValue → Row → Word → Answer
-by_fields o row w = if length row == 1 then by_word o row w else refusing o (line_fields row (FieldCount (length row)))
+  -- a word has no further fields
+  abbrev pub by_fields : OpenValue → Row → Word → Answer
+  by_fields o row w = if length row == 1 then by_word o row w else refusing o (line_fields row (FieldCount (length row)))
 
--- a line that begins with a word, or that says a change
-abbrev pub by_first : OpenValue → Row → Option Word → Answer
-by_first o row (Some w) = by_fields o row w
-by_first o row None = by_change o row (change_of row)
+  -- a line that begins with a word, or that says a change
+  abbrev pub by_first : OpenValue → Row → Option Word → Answer
+  by_first o row (Some w) = by_fields o row w
+  by_first o row None = by_change o row (change_of row)
 
-abbrev pub by_row : OpenValue → Row → Answer
-by_row o row = by_first o row (word_in (first_field row))
+  abbrev pub by_row : OpenValue → Row → Answer
+  by_row o row = by_first o row (word_in (first_field row))
 
--- a line has a backslash that spells nothing, or its row is answered
-abbrev pub by_spelling : OpenValue → Result Row ℕ → Answer
-by_spelling o (Err at) = refusing o (escape_fields at)
-by_spelling o (Ok row) = by_row o row
+  -- a line has a backslash that spells nothing, or its row is answered
+  abbrev pub by_spelling : OpenValue → Result Row ℕ → Answer
+  by_spelling o (Err at) = refusing o (escape_fields at)
+  by_spelling o (Ok row) = by_row o row
 
+  abbrev pub answer_by : OpenValue → List ℕ → Answer
+  answer_by o line = by_spelling o (unspell line)
+
+  -- the answers to lines, each by the view behind those before it
+  abbrev pub answers_by : OpenValue → List (List ℕ) → List Answer
+  answers_by o [] = []
+  answers_by o (line ∷ lines) = answer_by o line ∷ answers_by (answer_by o line).view lines
+
+-- a sync saves the sources
 abbrev pub answer : OpenValue → List ℕ → Answer
-answer o line = by_spelling o (unspell line)
+answer o line = answer_by syncing o line
+
+abbrev pub answers_to : OpenValue → List (List ℕ) → List Answer
+answers_to o lines = answers_by syncing o lines
 
 -- each line is answered, and the run goes on
 abbrev pub step : OpenValue → List ℕ → Reply OpenValue
 step o line = Continues (answer o line).effects (answer o line).view
-
--- how many files and folders the answers to these lines write, make or remove over a tree
-abbrev pub writes_by : Tree → OpenValue → List (List ℕ) → ℕ
-writes_by t o [] = 0
-writes_by t o (line ∷ lines) = (answer o line).writes t + writes_by (tree_after (answer o line).effects t) (answer o line).view lines
-
--- the view after the answers to these lines
-abbrev pub view_after : OpenValue → List (List ℕ) → OpenValue
-view_after o [] = o
-view_after o (line ∷ lines) = view_after (answer o line).view lines
-
--- what was saved at the last sync, after an answer of this session, where it was another before
-abbrev pub synced_by : Said → SessionState → Synced → Synced
-synced_by (Syncs n) s before = synced s before
-synced_by said s before = before
-
--- and after the answers to these lines
-abbrev pub last_synced : OpenValue → Synced → List (List ℕ) → Synced
-last_synced o before [] = before
-last_synced o before (line ∷ lines) = last_synced (answer o line).view (synced_by (answer o line).said o.session before) lines
-
--- and after the sync at their end
-abbrev pub end_synced : OpenValue → Synced → List (List ℕ) → Synced
-end_synced o before lines = synced (view_after o lines).session (last_synced o before lines)
 
 -- at the end of the input an open group is refused
 abbrev pub by_open : OpenValue → Option (List Change) → Option Answer

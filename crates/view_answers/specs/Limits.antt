@@ -53,7 +53,12 @@ limit o line = by_spelling o (unspell line)
 abbrev pub IsWithin : Option ℕ → ℕ → ℕ → Type 0
 IsWithin most i j = ForSome most (λ n. j ≤ i + n)
 
--- an opened view takes no more steps than the answers to these lines may, and a run that its opening ended takes none
+-- a machine takes no more steps than its answers to these lines may, and a run that its opening ended takes none
+module _ {A : Type 0} (replies : A → List ℕ → Reply A) (most : A → List ℕ → Option ℕ) where
+  abbrev pub StepsBy : Reply A → List (List ℕ) → ℕ → ℕ → Type 0
+  StepsBy (Continues es a) ls i j = IsWithin (lines.limit_of replies most ls (Continues [] a)) i j
+  StepsBy (Finishes es v) ls i j = j ≡ i
+
+-- so does an opened view
 abbrev pub StepsBehind : Reply OpenValue → List (List ℕ) → ℕ → ℕ → Type 0
-StepsBehind (Continues es o) ls i j = IsWithin (lines.limit_of step limit ls (Continues [] o)) i j
-StepsBehind (Finishes es v) ls i j = j ≡ i
+StepsBehind r ls i j = StepsBy step limit r ls i j

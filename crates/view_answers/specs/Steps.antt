@@ -6,6 +6,7 @@ use Rattle.view_def.specs.Query.{Query}
 use Rattle.effects.specs.Effects.{World, contents, performed, Partly}
 use Rattle.effects.specs.declared.stop.Stop.{Stop}
 use Rattle.course.specs.Answering.{Reply, Continues, Finishes, effects_of}
+use Rattle.course.specs.declared.status.Verdict.{Verdict}
 use Rattle.schema_model.specs.declared.change.Change.{Change}
 use Rattle.flow_law.specs.declared.refused.EvalFault.{EvalFault}
 use Rattle.flow_law.specs.declared.refused.EvalFault.TheVariants as eval
@@ -51,10 +52,27 @@ abbrev pub IsRefusal : Opened → Type 0
 IsRefusal (opened_as.Open v) = Unit {0}
 IsRefusal (opened_as.Ended v) = is_refused_status (verdict_status v) ≡ true
 
--- what an opening did
+-- a view that an opening gives was just opened
+abbrev pub IsFresh : Opened → Type 0
+IsFresh (opened_as.Open v) = v ≡ just_opened v.session.query v.session.catalogue
+IsFresh (opened_as.Ended v) = Unit {0}
+
+-- an opening did all of its effects and goes on with a state, or it ended the run
+abbrev pub Begins : {A : Type 0} → Reply A → World → World → A → Type 0
+Begins (Continues es a) old new b = (contents new ≡ performed es (contents old)) × (b ≡ a)
+Begins (Finishes es v) old new b = ⊥
+
+abbrev pub EndsRun : {A : Type 0} → Reply A → World → World → Verdict → Type 0
+EndsRun (Continues es a) old new w = ⊥
+EndsRun (Finishes es v) old new w = (contents new ≡ performed es (contents old)) × (w ≡ v)
+
+-- what the opening of a view did
 abbrev pub Opens : Reply OpenValue → World → World → Result Opened Stop → Type 0
-Opens (Continues es a) old new (Ok (opened_as.Open s)) = (contents new ≡ performed es (contents old)) × (s ≡ a)
-Opens (Continues es a) old new (Ok (opened_as.Ended v)) = ⊥
-Opens (Finishes es w) old new (Ok (opened_as.Open s)) = ⊥
-Opens (Finishes es w) old new (Ok (opened_as.Ended v)) = (contents new ≡ performed es (contents old)) × (v ≡ w)
+Opens r old new (Ok (opened_as.Open o)) = Begins r old new o
+Opens r old new (Ok (opened_as.Ended v)) = EndsRun r old new v
 Opens r old new (Err e) = Partly (effects_of r) (contents old) (contents new)
+
+-- an opening that goes on with what a machine makes of its state
+abbrev pub starting : {A B : Type 0} → (A → B) → Reply A → Reply B
+starting f (Continues es a) = Continues es (f a)
+starting f (Finishes es v) = Finishes es v

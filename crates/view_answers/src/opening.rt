@@ -7,7 +7,7 @@ ghost use Rattle.view_def.specs.Query.{query_of};
 ghost use Rattle.view_stages.specs.Stages.{refusal_of, loaded_or_refused};
 ghost use Rattle.view_stages.specs.Stages.{DefinitionOrRefusal};
 ghost use Rattle.view_stages.specs.Opening.{IsDefinition, definition_bytes, opening, with_catalogue, with_view};
-ghost use Rattle.view_answers.specs.Steps.{Opens, Views, IsFaultFieldsOf, IsRefusal};
+ghost use Rattle.view_answers.specs.Steps.{Opens, Views, IsFaultFieldsOf, IsFresh, IsRefusal};
 ghost use Rattle.run_course.specs.Idle.{IdleUnread};
 
 use crate::view::OpenView;
@@ -25,21 +25,21 @@ use view_stages::{Definition, Loading, Understood, load_sources, read_definition
 
 /// What an opening gives: an open view, or the end of the run.
 #[derive(Drop)]
-pub(crate) enum Opened {
+pub enum Opened {
     Open(OpenView),
     Ended(Verdict),
 }
 
 /// What a view gives over a catalogue: it can be opened, or is refused with these fields.
 #[derive(Drop)]
-pub(crate) enum Viewing {
+pub enum Viewing {
     View(OpenView),
     Refused(Row),
 }
 
-// Opens the view of this name: reads what it stands on, writes its folder and prints that it did.
+/// Opens the view of this name: reads what it stands on, writes its folder and prints that it did.
 #[tactic(auto, using(effects::proofs::Following::following, crate::proofs::OpeningLemmas::nothing_opened, outside::proofs::ReadingLemmas::only_read_then, outside::proofs::ReadingLemmas::only_read_nothing, run_course::proofs::IdleLemmas::idle_read, run_course::proofs::IdleLemmas::idle_print, run_course::proofs::IdleLemmas::idle_later))]
-pub(crate) fn open<F: Folders, K: Sink, L: Ledger>(
+pub fn open<F: Folders, K: Sink, L: Ledger>(
     alloc: Global,
     store: &mut F,
     output: &mut K,
@@ -49,6 +49,7 @@ pub(crate) fn open<F: Folders, K: Sink, L: Ledger>(
     ensures opens { (t : Tree) (d : DefinitionOrRefusal) → (F.state store.old).tree ≡ Some t → IsDefinition name.now (definition_bytes t name.now) d
         → Opens (opening t d) (world_of (F.state store.old) (K.state output.old)) (world_of (F.state store.new) (K.state output.new)) result }
     ensures refused { IfOk result IsRefusal }
+    ensures fresh { IfOk result IsFresh }
     ensures idle { IdleUnread result (world_of (F.state store.old) (K.state output.old)) (world_of (F.state store.new) (K.state output.new)) }
     ensures blames { Blames (world_of (F.state store.old) (K.state output.old)) (world_of (F.state store.new) (K.state output.new)) result }
     ensures rises { steps.old ≤ steps.new }
@@ -79,6 +80,7 @@ fn open_view<F: Folders, K: Sink, L: Ledger>(
         → Opens (with_catalogue t (query_of definition.view.value) (loaded_or_refused t)) (world_of (F.state store.old) (K.state output.old))
         (world_of (F.state store.new) (K.state output.new)) result }
     ensures refused { IfOk result IsRefusal }
+    ensures fresh { IfOk result IsFresh }
     ensures idle { IdleUnread result (world_of (F.state store.old) (K.state output.old)) (world_of (F.state store.new) (K.state output.new)) }
     ensures blames { Blames (world_of (F.state store.old) (K.state output.old)) (world_of (F.state store.new) (K.state output.new)) result }
     ensures rises { steps.old ≤ steps.new }
@@ -97,7 +99,7 @@ fn open_view<F: Folders, K: Sink, L: Ledger>(
 }
 
 // Opens a view over a catalogue.
-#[tactic(auto, using(effects::proofs::Following::following, crate::proofs::OpeningLemmas::nothing_opened, outside::proofs::ReadingLemmas::only_read_then, outside::proofs::ReadingLemmas::only_read_nothing, run_course::proofs::IdleLemmas::idle_read, run_course::proofs::IdleLemmas::idle_print, run_course::proofs::IdleLemmas::idle_later))]
+#[tactic(auto, using(effects::proofs::Following::following, crate::proofs::OpeningLemmas::nothing_opened, crate::proofs::OpeningLemmas::views_fresh, outside::proofs::ReadingLemmas::only_read_then, outside::proofs::ReadingLemmas::only_read_nothing, run_course::proofs::IdleLemmas::idle_read, run_course::proofs::IdleLemmas::idle_print, run_course::proofs::IdleLemmas::idle_later))]
 fn open_session<F: Folders, K: Sink, L: Ledger>(
     alloc: Global,
     store: &mut F,
@@ -110,6 +112,7 @@ fn open_session<F: Folders, K: Sink, L: Ledger>(
         → Opens (with_view t (query_of definition.view.value) catalogue.databases (refusal_of catalogue.databases (query_of definition.view.value)))
         (world_of (F.state store.old) (K.state output.old)) (world_of (F.state store.new) (K.state output.new)) result }
     ensures refused { IfOk result IsRefusal }
+    ensures fresh { IfOk result IsFresh }
     ensures idle { IdleUnread result (world_of (F.state store.old) (K.state output.old)) (world_of (F.state store.new) (K.state output.new)) }
     ensures blames { Blames (world_of (F.state store.old) (K.state output.old)) (world_of (F.state store.new) (K.state output.new)) result }
     ensures rises { steps.old ≤ steps.new }
@@ -130,9 +133,9 @@ fn open_session<F: Folders, K: Sink, L: Ledger>(
     }
 }
 
-// A view over a catalogue, whose folder is not synced yet.
+/// A view over a catalogue, whose folder is not synced yet.
 #[tactic(auto, using(view_stages::proofs::StageLemmas::not_refused, crate::proofs::AnswerLemmas::refused_views))]
-fn view_over<L: Ledger>(
+pub fn view_over<L: Ledger>(
     alloc: Global,
     definition: Definition,
     catalogue: Catalogue,
@@ -155,8 +158,8 @@ fn view_over<L: Ledger>(
     }
 }
 
-// The fields of a view that has no tables.
-pub(crate) fn fault_fields(alloc: Global, fault: &EvalFault) -> Result<Row, NoMemory>
+/// The fields of a view that has no tables.
+pub fn fault_fields(alloc: Global, fault: &EvalFault) -> Result<Row, NoMemory>
     ensures { IfOk result (λ row. IsFaultFieldsOf fault.now row) }
 {
     match fault {

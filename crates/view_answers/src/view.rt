@@ -29,7 +29,7 @@ ghost use Rattle.run_course.specs.Idle.{IdleUnread};
 ghost use Rattle.view_stages.specs.Records.{HasRecords};
 ghost use Rattle.view_answers.specs.Limits as limits;
 ghost use Rattle.view_answers.specs.Limits.{IsWithin};
-ghost use Rattle.view_answers.specs.Answers.{step, finish, answer, by_row, by_change, by_fault, in_group, more_broken, refusing, syncing, end_view};
+ghost use Rattle.view_answers.specs.Answers.{step, finish, answer, by_row, by_change, by_fault, in_group, more_broken, refusing, synced_view, syncing, syncing_view, end_view};
 ghost use Rattle.view_stages.specs.Syncs.{sync_effects, view_effects, sync_count};
 
 use crate::word::word_of;
@@ -52,15 +52,18 @@ use view_session::{Refused, Session};
 
 mod group;
 
+pub use group::held_fields;
+
 /// An opened view, which contracts see as the view over its catalogue, the labels of its tables at the last
-/// sync, whether some line was refused, and how many were refused in the open group.
-pub(crate) struct OpenView {
-    session: Session,
-    view_db: Text,
-    synced: Vec<Text>,
-    some_refused: bool,
-    broken: usize,
-    ghost records: { HasRecords session.query },
+/// sync, whether some line was refused, and how many were refused in the open group. Who changes its session leaves
+/// nothing proposed.
+pub struct OpenView {
+    pub session: Session,
+    pub view_db: Text,
+    pub synced: Vec<Text>,
+    pub some_refused: bool,
+    pub broken: usize,
+    pub ghost records: { HasRecords session.query },
 }
 
 impl Drop for OpenView {
@@ -126,9 +129,9 @@ impl OpenView {
         }
     }
 
-    // Writes the folder of a view that was just opened, and prints that it did.
+    /// Writes the folder of a view that was just opened, and prints that it did.
     #[tactic(auto, using(effects::proofs::Following::following, effects::proofs::EffectLemmas::partly_more, effects::proofs::EffectLemmas::partly_later, effects::proofs::EffectLemmas::performed_append, view_stages::proofs::StageLemmas::meaning_fits, run_course::proofs::IdleLemmas::idle_first, run_course::proofs::IdleLemmas::idle_print), unfolding(view_stages::specs::Stages::files_of_view))]
-    pub(crate) fn fill_folder<F: Folders, K: Sink>(
+    pub fn fill_folder<F: Folders, K: Sink>(
         &self,
         alloc: Global,
         store: &mut F,
@@ -153,9 +156,9 @@ impl OpenView {
         Ok(())
     }
 
-    // Whether a group is open.
+    /// Whether a group is open.
     #[tactic(auto, using(crate::proofs::ViewLemmas::there_counted))]
-    fn in_group(&self) -> bool
+    pub fn in_group(&self) -> bool
         ensures { result ≡ in_group self.now }
     {
         self.session.held().is_some()
@@ -175,9 +178,14 @@ impl OpenView {
         }
     }
 
-    // Refuses a line.
+    /// Refuses a line.
     #[tactic(auto, using(effects::proofs::Following::following))]
-    fn refuse<K: Sink>(&mut self, alloc: Global, output: &mut K, fields: &Row) -> Result<(), Stop>
+    pub fn refuse<K: Sink>(
+        &mut self,
+        alloc: Global,
+        output: &mut K,
+        fields: &Row,
+    ) -> Result<(), Stop>
         ensures does { (s : _) → Does (refuses fields.now ∷ []) (world_of s (K.state output.old)) (world_of s (K.state output.new)) result }
         ensures view { OnOk result (self.new ≡ (refusing self.old fields.now).view) }
         ensures blames { SinkBlames (K.state output.old) (K.state output.new) result }
@@ -222,9 +230,9 @@ impl OpenView {
         self.synced.binary_search(label).is_ok()
     }
 
-    // Syncs the files of the labels that were named, and prints how many they are.
+    /// Syncs the files of the labels that were named, and prints how many they are.
     #[tactic(auto, using(effects::proofs::Following::following, effects::proofs::EffectLemmas::partly_more, effects::proofs::EffectLemmas::partly_later, effects::proofs::EffectLemmas::performed_append, view_stages::proofs::StageLemmas::meaning_fits))]
-    fn write_named<F: Folders, K: Sink>(
+    pub fn write_named<F: Folders, K: Sink>(
         &self,
         alloc: Global,
         store: &mut F,
@@ -261,9 +269,9 @@ impl OpenView {
         )
     }
 
-    // Saves the sources that were named, and then syncs the view's files.
+    /// Saves the sources that were named, and then syncs the view's files.
     #[tactic(auto, using(effects::proofs::Following::following, effects::proofs::EffectLemmas::partly_more, effects::proofs::EffectLemmas::partly_later, effects::proofs::EffectLemmas::performed_append))]
-    fn write_changed<F: Folders, K: Sink>(
+    pub fn write_changed<F: Folders, K: Sink>(
         &self,
         alloc: Global,
         store: &mut F,
@@ -278,9 +286,9 @@ impl OpenView {
         Ok(())
     }
 
-    // Refuses an open group at the end of the input, and syncs.
+    /// Refuses an open group at the end of the input, and syncs.
     #[tactic(auto, using(effects::proofs::Following::following, effects::proofs::EffectLemmas::partly_more, effects::proofs::EffectLemmas::partly_later, effects::proofs::EffectLemmas::performed_append))]
-    fn end_input<F: Folders, K: Sink>(
+    pub fn end_input<F: Folders, K: Sink>(
         &mut self,
         alloc: Global,
         store: &mut F,
@@ -295,15 +303,24 @@ impl OpenView {
         self.write_changed(alloc, store, output)
     }
 
-    // A sync, where no group is open.
+    // Notes that the files of these labels, which are those of the tables, are synced.
+    fn note_synced(&mut self, labels: Vec<Text>)
+        requires labels { labels.items ≡ labels_of (tables_of self.old.session) }
+        requires ascends { IsStrictlySortedBy text_cmp labels.items }
+        ensures { self.new ≡ synced_view self.old }
+    {
+        self.session.clear_changed();
+        self.synced = labels;
+    }
+
+    /// A sync, which saves the sources.
     #[tactic(auto, using(effects::proofs::Following::following))]
-    fn sync<F: Folders, K: Sink>(
+    pub fn sync<F: Folders, K: Sink>(
         &mut self,
         alloc: Global,
         store: &mut F,
         output: &mut K,
     ) -> Result<(), Stop>
-        requires { self.old.session.held ≡ None }
         ensures does { Does (syncing self.old).effects (world_of (F.state store.old) (K.state output.old)) (world_of (F.state store.new) (K.state output.new)) result }
         ensures view { OnOk result (self.new ≡ (syncing self.old).view) }
         ensures no_read { IfErr result (λ e. e ≢ Stop.ReadFault) }
@@ -311,8 +328,26 @@ impl OpenView {
     {
         let synced = self.session.tables().labels(alloc)?;
         self.write_changed(alloc, store, output)?;
-        self.session.clear_changed();
-        self.synced = synced;
+        self.note_synced(synced);
+        Ok(())
+    }
+
+    /// A sync of the view's files, which leaves the sources as they are.
+    #[tactic(auto, using(effects::proofs::Following::following))]
+    pub fn sync_view<F: Folders, K: Sink>(
+        &mut self,
+        alloc: Global,
+        store: &mut F,
+        output: &mut K,
+    ) -> Result<(), Stop>
+        ensures does { Does (syncing_view self.old).effects (world_of (F.state store.old) (K.state output.old)) (world_of (F.state store.new) (K.state output.new)) result }
+        ensures view { OnOk result (self.new ≡ (syncing_view self.old).view) }
+        ensures no_read { IfErr result (λ e. e ≢ Stop.ReadFault) }
+        ensures blames { Blames (world_of (F.state store.old) (K.state output.old)) (world_of (F.state store.new) (K.state output.new)) result }
+    {
+        let labels = self.session.tables().labels(alloc)?;
+        self.write_named(alloc, store, output)?;
+        self.note_synced(labels);
         Ok(())
     }
 
@@ -365,9 +400,9 @@ impl OpenView {
         }
     }
 
-    // Answers a line that begins with no word that stands alone.
+    /// Answers a line that begins with no word that stands alone.
     #[tactic(auto, using(effects::proofs::Following::following, crate::proofs::AnswerLemmas::unread_view))]
-    fn change_line<K: Sink, L: Ledger>(
+    pub fn change_line<K: Sink, L: Ledger>(
         &mut self,
         alloc: Global,
         output: &mut K,
@@ -389,9 +424,9 @@ impl OpenView {
         }
     }
 
-    // Answers the row of a line.
+    /// Answers the row of a line.
     #[tactic(auto, using(effects::proofs::Following::following, crate::proofs::AnswerLemmas::words_does))]
-    fn row<F: Folders, K: Sink, L: Ledger>(
+    pub fn row<F: Folders, K: Sink, L: Ledger>(
         &mut self,
         alloc: Global,
         store: &mut F,
@@ -399,8 +434,8 @@ impl OpenView {
         row: &Row,
         steps: &mut Steps<L>,
     ) -> Result<(), Stop>
-        ensures does { Does (by_row self.old row.now).effects (world_of (F.state store.old) (K.state output.old)) (world_of (F.state store.new) (K.state output.new)) result }
-        ensures view { OnOk result (self.new ≡ (by_row self.old row.now).view) }
+        ensures does { Does (by_row syncing self.old row.now).effects (world_of (F.state store.old) (K.state output.old)) (world_of (F.state store.new) (K.state output.new)) result }
+        ensures view { OnOk result (self.new ≡ (by_row syncing self.old row.now).view) }
         ensures no_read { IfErr result (λ e. e ≢ Stop.ReadFault) }
         ensures blames { Blames (world_of (F.state store.old) (K.state output.old)) (world_of (F.state store.new) (K.state output.new)) result }
         ensures rises { steps.old ≤ steps.new }
@@ -412,9 +447,9 @@ impl OpenView {
         }
     }
 
-    // Answers a line.
+    /// Answers a line.
     #[tactic(auto, using(effects::proofs::Following::following, crate::proofs::AnswerLemmas::spelled_does, crate::proofs::AnswerLemmas::unspelled_does))]
-    fn answer<F: Folders, K: Sink, L: Ledger>(
+    pub fn answer<F: Folders, K: Sink, L: Ledger>(
         &mut self,
         alloc: Global,
         store: &mut F,
@@ -441,8 +476,8 @@ impl OpenView {
     }
 }
 
-// The fields of a line that says no change.
-fn line_refusal(alloc: Global, row: &Row, fault: ChangeFault) -> Result<Row, NoMemory>
+/// The fields of a line that says no change.
+pub fn line_refusal(alloc: Global, row: &Row, fault: ChangeFault) -> Result<Row, NoMemory>
     ensures some { OnOk result (fault ≢ LacksMemory) }
     ensures row { IfOk result (λ fields. fields ≡ line_fields row.now fault) }
 {
@@ -452,8 +487,8 @@ fn line_refusal(alloc: Global, row: &Row, fault: ChangeFault) -> Result<Row, NoM
     }
 }
 
-// The fields of a refused change.
-fn refused_fields(alloc: Global, change: &Change, refused: &Refused) -> Result<Row, NoMemory>
+/// The fields of a refused change.
+pub fn refused_fields(alloc: Global, change: &Change, refused: &Refused) -> Result<Row, NoMemory>
     ensures { IfOk result (λ row. IsFieldsOf change.now refused.now row) }
 {
     match refused {

@@ -7,15 +7,15 @@ use ss_text::{Row, Text};
 
 /// A word that stands alone on its line.
 #[derive(Clone, Copy)]
-pub(crate) enum Word {
+pub enum Word {
     Begin,
     Commit,
     Abort,
     Sync,
 }
 
-// The word that a line begins with.
-pub(crate) fn word_of(row: &Row) -> Option<Word>
+/// The word that a line begins with.
+pub fn word_of(row: &Row) -> Option<Word>
     ensures { result ≡ word_in (first_field row.now) }
 {
     match row.cells() {

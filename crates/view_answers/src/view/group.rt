@@ -11,7 +11,7 @@ ghost use Rattle.view_stages.specs.Stages.{refusal_of};
 ghost use Rattle.view_answers.specs.Steps.{IsHoldFieldsOf};
 ghost use Rattle.view_answers.specs.Limits as limits;
 ghost use Rattle.view_answers.specs.Limits.{IsWithin};
-ghost use Rattle.view_answers.specs.Answers.{by_fields, by_word, by_broken, by_group, by_fault, beginning, aborting, giving_up, refusing, end_effects, end_view};
+ghost use Rattle.view_answers.specs.Answers.{by_fields, by_word, by_broken, by_group, by_fault, beginning, aborting, giving_up, refusing, syncing, end_effects, end_view};
 ghost use Rattle.view_answers.specs.declared.word.Word.TheVariants as word;
 
 use crate::opening::fault_fields;
@@ -30,9 +30,9 @@ use std::sync::ledger::Ledger;
 use view_session::HoldRefused;
 
 impl OpenView {
-    // Refuses a line that does not stand in a group.
+    /// Refuses a line that does not stand in a group.
     #[tactic(auto, using(effects::proofs::Following::following))]
-    fn refuse_inside<K: Sink>(
+    pub fn refuse_inside<K: Sink>(
         &mut self,
         alloc: Global,
         output: &mut K,
@@ -46,9 +46,9 @@ impl OpenView {
         self.refuse(alloc, output, &fields)
     }
 
-    // Refuses a line that stands only in a group.
+    /// Refuses a line that stands only in a group.
     #[tactic(auto, using(effects::proofs::Following::following))]
-    fn refuse_outside<K: Sink>(
+    pub fn refuse_outside<K: Sink>(
         &mut self,
         alloc: Global,
         output: &mut K,
@@ -76,9 +76,9 @@ impl OpenView {
         Ok(())
     }
 
-    // Answers a change in a group.
+    /// Answers a change in a group.
     #[tactic(auto, using(effects::proofs::Following::following, crate::proofs::AnswerLemmas::held_view, crate::proofs::AnswerLemmas::unheld_view))]
-    pub(super) fn hold<K: Sink>(
+    pub fn hold<K: Sink>(
         &mut self,
         alloc: Global,
         output: &mut K,
@@ -113,9 +113,9 @@ impl OpenView {
         Ok(())
     }
 
-    // Refuses a group that has ended.
+    /// Refuses a group that has ended.
     #[tactic(auto, using(effects::proofs::Following::following))]
-    fn refuse_group<K: Sink>(
+    pub fn refuse_group<K: Sink>(
         &mut self,
         alloc: Global,
         output: &mut K,
@@ -131,9 +131,14 @@ impl OpenView {
         Ok(())
     }
 
-    // Refuses a group, which gives it up.
+    /// Refuses a group, which gives it up.
     #[tactic(auto, using(effects::proofs::Following::following))]
-    fn give_up<K: Sink>(&mut self, alloc: Global, output: &mut K, fields: &Row) -> Result<(), Stop>
+    pub fn give_up<K: Sink>(
+        &mut self,
+        alloc: Global,
+        output: &mut K,
+        fields: &Row,
+    ) -> Result<(), Stop>
         requires { is_some self.old.session.held ≡ true }
         ensures does { (s : _) → Does (giving_up self.old fields.now).effects (world_of s (K.state output.old)) (world_of s (K.state output.new)) result }
         ensures view { OnOk result (self.new ≡ (giving_up self.old fields.now).view) }
@@ -191,11 +196,16 @@ impl OpenView {
         self.give_up(alloc, output, &fields)
     }
 
-    // Answers `begin` alone.
+    /// Answers `begin` alone.
     #[tactic(auto, using(effects::proofs::Following::following, crate::proofs::ViewLemmas::none_open))]
-    fn begin_line<K: Sink>(&mut self, alloc: Global, output: &mut K, row: &Row) -> Result<(), Stop>
-        ensures does { (s : _) → Does (by_word self.old row.now word.Begin).effects (world_of s (K.state output.old)) (world_of s (K.state output.new)) result }
-        ensures view { OnOk result (self.new ≡ (by_word self.old row.now word.Begin).view) }
+    pub fn begin_line<K: Sink>(
+        &mut self,
+        alloc: Global,
+        output: &mut K,
+        row: &Row,
+    ) -> Result<(), Stop>
+        ensures does { (s : _) → Does (by_word syncing self.old row.now word.Begin).effects (world_of s (K.state output.old)) (world_of s (K.state output.new)) result }
+        ensures view { OnOk result (self.new ≡ (by_word syncing self.old row.now word.Begin).view) }
         ensures blames { SinkBlames (K.state output.old) (K.state output.new) result }
     {
         if self.in_group() {
@@ -214,8 +224,8 @@ impl OpenView {
         row: &Row,
         steps: &mut Steps<L>,
     ) -> Result<(), Stop>
-        ensures does { (s : _) → Does (by_word self.old row.now word.Commit).effects (world_of s (K.state output.old)) (world_of s (K.state output.new)) result }
-        ensures view { OnOk result (self.new ≡ (by_word self.old row.now word.Commit).view) }
+        ensures does { (s : _) → Does (by_word syncing self.old row.now word.Commit).effects (world_of s (K.state output.old)) (world_of s (K.state output.new)) result }
+        ensures view { OnOk result (self.new ≡ (by_word syncing self.old row.now word.Commit).view) }
         ensures blames { SinkBlames (K.state output.old) (K.state output.new) result }
         ensures rises { steps.old ≤ steps.new }
         ensures within { result ≢ Err Stop.NoMemory → IsWithin (limits.by_word self.old word.Commit) steps.old steps.new }
@@ -227,11 +237,16 @@ impl OpenView {
         }
     }
 
-    // Answers `abort` alone.
+    /// Answers `abort` alone.
     #[tactic(auto, using(effects::proofs::Following::following))]
-    fn abort_line<K: Sink>(&mut self, alloc: Global, output: &mut K, row: &Row) -> Result<(), Stop>
-        ensures does { (s : _) → Does (by_word self.old row.now word.Abort).effects (world_of s (K.state output.old)) (world_of s (K.state output.new)) result }
-        ensures view { OnOk result (self.new ≡ (by_word self.old row.now word.Abort).view) }
+    pub fn abort_line<K: Sink>(
+        &mut self,
+        alloc: Global,
+        output: &mut K,
+        row: &Row,
+    ) -> Result<(), Stop>
+        ensures does { (s : _) → Does (by_word syncing self.old row.now word.Abort).effects (world_of s (K.state output.old)) (world_of s (K.state output.new)) result }
+        ensures view { OnOk result (self.new ≡ (by_word syncing self.old row.now word.Abort).view) }
         ensures blames { SinkBlames (K.state output.old) (K.state output.new) result }
     {
         if self.in_group() {
@@ -250,8 +265,8 @@ impl OpenView {
         output: &mut K,
         row: &Row,
     ) -> Result<(), Stop>
-        ensures does { Does (by_word self.old row.now word.Sync).effects (world_of (F.state store.old) (K.state output.old)) (world_of (F.state store.new) (K.state output.new)) result }
-        ensures view { OnOk result (self.new ≡ (by_word self.old row.now word.Sync).view) }
+        ensures does { Does (by_word syncing self.old row.now word.Sync).effects (world_of (F.state store.old) (K.state output.old)) (world_of (F.state store.new) (K.state output.new)) result }
+        ensures view { OnOk result (self.new ≡ (by_word syncing self.old row.now word.Sync).view) }
         ensures no_read { IfErr result (λ e. e ≢ Stop.ReadFault) }
         ensures blames { Blames (world_of (F.state store.old) (K.state output.old)) (world_of (F.state store.new) (K.state output.new)) result }
     {
@@ -273,8 +288,8 @@ impl OpenView {
         word: Word,
         steps: &mut Steps<L>,
     ) -> Result<(), Stop>
-        ensures does { Does (by_word self.old row.now word).effects (world_of (F.state store.old) (K.state output.old)) (world_of (F.state store.new) (K.state output.new)) result }
-        ensures view { OnOk result (self.new ≡ (by_word self.old row.now word).view) }
+        ensures does { Does (by_word syncing self.old row.now word).effects (world_of (F.state store.old) (K.state output.old)) (world_of (F.state store.new) (K.state output.new)) result }
+        ensures view { OnOk result (self.new ≡ (by_word syncing self.old row.now word).view) }
         ensures no_read { IfErr result (λ e. e ≢ Stop.ReadFault) }
         ensures blames { Blames (world_of (F.state store.old) (K.state output.old)) (world_of (F.state store.new) (K.state output.new)) result }
         ensures rises { steps.old ≤ steps.new }
@@ -288,9 +303,9 @@ impl OpenView {
         }
     }
 
-    // Answers a line that begins with a word.
+    /// Answers a line that begins with a word.
     #[tactic(auto, using(effects::proofs::Following::following, crate::proofs::AnswerLemmas::one_word_does, crate::proofs::AnswerLemmas::one_word_view, crate::proofs::AnswerLemmas::more_words_view))]
-    pub(super) fn word_line<F: Folders, K: Sink, L: Ledger>(
+    pub fn word_line<F: Folders, K: Sink, L: Ledger>(
         &mut self,
         alloc: Global,
         store: &mut F,
@@ -299,8 +314,8 @@ impl OpenView {
         word: Word,
         steps: &mut Steps<L>,
     ) -> Result<(), Stop>
-        ensures does { Does (by_fields self.old row.now word).effects (world_of (F.state store.old) (K.state output.old)) (world_of (F.state store.new) (K.state output.new)) result }
-        ensures view { OnOk result (self.new ≡ (by_fields self.old row.now word).view) }
+        ensures does { Does (by_fields syncing self.old row.now word).effects (world_of (F.state store.old) (K.state output.old)) (world_of (F.state store.new) (K.state output.new)) result }
+        ensures view { OnOk result (self.new ≡ (by_fields syncing self.old row.now word).view) }
         ensures no_read { IfErr result (λ e. e ≢ Stop.ReadFault) }
         ensures blames { Blames (world_of (F.state store.old) (K.state output.old)) (world_of (F.state store.new) (K.state output.new)) result }
         ensures rises { steps.old ≤ steps.new }
@@ -314,9 +329,9 @@ impl OpenView {
         self.refuse(alloc, output, &fields)
     }
 
-    // Refuses an open group at the end of the input.
+    /// Refuses an open group at the end of the input.
     #[tactic(auto, using(effects::proofs::Following::following))]
-    pub(super) fn end_group<K: Sink>(&mut self, alloc: Global, output: &mut K) -> Result<(), Stop>
+    pub fn end_group<K: Sink>(&mut self, alloc: Global, output: &mut K) -> Result<(), Stop>
         ensures does { (s : _) → Does (end_effects self.old) (world_of s (K.state output.old)) (world_of s (K.state output.new)) result }
         ensures view { OnOk result (self.new ≡ end_view self.old) }
         ensures blames { SinkBlames (K.state output.old) (K.state output.new) result }
@@ -331,8 +346,8 @@ impl OpenView {
     }
 }
 
-// The fields of a change that is not held.
-fn held_fields(alloc: Global, change: &Change, refused: &HoldRefused) -> Result<Row, NoMemory>
+/// The fields of a change that is not held.
+pub fn held_fields(alloc: Global, change: &Change, refused: &HoldRefused) -> Result<Row, NoMemory>
     ensures { IfOk result (λ row. IsHoldFieldsOf change.now refused.now row) }
 {
     match refused {
