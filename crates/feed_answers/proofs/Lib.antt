@@ -1,0 +1,4 @@
+pub mod ArrivalLemmas
+pub mod FeedLemmas
+pub mod ReplyLemmas
+pub mod TellLemmas

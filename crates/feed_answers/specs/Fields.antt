@@ -1,0 +1,24 @@
+-- Why a line is refused.
+use Rattle.std.specs.Prelude.{[]}
+use Rattle.ss_text.specs.Texts.{Row}
+use Rattle.schema_model.specs.declared.change.Change.{Change}
+use Rattle.apply_law.specs.declared.refused.GroupRefused.{GroupRefused}
+use Rattle.apply_law.specs.declared.refused.GroupRefused.TheVariants as refused
+use Rattle.ss_print.specs.Fields.{escape_fields, verb_fields, count_fields, number_fields, refusal_fields, illegal_fields, clash_fields}
+use Rattle.feed_lines.specs.declared.fault.FeedFault.{FeedFault}
+use Rattle.feed_lines.specs.declared.fault.FeedFault.TheVariants as line
+
+-- a line that says nothing; want of memory is no refusal
+abbrev pub fault_fields : FeedFault → Row
+fault_fields (line.BadEscape at) = escape_fields at
+fault_fields (line.UnknownVerb verb) = verb_fields verb
+fault_fields (line.FieldCount verb got) = count_fields verb got
+fault_fields (line.BadNumber number) = number_fields number
+fault_fields line.NoMemory = []
+
+-- a change that is not made; want of memory is no refusal
+abbrev pub refused_fields : Change → GroupRefused → Row
+refused_fields g (refused.Change place r) = refusal_fields g r
+refused_fields g (refused.Illegal label) = illegal_fields label
+refused_fields g (refused.Conflict clash) = clash_fields clash
+refused_fields g refused.NoMemory = []
