@@ -24,7 +24,7 @@ const COLUMNS: File = (
     "category,cs,math\nAssoc,60000,\nProf,72000,65000\n",
 );
 
-const RUNS: [Swept; 7] = [
+const RUNS: [Swept; 8] = [
     Swept {
         words: &["show", "AtoC"],
         files: &[A_TO_C, A, ("views/AtoC", "old.csv", "x\n")],
@@ -71,6 +71,19 @@ const RUNS: [Swept; 7] = [
         status: 1,
         printed: "synced\t1\nrow-\tsalInfo\tAssoc\tcs\t60000\nrow-\tsalInfo\tProf\tcs\t72000\nrow+\tsalInfo\tAssoc\tinformatics\t60000\nrow+\tsalInfo\tProf\tinformatics\t72000\ndone\t4\nrefused\tarity-differs\tuniv-B\tsalInfo\t3\t1\nsynced\t1\n",
         verify: &["verify", "BtoA"],
+    },
+    // Changes of two sources, one of which comes again, over two syncs.
+    Swept {
+        words: &["feed", "AtoC"],
+        files: &[A_TO_C, A],
+        pieces: &[
+            "feed\ta\t1\tinsert\tuniv-A\tsalInfo\tLect\tmath\t1\nsync\n",
+            "feed\ta\t1\tinsert\tuniv-A\tsalInfo\tLect\tmath\t1\nfeed\tb\t2\tdrop-database\tuniv-A\n",
+            "feed\tb\t1\tdelete\tuniv-A\tsalInfo\tProf\tmath\t65000\n",
+        ],
+        status: 1,
+        printed: "synced\t2\nreply\ta\t1\nrow+\tmath\tLect\t1\ndone\t1\nsynced\t1\nreply\ta\t1\nrow+\tmath\tLect\t1\ndone\t1\nrefused\tearly\tb\t1\nreply\tb\t1\nrow-\tmath\tProf\t65000\ndone\t1\nsynced\t1\n",
+        verify: &["verify", "AtoC"],
     },
     Swept {
         words: &["apply", "AtoB"],

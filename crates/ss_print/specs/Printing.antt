@@ -66,10 +66,3 @@ length_text (Some n) = decimal n
 -- a file that differs: its name, its length, and the length that is meant
 abbrev pub prints_difference : Text → Option ℕ → Option ℕ → Effect
 prints_difference file held meant = says (codes "differs" ∷ file ∷ length_text held ∷ length_text meant ∷ [])
-
-abbrev pub usage_line : Text
-usage_line = codes "usage: schemasql check|show|maintain|verify|apply NAME, or schemasql load N SEED"
-
--- the words that are asked for
-abbrev pub prints_usage : Effect
-prints_usage = Print (usage_line ++ 10 ∷ [])

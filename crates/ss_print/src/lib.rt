@@ -20,6 +20,6 @@ pub use group::{group_broken_fields, in_group_fields, no_group_fields, open_grou
 pub use load::load_fields;
 pub use printing::{
     number_text, print_aborted, print_applied, print_begun, print_difference, print_held,
-    print_reply, print_same, print_script, print_synced, print_usage, refuse, say,
+    print_reply, print_same, print_script, print_synced, refuse, say,
 };
 pub use view::{clash_fields, illegal_fields};

@@ -4,7 +4,7 @@ ghost use Rattle.tab_lines.specs.Spelling.{spell};
 ghost use Rattle.effects.specs.Effects.{Print, Does, world_of};
 ghost use Rattle.effects.specs.Blame.{SinkBlames};
 ghost use Rattle.std.specs.List.{All};
-ghost use Rattle.ss_print.specs.Printing.{says, refuses, prints_synced, prints_reply, prints_begun, prints_held, prints_aborted, prints_usage, prints_script, prints_applied, applied_rows, script_rows, lines_text, prints_same, prints_difference, length_text};
+ghost use Rattle.ss_print.specs.Printing.{says, refuses, prints_synced, prints_reply, prints_begun, prints_held, prints_aborted, prints_script, prints_applied, applied_rows, script_rows, lines_text, prints_same, prints_difference, length_text};
 
 use change_script::{Script, script_lines};
 use effects::{Stop, print};
@@ -271,16 +271,4 @@ fn length_text(alloc: Global, length: Option<usize>) -> Result<Text, NoMemory>
         None => Text::of(alloc, b"-"),
         Some(length) => number_text(alloc, length),
     }
-}
-
-/// Prints which words are asked for.
-pub fn print_usage<K: Sink>(alloc: Global, output: &mut K) -> Result<(), Stop>
-    ensures does { (s : _) → Does (prints_usage ∷ []) (world_of s (K.state output.old)) (world_of s (K.state output.new)) result }
-    ensures blames { SinkBlames (K.state output.old) (K.state output.new) result }
-{
-    print(
-        alloc,
-        output,
-        b"usage: schemasql check|show|maintain|verify|apply NAME, or schemasql load N SEED\n",
-    )
 }

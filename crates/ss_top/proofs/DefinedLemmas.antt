@@ -1,17 +1,18 @@
--- What is asked has a definition.
-use Rattle.std.proofs.Common.{[]}
-use Rattle.std.specs.Prelude.{Err}
+-- Each name has a definition.
+use Rattle.std.proofs.Common.{List, [], ◌∷◌}
+use Rattle.ss_text.specs.Texts.{Text}
 use Rattle.outside.specs.Tree.{Tree}
 use Rattle.view_stages.specs.Opening.{definition_bytes}
 use Rattle.view_stages.proofs.DefinitionLemmas.{some_definition}
-use Rattle.ss_top.specs.Commands.{Asked, Check, Show, Maintain, Verify, Apply, Load, Other}
-use Rattle.ss_top.specs.Runs.{IsDefined}
+use Rattle.ss_top.specs.Runs.{Definitions, AreDefined}
 
-pub is_defined : (a : Asked) (t : Tree) → IsDefined a t
-is_defined (Check name) t = let d = some_definition name (definition_bytes t name) in record { definition = d.0; is = d.1 }
-is_defined (Show name) t = let d = some_definition name (definition_bytes t name) in record { definition = d.0; is = d.1 }
-is_defined (Maintain name) t = let d = some_definition name (definition_bytes t name) in record { definition = d.0; is = d.1 }
-is_defined (Verify name) t = let d = some_definition name (definition_bytes t name) in record { definition = d.0; is = d.1 }
-is_defined (Apply name) t = let d = some_definition name (definition_bytes t name) in record { definition = d.0; is = d.1 }
-is_defined (Load changes seed) t = record { definition = Err []; is = tt }
-is_defined Other t = record { definition = Err []; is = tt }
+module _ (t : Tree) where
+  abbrev definition_over : Definitions
+  definition_over name = (some_definition name (definition_bytes t name)).0
+
+  each_defined : (names : List Text) → AreDefined names t definition_over
+  each_defined [] = tt
+  each_defined (name ∷ names) = ((some_definition name (definition_bytes t name)).1, each_defined names)
+
+pub all_defined : (names : List Text) (t : Tree) → (ds : Definitions) × AreDefined names t ds
+all_defined names t = (definition_over t, each_defined t names)

@@ -9,94 +9,119 @@ use Rattle.view_folder.specs.Held.{held}
 use Rattle.course.specs.declared.status.Verdict.{Verdict}
 use Rattle.course.specs.declared.status.Halt.{Halt}
 use Rattle.course.specs.declared.status.Halt.TheVariants as halt
+use Rattle.course.specs.Answering.{ending}
 use Rattle.schema_model.proofs.ReadyLemmas.{same_some}
 use Rattle.view_apply.specs.Applying as applying
-use Rattle.run_course.specs.Course.{RanBy, RanSome, GaveOut, HeldUp}
+use Rattle.run_course.specs.Course.{RanBy, RanSome, GaveOut, HeldUp, by_lines}
 use Rattle.run_course.proofs.ToldLemmas.{told_tree, contents_told}
 use Rattle.run_course.proofs.TakenLemmas.{taken_lines}
 use Rattle.run_course.proofs.FrontLemmas.{partly_whole, partly_front, lines_front}
 use Rattle.view_stages.specs.Stages.{DefinitionOrRefusal, loaded_or_refused}
-use Rattle.view_stages.specs.Opening.{opening}
+use Rattle.view_stages.specs.Opening.{opening, done_at_once}
 use Rattle.view_stages.specs.Opened.{folder_of, view_exempt}
 use Rattle.view_stages.proofs.StoppedLemmas.{Stopped, printed}
 use Rattle.view_answers.specs.Answers.{step, finish}
+use Rattle.plain_commands.specs.Verifying.{verified}
 use Rattle.plain_commands.specs.Applies.{apply_opening}
 use Rattle.plain_commands.proofs.StopLemmas.{show_over, check_definition, verify_over, apply_over}
+use Rattle.upkeep_law.specs.Behind.{stages_from}
 use Rattle.upkeep_law.proofs.StopLemmas.{maintain_over}
-use Rattle.ss_top.specs.Commands.{Asked, Check, Show, Maintain, Verify, Apply, Load, Other}
-use Rattle.ss_top.specs.Runs.{course_of}
-use Rattle.ss_top.specs.Between.{stages_of, file_by_file, IsLeftBetween}
+use Rattle.view_answers.specs.Steps.{starting}
+use Rattle.feed_answers.specs.Answers as feed
+use Rattle.feed_law.specs.Behind.{feed_stages_from}
+use Rattle.feed_law.proofs.StopLemmas.{feed_over}
+use Rattle.ss_top.specs.Commands.{Asked, Check, Show, Maintain, Verify, Apply, Feed, Load, Other}
+use Rattle.ss_top.specs.Runs.{Definitions, Request, course_by, course_of}
+use Rattle.ss_top.specs.Between.{stages_by, file_by_file, IsLeftBetween}
 
 -- the run of each command
 module _ (s : Stored) (old new : Contents) (told : old.stored ≡ Some s) (lines : List (List ℕ)) where
   abbrev t : Tree
   t = s.tree
 
-  course_stops : (a : Asked) (d : DefinitionOrRefusal) → Partly ((course_of a t d).whole lines).effects old new → Stopped (file_by_file a d) (stages_of a t d lines) t new
-  course_stops (Check name) d h = check_definition s old new told lines (view_exempt d) d h
-  course_stops (Show name) (Err fields) h = printed [] s old new told _ h
-  course_stops (Show name) (Ok a) h = show_over s old new told lines a (loaded_or_refused t) h
-  course_stops (Maintain name) (Err fields) h = printed [] s old new told _ h
-  course_stops (Maintain name) (Ok a) h = maintain_over s old new told lines a (loaded_or_refused t) refl h
-  course_stops (Verify name) (Err fields) h = printed [] s old new told _ h
-  course_stops (Verify name) (Ok a) h = verify_over s old new told lines a (loaded_or_refused t) h
-  course_stops (Apply name) (Err fields) h = printed [] s old new told _ h
-  course_stops (Apply name) (Ok a) h = apply_over s old new told lines a (held (shape_of a.query) t (folder_of a)) h
-  course_stops (Load changes seed) d h = printed (view_exempt d) s old new told _ h
-  course_stops Other d h = printed (view_exempt d) s old new told _ h
+  show_stops : (d : DefinitionOrRefusal) → Partly (ending done_at_once (opening t d)).effects old new → Stopped (view_exempt d ++ []) ((ending done_at_once (opening t d)).effects ∷ []) t new
+  show_stops (Err fields) h = printed [] s old new told _ h
+  show_stops (Ok a) h = show_over s old new told lines a (loaded_or_refused t) h
 
-course_front : (a : Asked) (t : Tree) (d : DefinitionOrRefusal) (xs more : List (List ℕ)) (fs : List Effect) → (course_of a t d).so_far xs ≡ Some fs → (rest : List Effect) × (((course_of a t d).whole (xs ++ more)).effects ≡ fs ++ rest)
-course_front (Check name) t d xs more fs e = absurd (cc e)
-course_front (Show name) t d xs more fs e = absurd (cc e)
-course_front (Maintain name) t d xs more fs e = lines_front step finish (opening t d) xs more fs e
-course_front (Verify name) t d xs more fs e = absurd (cc e)
-course_front (Apply name) t d xs more fs e = lines_front applying.step applying.finish (apply_opening t d) xs more fs e
-course_front (Load changes seed) t d xs more fs e = absurd (cc e)
-course_front Other t d xs more fs e = absurd (cc e)
+  verify_stops : (d : DefinitionOrRefusal) → Partly (verified t d).effects old new → Stopped (view_exempt d ++ []) ((verified t d).effects ∷ []) t new
+  verify_stops (Err fields) h = printed [] s old new told _ h
+  verify_stops (Ok a) h = verify_over s old new told lines a (loaded_or_refused t) h
+
+  maintain_stops : (d : DefinitionOrRefusal) → Partly ((by_lines step finish (opening t d)).whole lines).effects old new → Stopped (view_exempt d ++ []) (stages_from (opening t d) lines) t new
+  maintain_stops (Err fields) h = printed [] s old new told _ h
+  maintain_stops (Ok a) h = maintain_over s old new told lines a (loaded_or_refused t) refl h
+
+  feed_stops : (d : DefinitionOrRefusal) → Partly ((by_lines feed.step feed.finish (starting feed.at_first (opening t d))).whole lines).effects old new → Stopped (view_exempt d ++ []) (feed_stages_from (opening t d) lines) t new
+  feed_stops (Err fields) h = printed [] s old new told _ h
+  feed_stops (Ok a) h = feed_over s old new told lines a (loaded_or_refused t) refl h
+
+  apply_stops : (d : DefinitionOrRefusal) → Partly ((by_lines applying.step applying.finish (apply_opening t d)).whole lines).effects old new → Stopped [] (((by_lines applying.step applying.finish (apply_opening t d)).whole lines).effects ∷ []) t new
+  apply_stops (Err fields) h = printed [] s old new told _ h
+  apply_stops (Ok a) h = apply_over s old new told lines a (held (shape_of a.query) t (folder_of a)) h
+
+  course_stops : (a : Asked) (ds : Definitions) → Partly ((course_by a t ds).whole lines).effects old new → Stopped (file_by_file a ds) (stages_by a t ds lines) t new
+  course_stops (Check name) ds h = check_definition s old new told lines (view_exempt (ds name) ++ []) (ds name) h
+  course_stops (Show name) ds h = show_stops (ds name) h
+  course_stops (Maintain name) ds h = maintain_stops (ds name) h
+  course_stops (Verify name) ds h = verify_stops (ds name) h
+  course_stops (Apply name) ds h = apply_stops (ds name) h
+  course_stops (Feed name) ds h = feed_stops (ds name) h
+  course_stops (Load changes seed) ds h = printed [] s old new told _ h
+  course_stops Other ds h = printed [] s old new told _ h
+
+course_front : (a : Asked) (t : Tree) (ds : Definitions) (xs more : List (List ℕ)) (fs : List Effect) → (course_by a t ds).so_far xs ≡ Some fs → (rest : List Effect) × (((course_by a t ds).whole (xs ++ more)).effects ≡ fs ++ rest)
+course_front (Check name) t ds xs more fs e = absurd (cc e)
+course_front (Show name) t ds xs more fs e = absurd (cc e)
+course_front (Maintain name) t ds xs more fs e = lines_front step finish (opening t (ds name)) xs more fs e
+course_front (Verify name) t ds xs more fs e = absurd (cc e)
+course_front (Apply name) t ds xs more fs e = lines_front applying.step applying.finish (apply_opening t (ds name)) xs more fs e
+course_front (Feed name) t ds xs more fs e = lines_front feed.step feed.finish (starting feed.at_first (opening t (ds name))) xs more fs e
+course_front (Load changes seed) t ds xs more fs e = absurd (cc e)
+course_front Other t ds xs more fs e = absurd (cc e)
 
 -- so each run did a front of its course, however it ended
-module _ (a : Asked) (t : Tree) (d : DefinitionOrRefusal) (old new : World) where
+module _ (q : Request) (old new : World) where
   abbrev Fronts : List (List ℕ) → Type 0
-  Fronts lines = Partly ((course_of a t d).whole lines).effects (contents old) (contents new)
+  Fronts lines = Partly ((course_of q).whole lines).effects (contents old) (contents new)
 
-  some_front : (r : Result Verdict Halt) → (h : RanSome (course_of a t d) old new r) → Fronts h.lines
-  some_front (Ok v) h = partly_whole ((course_of a t d).whole h.lines).effects (contents old) (contents new) h.ran.0
+  some_front : (r : Result Verdict Halt) → (h : RanSome (course_of q) old new r) → Fronts h.lines
+  some_front (Ok v) h = partly_whole ((course_of q).whole h.lines).effects (contents old) (contents new) h.ran.0
   some_front (Err x) h = h.ran
 
   module _ (bytes : List ℕ) (rest : Option (List ℕ)) where
-    gave_out : GaveOut (course_of a t d) bytes rest old new → Fronts (lines_of bytes)
+    gave_out : GaveOut (course_of q) bytes rest old new → Fronts (lines_of bytes)
     gave_out g =
         let first = taken_lines bytes g.taken g.left g.split in
-        let front = course_front a t d (whole_lines g.taken) first.0 g.effects g.meant in
-        partly_front g.effects front.0 ((course_of a t d).whole (lines_of bytes)).effects (contents old) (contents new) (ap (λ (ls : List (List ℕ)). ((course_of a t d).whole ls).effects) first.1 ∙ front.1) g.done
+        let front = course_front q.asked q.tree q.definitions (whole_lines g.taken) first.0 g.effects g.meant in
+        partly_front g.effects front.0 ((course_of q).whole (lines_of bytes)).effects (contents old) (contents new) (ap (λ (ls : List (List ℕ)). ((course_of q).whole ls).effects) first.1 ∙ front.1) g.done
 
-    held_up : HeldUp (course_of a t d) bytes old new → Fronts (lines_of bytes)
+    held_up : HeldUp (course_of q) bytes old new → Fronts (lines_of bytes)
     held_up g =
-        let front = course_front a t d g.answered (g.line ∷ g.more) g.effects g.meant in
-        partly_front g.effects front.0 ((course_of a t d).whole (lines_of bytes)).effects (contents old) (contents new) (ap (λ (ls : List (List ℕ)). ((course_of a t d).whole ls).effects) g.are ∙ front.1) g.done
+        let front = course_front q.asked q.tree q.definitions g.answered (g.line ∷ g.more) g.effects g.meant in
+        partly_front g.effects front.0 ((course_of q).whole (lines_of bytes)).effects (contents old) (contents new) (ap (λ (ls : List (List ℕ)). ((course_of q).whole ls).effects) g.are ∙ front.1) g.done
 
-    told_front : (r : Result Verdict Halt) → RanBy (course_of a t d) bytes rest old new r → Fronts (lines_of bytes)
-    told_front (Ok v) h = partly_whole ((course_of a t d).whole (lines_of bytes)).effects (contents old) (contents new) h.0
+    told_front : (r : Result Verdict Halt) → RanBy (course_of q) bytes rest old new r → Fronts (lines_of bytes)
+    told_front (Ok v) h = partly_whole ((course_of q).whole (lines_of bytes)).effects (contents old) (contents new) h.0
     told_front (Err halt.InputFault) h = gave_out h
     told_front (Err halt.TooLong) h = gave_out h.0
     told_front (Err halt.DiskFault) h = held_up h
     told_front (Err (halt.Stopped e)) h = h
 
-  module _ (told : old.store.tree ≡ Some t) where
+  module _ (told : old.store.tree ≡ Some q.tree) where
     abbrev at_first : Stored
-    at_first = record { tree = t; writes = old.store.writes }
+    at_first = record { tree = q.tree; writes = old.store.writes }
 
     first_told : (contents old).stored ≡ Some at_first
-    first_told = ap (λ (c : Contents). c.stored) (contents_told old t told)
+    first_told = ap (λ (c : Contents). c.stored) (contents_told old q.tree told)
 
-    left : (input : Option (List ℕ)) (lines : List (List ℕ)) → ((bytes : List ℕ) → input ≡ Some bytes → lines ≡ lines_of bytes) → Fronts lines → IsLeftBetween a t d input new
+    left : (input : Option (List ℕ)) (lines : List (List ℕ)) → ((bytes : List ℕ) → input ≡ Some bytes → lines ≡ lines_of bytes) → Fronts lines → IsLeftBetween q input new
     unfolding contents
     left input lines all front =
-        let h = course_stops at_first (contents old) (contents new) first_told lines a d front in
+        let h = course_stops at_first (contents old) (contents new) first_told lines q.asked q.definitions front in
         record { lines = lines; all = all; tree = h.stored.tree; told = (told_tree new.store.tree new.store.writes h.stored h.told).0; stops = h.stops }
 
-pub did_leave : (a : Asked) (t : Tree) (d : DefinitionOrRefusal) (input rest : Option (List ℕ)) (old new : World) (r : Result Verdict Halt) → old.store.tree ≡ Some t → RanSome (course_of a t d) old new r
-    → ((bytes : List ℕ) → input ≡ Some bytes → RanBy (course_of a t d) bytes rest old new r) → IsLeftBetween a t d input new
-did_leave a t d None rest old new r told some ran = left a t d old new told None some.lines (λ bytes none. absurd (cc none)) (some_front a t d old new r some)
-did_leave a t d (Some bytes) rest old new r told some ran =
-    left a t d old new told (Some bytes) (lines_of bytes) (λ bs e. ap lines_of (same_some bytes bs e)) (told_front a t d old new bytes rest r (ran bytes refl))
+pub did_leave : (q : Request) (input rest : Option (List ℕ)) (old new : World) (r : Result Verdict Halt) → old.store.tree ≡ Some q.tree → RanSome (course_of q) old new r
+    → ((bytes : List ℕ) → input ≡ Some bytes → RanBy (course_of q) bytes rest old new r) → IsLeftBetween q input new
+did_leave q None rest old new r told some ran = left q old new told None some.lines (λ bytes none. absurd (cc none)) (some_front q old new r some)
+did_leave q (Some bytes) rest old new r told some ran =
+    left q old new told (Some bytes) (lines_of bytes) (λ bs e. ap lines_of (same_some bytes bs e)) (told_front q old new bytes rest r (ran bytes refl))

@@ -4,28 +4,29 @@ use Rattle.tab_lines.specs.Lines.{lines_of}
 use Rattle.outside.specs.Tree.{Tree}
 use Rattle.effects.specs.Effects.{Effect, World}
 use Rattle.view_stages.specs.Opening.{opening}
-use Rattle.view_stages.specs.Stages.{DefinitionOrRefusal}
-use Rattle.view_stages.specs.Opened.{view_exempt}
 use Rattle.view_stages.specs.Places.{Exempt}
 use Rattle.view_stages.specs.Between.{StopsIn}
 use Rattle.upkeep_law.specs.Behind.{stages_from}
-use Rattle.ss_top.specs.Commands.{Asked, Maintain, Apply}
-use Rattle.ss_top.specs.Runs.{course_of}
+use Rattle.feed_law.specs.Behind.{feed_stages_from}
+use Rattle.ss_top.specs.Commands.{Asked, Maintain, Apply, Feed, names_of}
+use Rattle.ss_top.specs.Runs.{Definitions, Request, course_by}
+use Rattle.ss_top.specs.Promises.{views_exempt}
 
--- the stages of a run over these lines: but for `maintain` there is one, which makes one sync, or none
-abbrev pub stages_of : Asked → Tree → DefinitionOrRefusal → List (List ℕ) → List (List Effect)
-stages_of (Maintain name) t d lines = stages_from (opening t d) lines
-stages_of asked t d lines = ((course_of asked t d).whole lines).effects ∷ []
+-- the stages of a command over these lines: but for `maintain` and `feed` there is one, which makes one sync, or none
+abbrev pub stages_by : Asked → Tree → Definitions → List (List ℕ) → List (List Effect)
+stages_by (Maintain name) t ds lines = stages_from (opening t (ds name)) lines
+stages_by (Feed name) t ds lines = feed_stages_from (opening t (ds name)) lines
+stages_by asked t ds lines = ((course_by asked t ds).whole lines).effects ∷ []
 
--- what a run writes file by file: the view's own files; `apply` writes nothing so
-abbrev pub file_by_file : Asked → DefinitionOrRefusal → List Exempt
-file_by_file (Apply name) d = []
-file_by_file asked d = view_exempt d
+-- what it writes file by file: its views' own files; `apply` writes nothing so
+abbrev pub file_by_file : Asked → Definitions → List Exempt
+file_by_file (Apply name) ds = []
+file_by_file asked ds = views_exempt (names_of asked) ds
 
 -- the store tells what a run left, which stopped in one of its stages; the lines are those of the input, where it tells them
-pub record IsLeftBetween (asked : Asked) (t : Tree) (d : DefinitionOrRefusal) (input : Option (List ℕ)) (new : World) : Type 0 where
+pub record IsLeftBetween (r : Request) (input : Option (List ℕ)) (new : World) : Type 0 where
   pub lines : List (List ℕ)
   pub all : (bytes : List ℕ) → input ≡ Some bytes → lines ≡ lines_of bytes
   pub tree : Tree
   pub told : new.store.tree ≡ Some tree
-  pub stops : StopsIn (file_by_file asked d) (stages_of asked t d lines) t tree
+  pub stops : StopsIn (file_by_file r.asked r.definitions) (stages_by r.asked r.tree r.definitions lines) r.tree tree

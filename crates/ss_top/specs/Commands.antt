@@ -1,7 +1,8 @@
 -- What the words ask for.
-use Rattle.std.specs.Prelude.{ℕ, Bool, true, false, List, [], ◌∷◌, Option, None, Some, if◌then◌else◌, codes}
+use Rattle.std.specs.Prelude.{ℕ, Bool, true, false, List, [], ◌∷◌, ◌++◌, Option, None, Some, if◌then◌else◌, codes}
 use Rattle.ss_text.specs.Texts.{Text, text_eq}
 use Rattle.ss_text.specs.Label.{is_table_label}
+use Rattle.effects.specs.Effects.{Effect, Print}
 use Rattle.load_run.specs.Numbers.{changes_of, seed_of}
 use Rattle.run_course.specs.declared.status.Status.{Status}
 use Rattle.run_course.specs.Statuses.{can_check, can_show, can_maintain, can_apply, can_load, can_refuse}
@@ -15,6 +16,7 @@ pub data Asked : Type 0 where
   Maintain : Text → Asked
   Verify : Text → Asked
   Apply : Text → Asked
+  Feed : Text → Asked
   Load : ℕ → ℕ → Asked
   Other : Asked
 
@@ -24,7 +26,8 @@ command_named word name =
     if text_eq word (codes "show") then Show name else
     if text_eq word (codes "maintain") then Maintain name else
     if text_eq word (codes "verify") then Verify name else
-    if text_eq word (codes "apply") then Apply name else Other
+    if text_eq word (codes "apply") then Apply name else
+    if text_eq word (codes "feed") then Feed name else Other
 
 -- where both are lawful numbers
 abbrev pub load_of : Option ℕ → Option ℕ → Asked
@@ -50,8 +53,20 @@ asked_by (command.Show name) = Show name.now
 asked_by (command.Maintain name) = Maintain name.now
 asked_by (command.Verify name) = Verify name.now
 asked_by (command.Apply name) = Apply name.now
+asked_by (command.Feed name) = Feed name.now
 asked_by (command.Load changes seed) = Load changes seed
 asked_by command.Other = Other
+
+-- the views that a command names
+abbrev pub names_of : Asked → List Text
+names_of (Check name) = name ∷ []
+names_of (Show name) = name ∷ []
+names_of (Maintain name) = name ∷ []
+names_of (Verify name) = name ∷ []
+names_of (Apply name) = name ∷ []
+names_of (Feed name) = name ∷ []
+names_of (Load changes seed) = []
+names_of Other = []
 
 -- whether a command calls the store
 abbrev pub uses_store : Asked → Bool
@@ -66,6 +81,7 @@ only_reads (Show name) = false
 only_reads (Maintain name) = false
 only_reads (Verify name) = true
 only_reads (Apply name) = false
+only_reads (Feed name) = false
 only_reads (Load changes seed) = true
 only_reads Other = true
 
@@ -73,11 +89,13 @@ only_reads Other = true
 abbrev pub reads_input : Asked → Bool
 reads_input (Maintain name) = true
 reads_input (Apply name) = true
+reads_input (Feed name) = true
 reads_input asked = false
 
 -- and whether it counts steps
 abbrev pub counts : Asked → Bool
 counts (Maintain name) = true
+counts (Feed name) = true
 counts (Load changes seed) = true
 counts asked = false
 
@@ -88,5 +106,13 @@ can_end (Show name) s = can_show s
 can_end (Maintain name) s = can_maintain s
 can_end (Verify name) s = can_show s
 can_end (Apply name) s = can_apply s
+can_end (Feed name) s = can_maintain s
 can_end (Load changes seed) s = can_load s
 can_end Other s = can_refuse s
+
+-- what is printed of words that are none of the forms: which words are asked for
+abbrev pub usage_line : Text
+usage_line = codes "usage: schemasql check|show|maintain|verify|apply NAME, or schemasql load N SEED, or schemasql feed NAME"
+
+abbrev pub prints_usage : Effect
+prints_usage = Print (usage_line ++ 10 ∷ [])

@@ -1,57 +1,75 @@
--- The course of a run by what is asked.
-use Rattle.std.specs.Prelude.{◌≡◌, Bool, true, [], ◌∷◌, Option, Some, ℕ, List}
+-- What words ask of a store, and the course of a run that does it.
+use Rattle.std.specs.Prelude.{◌≡◌, Bool, true, List, [], ◌∷◌, Option, Some, ℕ}
+use Rattle.std.specs.List.{AllByRecursion}
+use Rattle.ss_text.specs.Texts.{Text}
 use Rattle.outside.specs.Tree.{Tree}
+use Rattle.effects.specs.Effects.{World}
 use Rattle.course.specs.declared.status.Verdict.TheVariants as verdict
 use Rattle.course.specs.Answering.{ending}
-use Rattle.ss_print.specs.Printing.{prints_usage}
 use Rattle.view_apply.specs.Applying as applying
 use Rattle.run_course.specs.Course.{Course, unread, by_lines}
 use Rattle.view_stages.specs.Stages.{DefinitionOrRefusal}
 use Rattle.view_stages.specs.Opening.{IsDefinition, definition_bytes, opening, done_at_once}
 use Rattle.view_answers.specs.Answers.{step, finish}
-use Rattle.view_answers.specs.Limits.{StepsBehind}
+use Rattle.view_answers.specs.Limits.{StepsBehind, StepsBy}
+use Rattle.view_answers.specs.Steps.{starting}
+use Rattle.feed_answers.specs.Answers as feed
+use Rattle.feed_answers.specs.Limits as feed_limit
 use Rattle.plain_commands.specs.Checking.{checked}
 use Rattle.plain_commands.specs.Verifying.{verified}
 use Rattle.plain_commands.specs.Loads.{loaded}
 use Rattle.plain_commands.specs.Applies.{apply_opening}
-use Rattle.ss_top.specs.Commands.{Asked, Check, Show, Maintain, Verify, Apply, Load, Other}
+use Rattle.ss_top.specs.Commands.{Asked, Check, Show, Maintain, Verify, Apply, Feed, Load, Other, asked_of, names_of, prints_usage, uses_store}
 
--- what the definition that is asked for is
-abbrev pub IsAsked : Asked → Tree → DefinitionOrRefusal → Type 0
-IsAsked (Check name) t d = IsDefinition name (definition_bytes t name) d
-IsAsked (Show name) t d = IsDefinition name (definition_bytes t name) d
-IsAsked (Maintain name) t d = IsDefinition name (definition_bytes t name) d
-IsAsked (Verify name) t d = IsDefinition name (definition_bytes t name) d
-IsAsked (Apply name) t d = IsDefinition name (definition_bytes t name) d
-IsAsked (Load changes seed) t d = Unit {0}
-IsAsked Other t d = Unit {0}
+-- what each name is defined as
+abbrev pub Definitions : Type 0
+Definitions = Text → DefinitionOrRefusal
 
--- the definition that is asked for is there to be judged
-pub record IsDefined (a : Asked) (t : Tree) : Type 0 where
-  pub definition : DefinitionOrRefusal
-  pub is : IsAsked a t definition
+-- each of these names is defined so over a tree
+abbrev pub AreDefined : List Text → Tree → Definitions → Type 0
+AreDefined names t ds = AllByRecursion (λ name. IsDefinition name (definition_bytes t name) (ds name)) names
 
--- and the course of a run with it
-abbrev pub course_of : Asked → Tree → DefinitionOrRefusal → Course
-course_of (Check name) t d = unread (checked d)
-course_of (Show name) t d = unread (ending done_at_once (opening t d))
-course_of (Maintain name) t d = by_lines step finish (opening t d)
-course_of (Verify name) t d = unread (verified t d)
-course_of (Apply name) t d = by_lines applying.step applying.finish (apply_opening t d)
-course_of (Load changes seed) t d = unread (loaded changes seed)
-course_of Other t d = unread (record { effects = prints_usage ∷ []; status = verdict.Usage })
+-- a command, the tree that it is run over, and the definitions of its names
+pub record Request : Type 0 where
+  pub asked : Asked
+  pub tree : Tree
+  pub definitions : Definitions
 
--- this is the course of what is asked, over this tree
-pub record IsCourse (a : Asked) (t : Tree) (c : Course) : Type 0 where
-  pub definition : DefinitionOrRefusal
-  pub asked : IsAsked a t definition
-  pub course : c ≡ course_of a t definition
+-- a command of one view, which has this definition
+abbrev pub of_view : (Text → Asked) → Text → Tree → DefinitionOrRefusal → Request
+of_view command name t d = record { asked = command name; tree = t; definitions = λ _. d }
 
 -- the content is told, where it is wanted
 abbrev pub Told : {A : Type 0} → Bool → Option A → A → Type 0
 Told wanted content x = wanted ≡ true → content ≡ Some x
 
--- what is asked takes no more steps than that, where it is `maintain`
-abbrev pub StepsOf : Asked → Tree → DefinitionOrRefusal → List (List ℕ) → ℕ → ℕ → Type 0
-StepsOf (Maintain name) t d ls i j = StepsBehind (opening t d) ls i j
-StepsOf asked t d ls i j = Unit {0}
+-- the words ask this of a store, which tells its tree where they use it
+pub record Asks (words : List Text) (w : World) (r : Request) : Type 0 where
+  pub is : r.asked ≡ asked_of words
+  pub told : Told (uses_store r.asked) w.store.tree r.tree
+  pub defined : AreDefined (names_of r.asked) r.tree r.definitions
+
+-- so it is over every tree that the store may have, where a command uses it, and all definitions of its names
+abbrev pub OverEach : Asked → Option Tree → (Tree → Definitions → Type 0) → Type 0
+OverEach a tree P = (t : Tree) (ds : Definitions) → Told (uses_store a) tree t → AreDefined (names_of a) t ds → P t ds
+
+-- the course of a command
+abbrev pub course_by : Asked → Tree → Definitions → Course
+course_by (Check name) t ds = unread (checked (ds name))
+course_by (Show name) t ds = unread (ending done_at_once (opening t (ds name)))
+course_by (Maintain name) t ds = by_lines step finish (opening t (ds name))
+course_by (Verify name) t ds = unread (verified t (ds name))
+course_by (Apply name) t ds = by_lines applying.step applying.finish (apply_opening t (ds name))
+course_by (Feed name) t ds = by_lines feed.step feed.finish (starting feed.at_first (opening t (ds name)))
+course_by (Load changes seed) t ds = unread (loaded changes seed)
+course_by Other t ds = unread (record { effects = prints_usage ∷ []; status = verdict.Usage })
+
+-- and of what is asked
+abbrev pub course_of : Request → Course
+course_of r = course_by r.asked r.tree r.definitions
+
+-- a command takes no more steps than that, where it is `maintain` or `feed`
+abbrev pub StepsOf : Asked → Tree → Definitions → List (List ℕ) → ℕ → ℕ → Type 0
+StepsOf (Maintain name) t ds ls i j = StepsBehind (opening t (ds name)) ls i j
+StepsOf (Feed name) t ds ls i j = StepsBy feed.step feed_limit.limit (starting feed.at_first (opening t (ds name))) ls i j
+StepsOf asked t ds ls i j = Unit {0}

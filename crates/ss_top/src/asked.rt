@@ -13,6 +13,7 @@ pub(crate) enum Command<'a> {
     Maintain(&'a Text),
     Verify(&'a Text),
     Apply(&'a Text),
+    Feed(&'a Text),
     Load { changes: u32, seed: u32 },
     Other,
 }
@@ -43,6 +44,8 @@ fn named<'a>(word: &Text, name: &'a Text) -> Command<'a>
         Command::Verify(name)
     } else if word == b"apply".as_slice() {
         Command::Apply(name)
+    } else if word == b"feed".as_slice() {
+        Command::Feed(name)
     } else {
         Command::Other
     }

@@ -7,6 +7,7 @@
 mod asked;
 mod command;
 mod top;
+mod usage;
 
 pub use run_course::Status;
 pub use top::run;

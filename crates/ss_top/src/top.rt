@@ -3,10 +3,10 @@ ghost use Rattle.std.specs.Prelude.{◌≡◌, ◌≤◌, true, false};
 ghost use Rattle.outside.specs.Reading.{OnlyRead};
 ghost use Rattle.outside.specs.Tree.{Tree};
 ghost use Rattle.effects.specs.Effects.{world_of};
-ghost use Rattle.ss_top.specs.Commands.{asked_of, uses_store, only_reads, reads_input, counts, can_end};
-ghost use Rattle.run_course.specs.Course.{Course, Cause};
-ghost use Rattle.ss_top.specs.Runs.{IsDefined};
-ghost use Rattle.ss_top.specs.Clauses.{Has, DoesCourse, IsComplete, AnswersSome, Checks, Shows, Maintains, StopsAtSync, Verifies, TellsDifference, Applies, AppliesNothing, Loads, ReadsWhole, KeepsAll, KeepsOthers, LeavesBetween, TakesLittle, TakesEnough, TakesSteps};
+ghost use Rattle.ss_top.specs.Commands.{asked_of, names_of, uses_store, only_reads, reads_input, counts, can_end};
+ghost use Rattle.run_course.specs.Course.{Cause};
+ghost use Rattle.ss_top.specs.Runs.{Definitions, AreDefined, Request, Asks, course_of};
+ghost use Rattle.ss_top.specs.Clauses.{DoesCourse, IsComplete, AnswersSome, Checks, Shows, Maintains, StopsAtSync, Feeds, FeedStopsAtSync, Verifies, TellsDifference, Applies, AppliesNothing, Loads, ReadsWhole, KeepsAll, KeepsOthers, LeavesBetween, TakesLittle, TakesEnough, TakesSteps};
 
 use crate::asked::command_of;
 use crate::command::run_command;
@@ -16,16 +16,16 @@ use ss_text::{Steps, Text};
 use std::alloc::Global;
 use std::sync::ledger::Ledger;
 
-/// Runs the command that the words ask for, `check NAME`, `show NAME`, `maintain NAME`, `verify NAME` or `apply NAME`,
-/// over the folders `defs`, `sources` and `views` of a store, or `load N SEED`, which uses neither store nor input. What is answered and what is refused are lines of the output.
+/// Runs the command that the words ask for, `check NAME`, `show NAME`, `maintain NAME`, `verify NAME`, `apply NAME` or
+/// `feed NAME`, over the folders `defs`, `sources` and `views` of a store, or `load N SEED`, which uses neither store nor input. What is answered and what is refused are lines of the output.
 ///
 /// The status says which kind of end it was. After a fault the output holds a front of the answers, and all sources are
 /// as the sync under way found them, or all are as it leaves them, and so are the files of a view under `apply`. Of the
-/// files of a view under `show` and `maintain` each is the one or the other, but for one that was being written or
+/// files of a view under `show`, `maintain` and `feed` each is the one or the other, but for one that was being written or
 /// removed.
 ///
-/// Steps are counted by `maintain` and `load` alone. Where memory does not lack, over input whose changes are inserts
-/// and deletes outside groups, `maintain` takes no more of them than the sum, over the changes that the catalogue does
+/// Steps are counted by `maintain`, `feed` and `load` alone. Where memory does not lack, over input whose changes are inserts
+/// and deletes outside groups, `maintain` and `feed` take no more of them than the sum, over the changes that the catalogue does
 /// not refuse, of four for each combination of flat rows that the changed row is part of and four for each such flat
 /// row.
 #[tactic(auto, using(run_course::proofs::RunLemmas::by_status))]
@@ -37,8 +37,8 @@ pub fn run<F: Folders, S: Source, K: Sink, L: Ledger>(
     output: &mut K,
     steps: &mut Steps<L>,
 ) -> Status
-    // What is asked has a course over every tree, and a run does what its course says, all of it where no call fails.
-    ensures defined { (t : Tree) → IsDefined (asked_of words.now) t }
+    // The names have definitions over every tree. What the words ask has a course, and a run does what it says, all of it where no call fails.
+    ensures defined { (t : Tree) → (ds : Definitions) × AreDefined (names_of (asked_of words.now)) t ds }
     ensures did { DoesCourse words.now (S.rest input.old) (S.rest input.new) (world_of (F.state store.old) (K.state output.old)) (world_of (F.state store.new) (K.state output.new)) result }
     ensures complete { IsComplete words.now (S.rest input.old) (S.faults input.old) (S.faults input.new)
         (world_of (F.state store.old) (K.state output.old)) (world_of (F.state store.new) (K.state output.new)) result }
@@ -53,6 +53,9 @@ pub fn run<F: Folders, S: Source, K: Sink, L: Ledger>(
     ensures shown { Shows words.now (world_of (F.state store.old) (K.state output.old)) (world_of (F.state store.new) (K.state output.new)) result }
     ensures maintained { Maintains words.now (S.rest input.old) (world_of (F.state store.old) (K.state output.old)) (world_of (F.state store.new) (K.state output.new)) result }
     ensures cut_off { StopsAtSync words.now (S.rest input.old) (S.rest input.new) (world_of (F.state store.old) (K.state output.old)) (world_of (F.state store.new) (K.state output.new)) result }
+    ensures fed { Feeds words.now (S.rest input.old) (world_of (F.state store.old) (K.state output.old)) (world_of (F.state store.new) (K.state output.new)) result }
+    ensures fed_cut_off { FeedStopsAtSync words.now (S.rest input.old) (S.rest input.new)
+        (world_of (F.state store.old) (K.state output.old)) (world_of (F.state store.new) (K.state output.new)) result }
     ensures verified { Verifies words.now (world_of (F.state store.old) (K.state output.old)) (world_of (F.state store.new) (K.state output.new)) result }
     ensures differs { TellsDifference words.now (world_of (F.state store.old) (K.state output.old)) result }
     ensures applied { Applies words.now (S.rest input.old) (world_of (F.state store.old) (K.state output.old)) (world_of (F.state store.new) (K.state output.new)) result }
@@ -67,7 +70,7 @@ pub fn run<F: Folders, S: Source, K: Sink, L: Ledger>(
     ensures took { TakesLittle words.now (S.rest input.old) (S.rest input.new) (S.last input.new)
         (world_of (F.state store.old) (K.state output.old)) (world_of (F.state store.new) (K.state output.new)) result }
     ensures enough { TakesEnough words.now (S.rest input.old) (S.rest input.new) (S.last input.new) (world_of (F.state store.old) (K.state output.old)) result }
-    ensures alone { (c : Course) → Has words.now (world_of (F.state store.old) (K.state output.old)) c → c.reads ≡ false → input.new ≡ input.old }
+    ensures alone { (r : Request) → Asks words.now (world_of (F.state store.old) (K.state output.old)) r → (course_of r).reads ≡ false → input.new ≡ input.old }
     ensures only_read { only_reads (asked_of words.now) ≡ true → OnlyRead (F.state store.old) (F.state store.new) }
     ensures store { uses_store (asked_of words.now) ≡ false → F.state store.new ≡ F.state store.old }
     ensures rest { reads_input (asked_of words.now) ≡ false → S.rest input.new ≡ S.rest input.old }
