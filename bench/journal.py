@@ -1,5 +1,5 @@
 #!/usr/bin/env python3
-"""A journal that is read to its end, beside a file of as many change lines: each entry is one insert.
+"""A journal that is read to its end, beside a file of as many change lines that is read by lines: each entry is one insert.
 
 usage: bench/journal.py [PROGRAM [ENTRIES]]
 

@@ -3,12 +3,14 @@
 //! `bench/journal.py` runs it. It is no part of the program `schemasql`.
 #![tactic(auto)]
 
+mod file_source;
 mod read;
 
 use anyhow::bail;
+use file_source::FileSource;
 use host_disk::HostDisk;
 use std::env::{self, Env};
-use std::fs;
+use std::fs::File;
 
 fn main(rt: HostRuntime) -> anyhow::Result<()> {
     let words = words(&rt)?;
@@ -49,6 +51,9 @@ fn entries(rt: HostRuntime) -> anyhow::Result<usize> {
 
 // The changes that stand on the lines of the file `changes`.
 fn lines(rt: HostRuntime) -> anyhow::Result<usize> {
-    let bytes = fs::read(&rt, "changes")?;
-    Ok(read::lines(rt.alloc(), &bytes))
+    let mut source = FileSource::of(File::open(&rt, "changes")?);
+    match read::lines(rt.alloc(), &mut source) {
+        Ok(count) => Ok(count),
+        Err(_) => bail!("the lines cannot be read"),
+    }
 }
