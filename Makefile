@@ -34,10 +34,12 @@ try: $(UNPROVED)
 	@echo
 	@echo "\`make\` proves the program."
 
-# The same by the proved program, over changes too, and the sales of some months in one table.
+# The same by the proved program, over changes too; the sales of some months in one table; and two shops whose lines are
+# lost, repeated and out of order.
 demo: $(PROGRAM)
 	examples/offices/run $(PROGRAM)
 	examples/months/run $(PROGRAM)
+	examples/feed/run $(PROGRAM)
 
 # The one test command: the gate.
 test:
