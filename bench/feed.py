@@ -69,9 +69,11 @@ def prepared(root):
 
 
 def files(root):
-    """What the view's folder and the sources hold."""
+    """What the view's folder holds, and the lines of the sources in order: their rows stand in the order in which they came."""
     top = pathlib.Path(root)
-    return {str(path.relative_to(top)): path.read_bytes() for place in ("views", "sources") for path in top.glob(f"{place}/**/*.csv")}
+    held = {str(path.relative_to(top)): path.read_bytes() for path in top.glob("views/**/*.csv")}
+    held |= {str(path.relative_to(top)): sorted(path.read_bytes().splitlines()) for path in top.glob("sources/**/*.csv")}
+    return held
 
 
 def ended(word, given):
