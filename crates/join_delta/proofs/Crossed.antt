@@ -5,8 +5,7 @@ use Rattle.std.proofs.lemmas.Bool.{eq-eqb}
 use denote.Ref.{Bor}
 use Rattle.std.proofs.lemmas.List.{take_more, length-map}
 use Rattle.std.proofs.lemmas.List.Sums.{fold_more}
-use Rattle.ss_text.specs.Texts.{Row}
-use Rattle.row_links.specs.Parts.{cells_at, same_cells, mark_of}
+use Rattle.row_links.specs.Parts.{cells_at, mark_of}
 use Rattle.row_links.proofs.Finding.{cells_sym, same_mark}
 use Rattle.operator_law.specs.Bags.{weigh}
 use Rattle.operator_law.specs.declared.delta.Signed.{Signed}

@@ -1,5 +1,5 @@
 -- The three parts of a join's change.
-use Rattle.std.proofs.Common.{◌≡◌, ℕ, ◌+◌, ◌<◌, ◌≤◌, List, [], ◌∷◌, ◌++◌, true, false, cond, filter, map, length, take, get_or, slice_index_or, refl, sym, ap, ◌∙◌, arith, append_assoc, append-nil}
+use Rattle.std.proofs.Common.{◌≡◌, ℕ, ◌+◌, ◌<◌, ◌≤◌, List, [], ◌∷◌, ◌++◌, true, false, filter, map, length, take, get_or, slice_index_or, refl, sym, ap, ◌∙◌, arith, append_assoc, append-nil}
 use Rattle.std.specs.List.{flat_map, sum_by}
 use Rattle.std.proofs.lemmas.List.{take_more}
 use Rattle.std.proofs.lemmas.List.Sums.{sum_by_more, sum_by_more_le}
@@ -9,7 +9,7 @@ use Rattle.operator_law.proofs.Weights.{weigh-append, weigh-same, weigh-sum_by}
 use Rattle.row_links.specs.Parts.{cells_at, same_cells}
 use Rattle.row_links.proofs.Finding.{cells_sym, filter_same}
 use Rattle.operator_law.specs.declared.delta.Signed.{Signed}
-use Rattle.join_delta.specs.Joined.{PairTest, matches, signs, with_right, with_left, with_moves, joined_moves, pairs_right, pairs_left}
+use Rattle.join_delta.specs.Joined.{matches, with_right, with_left, with_moves, joined_moves, pairs_right, pairs_left}
 use Rattle.join_delta.specs.Partners.{paired, beside, pairs_of}
 
 flat_map_same : {X Y : Type 0} (f g : X → List Y) (xs : List X) → ((x : X) → f x ≡ g x) → flat_map f xs ≡ flat_map g xs

@@ -100,48 +100,59 @@ module _ (test : Row → Bool) (live : Placed) (once : IsOnce (places live)) whe
   pub goes_on_at : (p : ℕ) (row : Row) → at_place p live ≡ Some row → IsWalking test live (first_place (filter (λ e. test e.1) (following p live)))
   goes_on_at p row there = (behind_tail p row there).walks
 
-module _ {X : Type 0} (test : Row → Bool) (live : Placed) (f : Row → X) (first : List X) (start : ℕ) where
-  -- how far a walk has come: what it gave and what is left are all, and each step gave one
-  pub record IsWalk (out : List X) (steps : ℕ) (at : Option ℕ) : Type 0 where
+module _ (test : Row → Bool) (live : Placed) where
+  pub walk_left : (p : ℕ) (row : Row) (next : Option ℕ) → IsOnce (places live) → at_place p live ≡ Some row → next ≡ first_place (filter (λ e. test e.1) (following p live)) → rest_from test live (Some p) ≡ (p, row) ∷ rest_from test live next
+  walk_left p row next once there e = goes_on test live once p row there ∙ ap (λ (o : Option ℕ). (p, row) ∷ rest_from test live o) (sym e)
+
+module _ {X : Type 0} (test : Row → Bool) (live : Placed) (f : Row → X) (first : List X) where
+  -- how far a walk has come: what it gave and what is left are all
+  pub record IsWalk (out : List X) (at : Option ℕ) : Type 0 where
     pub pairs : out ++ map f (rows_of (rest_from test live at)) ≡ first ++ map f (rows_of (filter (λ e. test e.1) live))
-    pub rises : start ≤ steps
-    pub count : steps + length (rest_from test live at) ≡ start + length (filter (λ e. test e.1) live)
     pub once : IsOnce (places live)
     pub walks : IsWalking test live at
 
-  pub walk_begun : (at : Option ℕ) → IsOnce (places live) → at ≡ first_place (filter (λ e. test e.1) live) → IsWalk first start at
+  pub walk_begun : (at : Option ℕ) → IsOnce (places live) → at ≡ first_place (filter (λ e. test e.1) live) → IsWalk first at
   walk_begun at once e =
-      let all : rest_from test live at ≡ filter (λ e. test e.1) live = ap (rest_from test live) e ∙ begins test live once in
       record {
-        pairs = ap (λ es. first ++ map f (rows_of es)) all;
-        rises = omega arith;
-        count = ap (λ es. start + length es) all;
+        pairs = ap (λ es. first ++ map f (rows_of es)) (ap (rest_from test live) e ∙ begins test live once);
         once = once;
         walks = subst (IsWalking test live) (sym e) (begins_at test live once);
       }
 
-  pub walk_left : (p : ℕ) (row : Row) (next : Option ℕ) → IsOnce (places live) → at_place p live ≡ Some row → next ≡ first_place (filter (λ e. test e.1) (following p live)) → rest_from test live (Some p) ≡ (p, row) ∷ rest_from test live next
-  walk_left p row next once there e = goes_on test live once p row there ∙ ap (λ (o : Option ℕ). (p, row) ∷ rest_from test live o) (sym e)
-
-  pub walk_more : (out : List X) (steps : ℕ) (p : ℕ) (row : Row) (next : Option ℕ) → IsWalk out steps (Some p) → at_place p live ≡ Some row → next ≡ first_place (filter (λ e. test e.1) (following p live)) → IsWalk (out ++ f row ∷ []) (steps + 1) next
-  walk_more out steps p row next w there e =
-      let left = walk_left p row next w.once there e in
-      record {
+  pub walk_more : (out out' : List X) (p : ℕ) (row : Row) (next : Option ℕ) → IsWalk out (Some p) → at_place p live ≡ Some row → next ≡ first_place (filter (λ e. test e.1) (following p live)) → out ++ f row ∷ [] ≡ out' → IsWalk out' next
+  walk_more out out' p row next w there e is =
+      let left = walk_left test live p row next w.once there e in
+      subst (λ (xs : List X). IsWalk xs next) is (record {
         pairs = append_assoc out (f row ∷ []) (map f (rows_of (rest_from test live next))) ∙ sym (ap (λ es. out ++ map f (rows_of es)) left) ∙ w.pairs;
-        rises = omega (arith, w.rises);
-        count = (let c = w.count in let l = ap length left in omega arith);
         once = w.once;
         walks = subst (IsWalking test live) (sym e) (goes_on_at test live w.once p row there);
+      })
+
+  pub walk_ended : (out : List X) → IsWalk out None → out ≡ first ++ map f (filter test (rows_of live))
+  walk_ended out w = sym (append-nil out) ∙ w.pairs ∙ ap (λ rs. first ++ map f rs) (rows_filter test live)
+
+module _ (test : Row → Bool) (live : Placed) (start : ℕ) where
+  -- what a walk has counted: each step left one row fewer
+  pub record IsCounted (steps : ℕ) (at : Option ℕ) : Type 0 where
+    pub rises : start ≤ steps
+    pub count : steps + length (rest_from test live at) ≡ start + length (filter (λ e. test e.1) live)
+
+  pub count_begun : (at : Option ℕ) → IsOnce (places live) → at ≡ first_place (filter (λ e. test e.1) live) → IsCounted start at
+  count_begun at once e =
+      record {
+        rises = omega arith;
+        count = ap (λ es. start + length es) (ap (rest_from test live) e ∙ begins test live once);
       }
 
-  pub walk_as : (out out' : List X) (steps steps' : ℕ) (at : Option ℕ) → out ≡ out' → steps ≡ steps' → IsWalk out steps at → IsWalk out' steps' at
-  walk_as out out' steps steps' at e f w = subst (λ (n : ℕ). IsWalk out' n at) f (subst (λ (xs : List X). IsWalk xs steps at) e w)
+  pub count_more : (steps steps' : ℕ) (p : ℕ) (row : Row) (next : Option ℕ) → IsCounted steps (Some p) → IsOnce (places live) → at_place p live ≡ Some row → next ≡ first_place (filter (λ e. test e.1) (following p live)) → steps' ≡ steps + 1 → IsCounted steps' next
+  count_more steps steps' p row next w once there e is =
+      record {
+        rises = omega (arith, w.rises, is);
+        count = (let c = w.count in let l = ap length (walk_left test live p row next once there e) in omega (arith, is));
+      }
 
-  pub walk_ended : (out : List X) (steps : ℕ) → IsWalk out steps None → out ≡ first ++ map f (filter test (rows_of live))
-  walk_ended out steps w = sym (append-nil out) ∙ w.pairs ∙ ap (λ rs. first ++ map f rs) (rows_filter test live)
-
-  pub walk_cost : (out : List X) (steps : ℕ) (at : Option ℕ) → IsWalk out steps at → steps ≤ start + length (filter test (rows_of live))
-  walk_cost out steps at w = omega (arith, w.count, ap length (rows_filter test live), length-rows_of (filter (λ e. test e.1) live))
+  pub count_within : (steps : ℕ) (at : Option ℕ) → IsCounted steps at → steps ≤ start + length (filter test (rows_of live))
+  count_within steps at w = omega (arith, w.count, ap length (rows_filter test live), length-rows_of (filter (λ e. test e.1) live))
 
 -- the rows with the same cells as one that passes
 pub beside_is : (key positions : List ℕ) (sought row : Row) (es : Placed) → same_cells (cells_at key row) (cells_at positions sought) ≡ true → first_place (rows_beside key row es) ≡ first_place (filter (λ e. same_cells (cells_at key e.1) (cells_at positions sought)) es)

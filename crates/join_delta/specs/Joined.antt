@@ -1,5 +1,5 @@
 -- Joins of two bags of rows, and what changes of both sides move in them.
-use Rattle.std.specs.Prelude.{ℕ, ◌≡◌, List, ◌++◌, Bool, cond, filter, map, not, length}
+use Rattle.std.specs.Prelude.{ℕ, List, ◌++◌, Bool, cond, filter, map, not, length}
 use Rattle.std.specs.List.{flat_map, sum_by}
 use Rattle.ss_text.specs.Texts.{Row}
 use Rattle.row_links.specs.Parts.{cells_at, same_cells}

@@ -11,10 +11,8 @@ use crate::key_places::KeyPlaces;
 use crate::partners::joined_row;
 use crate::side::add_all;
 use row_links::Linked;
-use ss_text::{NoMemory, Row, Steps};
+use ss_text::{NoMemory, Row};
 use std::alloc::Global;
-use std::marker::Brand;
-use std::sync::ledger::{Blank, Ledger};
 
 // These rows, to be found by the cells of this key. They are moved.
 fn kept_rows(alloc: Global, key: &KeyPlaces, rows: Vec<Row>) -> Result<Linked, NoMemory>
@@ -31,13 +29,12 @@ fn kept_rows(alloc: Global, key: &KeyPlaces, rows: Vec<Row>) -> Result<Linked, N
 }
 
 // Adds the rows that a row makes with the kept rows that have its key cells.
-fn add_beside<L: Ledger>(
+fn add_beside(
     alloc: Global,
     kept: &Linked,
     positions: &[usize],
     row: &Row,
     out: &mut Vec<Row>,
-    steps: &mut Steps<L>,
 ) -> Result<(), NoMemory>
     requires { 0 < length kept.now.keys }
     ensures { let key = slice_index_or kept.now.keys 0 [] in OnOk result (out.new.items ≡ out.old.items
@@ -46,34 +43,12 @@ fn add_beside<L: Ledger>(
     let mut at = kept.chain_like(0, positions, row);
     while let Some(place) = at {
         out.push(joined_row(alloc, row, kept.row(place))?)?;
-        at = kept.next(place, Some(0), steps);
+        at = kept.beside(place, 0);
     }
     Ok(())
 }
 
 // The rows that some rows make so, in their order.
-fn all_beside<L: Ledger>(
-    alloc: Global,
-    kept: &Linked,
-    positions: &[usize],
-    rows: &[Row],
-    blank: Blank,
-) -> Result<Vec<Row>, NoMemory>
-    requires name { blank.name ≡ L.name }
-    requires parts { blank.parts ≡ L.parts }
-    requires some { 0 < L.parts }
-    requires key { 0 < length kept.now.keys }
-    ensures { let key = slice_index_or kept.now.keys 0 [] in IfOk result (λ out. out.items ≡ joined (matches positions.now key) rows.now (rows_of kept.now.live)) }
-{
-    let mut steps = Steps::<L>::of(blank);
-    let mut out = Vec::new(alloc);
-    for row in rows {
-        add_beside(alloc, kept, positions, row, &mut out, &mut steps)?;
-    }
-    Ok(out)
-}
-
-// The same, of which no step is counted.
 fn joined_rows(
     alloc: Global,
     kept: &Linked,
@@ -83,7 +58,11 @@ fn joined_rows(
     requires { 0 < length kept.now.keys }
     ensures { let key = slice_index_or kept.now.keys 0 [] in IfOk result (λ out. out.items ≡ joined (matches positions.now key) rows.now (rows_of kept.now.live)) }
 {
-    all_beside::<Brand>(alloc, kept, positions, rows, Blank::new(1))
+    let mut out = Vec::new(alloc);
+    for row in rows {
+        add_beside(alloc, kept, positions, row, &mut out)?;
+    }
+    Ok(out)
 }
 
 impl Join {

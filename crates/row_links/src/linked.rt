@@ -176,8 +176,9 @@ impl Linked {
         }
     }
 
-    // The place of the next live row with the same cells at a key's positions.
-    fn beside(&self, place: usize, key: usize) -> Option<usize>
+    /// The place of the next live row with the same cells at a key's positions. No step is counted: it is for joins of rows
+    /// that are all given at once, and what answers a change walks by `next`.
+    pub fn beside(&self, place: usize, key: usize) -> Option<usize>
         requires place { IsSome (at_place place self.now.live) }
         requires key { key < length self.now.keys }
         ensures { (row : Row) → at_place place self.now.live ≡ Some row → result ≡ first_place (rows_beside (slice_index_or self.now.keys key []) row (following place self.now.live)) }

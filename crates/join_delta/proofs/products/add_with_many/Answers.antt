@@ -1,6 +1,5 @@
-use Rattle.std.proofs.Common.{◌≡◌, ◌++◌, refl, ap, ◌∙◌, arith}
+use Rattle.std.proofs.Common.{◌++◌, refl, ap, ◌∙◌, arith}
 use Rattle.row_links.specs.Parts.{cells_at, mark_of}
-use Rattle.operator_law.specs.declared.delta.Signed.{Signed}
 use Rattle.join_delta.specs.Partners.{crossed_with}
 use Rattle.join_delta.specs.Groups.{group_in}
 use Rattle.join_delta.proofs.Sides.{flat_more}

@@ -1,6 +1,5 @@
 use Rattle.std.proofs.Common.{◌≡◌, ◌+◌, ℕ, List, length, get_or, take, sym, ap, ◌∙◌, arith}
 use Rattle.row_links.specs.Live.{LinkedRows, without_first}
-use Rattle.ss_text.specs.Texts.{Row}
 use Rattle.operator_law.specs.Bags.{weigh}
 use Rattle.join_delta.specs.Walks.{rows_of}
 use Rattle.join_delta.proofs.Moved.{takes_more}

@@ -1,4 +1,4 @@
-use Rattle.std.proofs.Common.{◌≡◌, ◌+◌, ℕ, List, take}
+use Rattle.std.proofs.Common.{◌≡◌, ◌+◌, ℕ, take}
 use Rattle.ss_text.specs.Texts.{Row}
 use Rattle.operator_law.specs.Bags.{weigh}
 use Rattle.join_delta.specs.Walks.{rows_of}
