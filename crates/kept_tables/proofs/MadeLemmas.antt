@@ -10,7 +10,7 @@ use Rattle.flow_law.specs.declared.line.TableLine.{TableLine}
 use Rattle.flow_law.specs.declared.line.TableLine.TheVariants.{TableMinus, TablePlus, RowMinus, ColumnMinus, ColumnPlus, RowPlus, Cell}
 use Rattle.flow_law.specs.Tables.{TableValue, empty_table}
 use Rattle.flow_law.specs.Lines.{has_table, label_of, table_after, fits_table, fits_label, fits_line, after_line}
-use Rattle.kept_tables.specs.declared.slot.Slot.{Slot}
+use Rattle.kept_tables.specs.declared.slot.Held.{Held as Slot}
 use Rattle.kept_tables.specs.Slots.{slot_label, tables_in, IsSlot, AreSlots, slot_after}
 use Rattle.kept_tables.proofs.SlotLemmas.{came, went, changed, table_at, has_at}
 use Rattle.kept_tables.proofs.RoomLemmas.{label_stays}

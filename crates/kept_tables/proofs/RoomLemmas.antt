@@ -11,9 +11,9 @@ use Rattle.ss_text.proofs.KeyLemmas.{text_order, equal_itself, Lacks, lacks_afte
 use Rattle.flow_law.specs.declared.line.TableLine.{TableLine}
 use Rattle.flow_law.specs.declared.line.TableLine.TheVariants.{TableMinus, TablePlus, RowMinus, ColumnMinus, ColumnPlus, RowPlus, Cell}
 use Rattle.flow_law.specs.Lines.{label_of}
-use Rattle.kept_tables.specs.declared.slot.Slot.{Slot}
-use Rattle.kept_tables.specs.Kept.{HasFor, one_row, one_column, kept_for}
-use Rattle.kept_tables.specs.Slots.{slot_label, under, added, one_slot, rows_room, columns_room, HaveRoom, new_slot, slot_after}
+use Rattle.kept_tables.specs.declared.slot.Held.{Held as Slot}
+use Rattle.kept_tables.specs.Kept.{HasFor, one_row, one_column}
+use Rattle.kept_tables.specs.Slots.{slot_label, under, added, one_slot, rows_room, columns_room, HaveRoom, new_slot, slot_after, slot_for}
 use Rattle.kept_tables.proofs.SlotLemmas.{Ascends}
 
 -- sums in another order
@@ -85,7 +85,7 @@ module _ (ss : List Slot) (i : ℕ) (new : Text) where
   }
 
 -- a line is expected at its slot
-row_more : (line : TableLine) (s : Slot) → rows_room (record s { table = kept_for line s.table }) ≡ rows_room s + one_row line
+row_more : (line : TableLine) (s : Slot) → rows_room (slot_for line s) ≡ rows_room s + one_row line
 row_more (TableMinus label) s = omega arith
 row_more (TablePlus label) s = omega arith
 row_more (RowMinus label key) s = omega arith
@@ -94,7 +94,7 @@ row_more (ColumnPlus label column) s = omega arith
 row_more (RowPlus label key) s = refl
 row_more (Cell label column value key) s = omega arith
 
-column_more : (line : TableLine) (s : Slot) → columns_room (record s { table = kept_for line s.table }) ≡ columns_room s + one_column line
+column_more : (line : TableLine) (s : Slot) → columns_room (slot_for line s) ≡ columns_room s + one_column line
 column_more (TableMinus label) s = omega arith
 column_more (TablePlus label) s = omega arith
 column_more (RowMinus label key) s = omega arith
@@ -102,9 +102,6 @@ column_more (ColumnMinus label column) s = omega arith
 column_more (ColumnPlus label column) s = refl
 column_more (RowPlus label key) s = omega arith
 column_more (Cell label column value key) s = omega arith
-
-abbrev pub expected : TableLine → Slot → Slot
-expected line s = record s { table = kept_for line s.table }
 
 weighed : (e : Bool) (a u v n m one : ℕ) → m ≡ n + one → u + cond e n 0 ≡ v + cond e m 0 → a ≤ v → a + cond e one 0 ≤ u
 weighed true a u v n m one e h le = omega arith
@@ -123,19 +120,19 @@ module _ (g : Slot → Slot) (same : (s : Slot) → (g s).label ≡ s.label) (ss
   each_slot (line ∷ lines) h = (rw (same_slots (label_of line)) h.0, each_slot lines h.1)
 
 module _ (line : TableLine) (ss : List Slot) (i : ℕ) (d : Slot) (s : Ascends ss) (at : IsPlaceOf slot_label (label_of line) ss i) where
-  expected_more : (f : Slot → ℕ) (one : TableLine → ℕ) → ((x : Slot) → f (expected line x) ≡ f x + one line) → (label : Text) (a : ℕ)
-      → a ≤ under f label ss → a + cond (text_eq label (label_of line)) (one line) 0 ≤ under f label (at_place i (expected line) ss)
+  expected_more : (f : Slot → ℕ) (one : TableLine → ℕ) → ((x : Slot) → f (slot_for line x) ≡ f x + one line) → (label : Text) (a : ℕ)
+      → a ≤ under f label ss → a + cond (text_eq label (label_of line)) (one line) 0 ≤ under f label (at_place i (slot_for line) ss)
   expected_more f one more label a le =
-      let counts = under_changed f (expected line) label ss i d (λ x. refl) at.within in
-      weighed (text_eq label (label_of line)) a _ _ _ _ (one line) (more (get_or ss i d)) (subst (λ (j : Text). under f label (at_place i (expected line) ss) + cond (text_eq label j) (f (get_or ss i d)) 0 ≡ under f label ss + cond (text_eq label j) (f (expected line (get_or ss i d))) 0) (at.has_key d) counts) le
+      let counts = under_changed f (slot_for line) label ss i d (λ x. refl) at.within in
+      weighed (text_eq label (label_of line)) a _ _ _ _ (one line) (more (get_or ss i d)) (subst (λ (j : Text). under f label (at_place i (slot_for line) ss) + cond (text_eq label j) (f (get_or ss i d)) 0 ≡ under f label ss + cond (text_eq label j) (f (slot_for line (get_or ss i d))) 0) (at.has_key d) counts) le
 
-  has_slot : 0 < under one_slot (label_of line) (at_place i (expected line) ss)
-  has_slot = rw (same_slots (expected line) (λ x. refl) ss i d at.within (label_of line), under_place one_slot (label_of line) ss i d s at) (omega arith)
+  has_slot : 0 < under one_slot (label_of line) (at_place i (slot_for line) ss)
+  has_slot = rw (same_slots (slot_for line) (λ x. refl) ss i d at.within (label_of line), under_place one_slot (label_of line) ss i d s at) (omega arith)
 
   -- and there is memory for it beside what lines before it add
-  pub room_expected : (lines : List TableLine) → HaveRoom lines ss → HaveRoom (lines ++ line ∷ []) (at_place i (expected line) ss)
+  pub room_expected : (lines : List TableLine) → HaveRoom lines ss → HaveRoom (lines ++ line ∷ []) (at_place i (slot_for line) ss)
   room_expected lines h = record {
-    slots = each_last (λ (l : TableLine). 0 < under one_slot (label_of l) (at_place i (expected line) ss)) lines line (each_slot (expected line) (λ x. refl) ss i d at.within lines h.slots) has_slot;
+    slots = each_last (λ (l : TableLine). 0 < under one_slot (label_of l) (at_place i (slot_for line) ss)) lines line (each_slot (slot_for line) (λ x. refl) ss i d at.within lines h.slots) has_slot;
     rows = λ label. rw (added_last one_row label lines line) (expected_more rows_room one_row (row_more line) label (added one_row label lines) (h.rows label));
     columns = λ label. rw (added_last one_column label lines line) (expected_more columns_room one_column (column_more line) label (added one_column label lines) (h.columns label));
   }

@@ -13,7 +13,7 @@ use Rattle.flow_law.proofs.TableLemmas.{all_inserted}
 use Rattle.flow_law.specs.Tables.{TableValue, empty_table, table_of, label_in}
 use Rattle.flow_law.specs.Lines.{has_table, with_table, without_table, at_table}
 use Rattle.kept_tables.specs.Kept.{KeptTableValue}
-use Rattle.kept_tables.specs.declared.slot.Slot.{Slot}
+use Rattle.kept_tables.specs.declared.slot.Held.{Held as Slot}
 use Rattle.kept_tables.specs.Slots.{slot_label, table_there, tables_in, new_slot, IsSlot, AreSlots}
 
 -- a fact that holds whether a test is true or false

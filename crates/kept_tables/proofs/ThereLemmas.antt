@@ -7,7 +7,7 @@ use Rattle.std.proofs.lemmas.List.{take_more, map-append}
 use Rattle.ss_text.specs.Texts.{Text, text_cmp}
 use Rattle.flow_law.specs.Tables.{TableValue, label_in, labels_of}
 use Rattle.kept_tables.specs.Kept.{KeptTableValue}
-use Rattle.kept_tables.specs.declared.slot.Slot.{Slot}
+use Rattle.kept_tables.specs.declared.slot.Held.{Held as Slot}
 use Rattle.kept_tables.specs.Slots.{slot_label, table_there, tables_in, AreSlots}
 use Rattle.kept_tables.proofs.SlotLemmas.{either, ascends_kept}
 

@@ -2,7 +2,7 @@
 use Rattle.std.proofs.Common.{◌≡◌, ◌∙◌, List, Option, Some, ap, Global, Vec}
 use Rattle.flow_law.specs.declared.line.TableLine.{TableLine}
 use Rattle.flow_law.specs.Lines.{after_lines}
-use Rattle.kept_tables.specs.declared.slot.Slot.{Slot}
+use Rattle.kept_tables.specs.declared.slot.Held.{Held as Slot}
 use Rattle.kept_tables.specs.declared.tables.Waiting.{Waiting}
 use Rattle.kept_tables.specs.Slots.{tables_in}
 use Rattle.kept_tables.specs.Waits.{change_of, AreReady}

@@ -7,8 +7,8 @@ use Rattle.flow_law.specs.declared.line.TableLine.{TableLine}
 use Rattle.flow_law.specs.declared.line.TableLine.TheVariants.{TableMinus, TablePlus}
 use Rattle.flow_law.specs.Tables.{TableValue, TablesValue, empty_table}
 use Rattle.flow_law.specs.Lines.{label_of}
-use Rattle.kept_tables.specs.Kept.{KeptTableValue, kept_table, kept_after, one_row, one_column}
-use Rattle.kept_tables.specs.declared.slot.Slot.{Slot}
+use Rattle.kept_tables.specs.Kept.{KeptTableValue, kept_table, kept_after, kept_for, one_row, one_column}
+use Rattle.kept_tables.specs.declared.slot.Held.{Held as Slot}
 
 abbrev pub slot_label : Slot → Text
 slot_label s = s.label
@@ -69,3 +69,11 @@ abbrev pub slot_after : TableLine → Slot → Slot
 slot_after (TableMinus label) s = record s { there = false; table = kept_table empty_table s.table.rows_coming s.table.columns_coming }
 slot_after (TablePlus label) s = record s { there = true }
 slot_after line s = record s { table = kept_after line s.table }
+
+-- with memory for what a line of its label adds
+abbrev pub slot_for : TableLine → Slot → Slot
+slot_for line s = record s { table = kept_for line s.table }
+
+-- with memory for nothing more
+abbrev pub slot_without : Slot → Slot
+slot_without s = record s { table = kept_table s.table.table 0 0 }

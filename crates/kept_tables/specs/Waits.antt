@@ -3,7 +3,7 @@ use Rattle.std.specs.Prelude.{◌≡◌, Vec, Option, Some, List, IsTrue, option
 use Rattle.std.proofs.Common.{Global}
 use Rattle.flow_law.specs.declared.line.TableLine.{TableLine}
 use Rattle.flow_law.specs.Lines.{fit_lines}
-use Rattle.kept_tables.specs.declared.slot.Slot.{Slot}
+use Rattle.kept_tables.specs.declared.slot.Held.{Held as Slot}
 use Rattle.kept_tables.specs.declared.tables.Waiting.{Waiting}
 use Rattle.kept_tables.specs.Slots.{tables_in, AreSlots, HaveRoom}
 

@@ -22,8 +22,8 @@ pub(crate) fn labels_of(alloc: Global, slots: &[Slot]) -> Result<Vec<Text>, NoMe
 fn push_label(labels: &mut Vec<Text>, slot: &Slot) -> Result<(), NoMemory>
     ensures { OnOk result (labels.new.items ≡ labels.old.items ++ labels_of (tables_in (slot.now ∷ []))) }
 {
-    if slot.there {
-        labels.push(slot.label.copy()?)?;
+    if slot.is_there() {
+        labels.push(slot.label().copy()?)?;
     }
     Ok(())
 }

@@ -54,7 +54,7 @@ pub(crate) fn slots_of<C: FactCell>(
     let mut slots = Vec::with_capacity(alloc, tables.len())?;
     for facts in tables {
         let table = kept(alloc, facts)?;
-        slots.push(Slot::full(facts.label().copy()?, table))?;
+        slots.push(Slot::full(alloc, facts.label().copy()?, table)?)?;
     }
     Ok(slots)
 }

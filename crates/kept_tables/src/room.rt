@@ -20,7 +20,7 @@ fn slot_of(alloc: Global, slots: &mut Vec<Slot>, label: &Text) -> Result<usize, 
     match find(slots, label) {
         Ok(place) => Ok(place),
         Err(place) => {
-            let slot = Slot::new(alloc, label.copy()?);
+            let slot = Slot::new(alloc, label.copy()?)?;
             slots.insert(place, slot)?;
             Ok(place)
         }
@@ -36,7 +36,7 @@ fn expect_line(alloc: Global, slots: &mut Vec<Slot>, line: &TableLine) -> Result
 {
     let place = slot_of(alloc, slots, line.label())?;
     let slot = &mut slots[place];
-    slot.table.expect(alloc, line)?;
+    slot.expect(alloc, line)?;
     Ok(())
 }
 
@@ -63,7 +63,7 @@ fn forget_label(slots: &mut Vec<Slot>, label: &Text)
         return;
     };
     let slot = &mut slots[place];
-    slot.table.forget();
+    slot.forget();
 }
 
 /// Gives the memory for lines back. It looks at their tables alone, and leaves slots of tables that are not there.

@@ -11,7 +11,7 @@ use Rattle.row_shelves.specs.Stocks.{Stock, row_of, rows_of}
 use Rattle.row_shelves.specs.Shelves.{on_shelf, all_rows}
 use Rattle.row_shelves.proofs.SameLemmas.{on_shelf_all}
 use Rattle.kept_tables.specs.Kept.{KeptTableValue}
-use Rattle.kept_tables.specs.declared.slot.Slot.{Slot}
+use Rattle.kept_tables.specs.declared.slot.Held.{Held as Slot}
 use Rattle.kept_tables.specs.Slots.{slot_label, table_there, tables_in}
 use Rattle.kept_tables.proofs.ThereLemmas.{tables_more, none_there, one_there}
 use Rattle.view_folder.specs.declared.file.File.{File}

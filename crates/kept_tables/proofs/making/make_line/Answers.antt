@@ -2,7 +2,7 @@ use Rattle.std.proofs.Common.{◌≡◌, sym, subst, true, slice_set}
 use Rattle.ss_text.specs.Places.{at_place}
 use Rattle.ss_text.proofs.PlaceLemmas.{put_back}
 use Rattle.flow_law.specs.Lines.{fits_table}
-use Rattle.kept_tables.specs.declared.slot.Slot.{Slot}
+use Rattle.kept_tables.specs.declared.slot.Held.{Held as Slot}
 use Rattle.kept_tables.specs.Kept.{HasFor}
 use Rattle.kept_tables.specs.Slots.{slot_after}
 use Rattle.kept_tables.proofs.RoomLemmas.{has_for, room_left, slot_there}

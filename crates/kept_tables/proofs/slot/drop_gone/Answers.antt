@@ -1,6 +1,6 @@
 use Rattle.std.proofs.Common.{rules}
 use Rattle.std.proofs.lemmas.List.Elements.{filter_from_retain}
-use Rattle.kept_tables.specs.declared.slot.Slot.{Slot}
+use Rattle.kept_tables.specs.declared.slot.Held.{Held as Slot}
 use Rattle.kept_tables.proofs.SlotLemmas.{slots_kept, tables_kept}
 use Rattle.kept_tables.proofs.slot.drop_gone.Goals as goal
 

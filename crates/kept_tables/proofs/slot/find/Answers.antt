@@ -2,7 +2,7 @@ use Rattle.std.proofs.Common.{rules}
 use Rattle.std.proofs.lemmas.Fn.{always_returns_same}
 use Rattle.ss_text.specs.Texts.{text_cmp}
 use Rattle.ss_text.proofs.KeyLemmas.{text_order, searched}
-use Rattle.kept_tables.specs.declared.slot.Slot.{Slot}
+use Rattle.kept_tables.specs.declared.slot.Held.{Held as Slot}
 use Rattle.kept_tables.specs.Slots.{slot_label}
 use Rattle.kept_tables.proofs.slot.find.Goals as goal
 
