@@ -10,7 +10,6 @@ use Rattle.course.specs.declared.status.Verdict.{Verdict}
 use Rattle.course.specs.declared.status.Halt.{Halt}
 use Rattle.course.specs.Answering.{BlamesRun, is_too_long}
 use Rattle.std.proofs.lemmas.Bool.{false≢true}
-use Rattle.effects.specs.declared.stop.Stop.TheVariants as stop
 use Rattle.course.specs.declared.status.Halt.TheVariants as halt
 use Rattle.run_course.specs.declared.status.Status.TheVariants as status
 use Rattle.run_course.specs.Course.{Course, Did, RanBy, RanSome, Took, TookEnough, status_of}
@@ -149,9 +148,9 @@ module _ (words : List Text) (old : World) where
   alone_by P alone = asking (λ a t ds. (course_by a t ds).reads ≡ false → P) alone
 
   -- how many steps it took
-  module _ (input : Option (List ℕ)) (i j : ℕ) (r : Result Verdict Halt) where
+  module _ (input : Option (List ℕ)) (i j : ℕ) where
     abbrev Stepped : Asked → Tree → Definitions → Type 0
-    Stepped a t ds = (bytes : List ℕ) → Told (reads_input a) input bytes → r ≢ Err (halt.Stopped stop.NoMemory) → StepsOf a t ds (lines_of bytes) i j
+    Stepped a t ds = (bytes : List ℕ) → Told (reads_input a) input bytes → StepsOf a t ds (lines_of bytes) i j
 
-    pub takes_steps : OverEach (asked_of words) old.store.tree (Stepped (asked_of words)) → TakesSteps words input old i j (status_of r)
-    takes_steps within q bytes asks read some = asking Stepped within q asks bytes read (λ lacks. some (ap status_of lacks))
+    pub takes_steps : OverEach (asked_of words) old.store.tree (Stepped (asked_of words)) → TakesSteps words input old i j
+    takes_steps within q bytes asks read = asking Stepped within q asks bytes read

@@ -116,7 +116,7 @@ abbrev pub TakesEnough : List Text → Option (List ℕ) → Option (List ℕ) �
 TakesEnough words input rest last old s =
     (r : Request) (bytes : List ℕ) → Asks words old r → reads_input r.asked ≡ true → input ≡ Some bytes → is_fault_status s ≡ false → TookEnough (course_of r) bytes rest last
 
--- where memory did not lack, `maintain` and `feed` took no more steps than the answers to the lines of its input may, and none where the view was not opened: i and j are those before and after
-abbrev pub TakesSteps : List Text → Option (List ℕ) → World → ℕ → ℕ → Status → Type 0
-TakesSteps words input old i j s =
-    (r : Request) (bytes : List ℕ) → Asks words old r → Told (reads_input r.asked) input bytes → s ≢ status.NoMemory → StepsOf r.asked r.tree r.definitions (lines_of bytes) i j
+-- however a run ends, `maintain` and `feed` took no more steps than the answers to the lines of its input may, and none where the view was not opened: i and j are those before and after
+abbrev pub TakesSteps : List Text → Option (List ℕ) → World → ℕ → ℕ → Type 0
+TakesSteps words input old i j =
+    (r : Request) (bytes : List ℕ) → Asks words old r → Told (reads_input r.asked) input bytes → StepsOf r.asked r.tree r.definitions (lines_of bytes) i j

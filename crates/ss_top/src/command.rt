@@ -1,5 +1,5 @@
 //! The commands, each by what it asks for.
-ghost use Rattle.std.specs.Prelude.{◌≡◌, ◌≢◌, ◌≤◌, List, ℕ, Some, Err, true, false, IfOk, IfErr};
+ghost use Rattle.std.specs.Prelude.{◌≡◌, ◌≤◌, List, ℕ, Some, true, false, IfOk, IfErr};
 ghost use Rattle.effects.specs.Effects.{world_of};
 ghost use Rattle.outside.specs.Reading.{OnlyRead};
 ghost use Rattle.tab_lines.specs.Lines.{lines_of};
@@ -12,7 +12,6 @@ ghost use Rattle.run_course.specs.Idle.{IdleRun};
 use crate::asked::Command;
 use crate::usage::usage;
 use course::{Halt, Verdict};
-use effects::Stop;
 use feed_answers::feed;
 use outside::{Folders, Sink, Source};
 use plain_commands::{apply, check, load, show, verify};
@@ -37,7 +36,7 @@ pub(crate) fn run_command<F: Folders, S: Source, K: Sink, L: Ledger>(
     ensures rises { steps.old ≤ steps.new }
     ensures steps { counts (asked_by command.entry) ≡ false → steps.new ≡ steps.old }
     ensures within { OverEach (asked_by command.entry) (F.state store.old).tree (λ t ds. (bytes : List ℕ) → Told (reads_input (asked_by command.entry)) (S.rest input.old) bytes
-        → result ≢ Err (Halt.Stopped Stop.NoMemory) → StepsOf (asked_by command.entry) t ds (lines_of bytes) steps.old steps.new) }
+        → StepsOf (asked_by command.entry) t ds (lines_of bytes) steps.old steps.new) }
     ensures can { can_end (asked_by command.entry) (status_of result) ≡ true }
     ensures some { OverEach (asked_by command.entry) (F.state store.old).tree (λ t ds. RanSome (course_by (asked_by command.entry) t ds)
         (world_of (F.state store.old) (K.state output.old)) (world_of (F.state store.new) (K.state output.new)) result) }

@@ -24,10 +24,10 @@ use std::sync::ledger::Ledger;
 /// files of a view under `show`, `maintain` and `feed` each is the one or the other, but for one that was being written or
 /// removed.
 ///
-/// Steps are counted by `maintain`, `feed` and `load` alone. Where memory does not lack, over input whose changes are inserts
-/// and deletes outside groups, `maintain` and `feed` take no more of them than the sum, over the changes that the catalogue does
-/// not refuse, of four for each combination of flat rows that the changed row is part of and four for each such flat
-/// row.
+/// Steps are counted by `maintain`, `feed` and `load` alone. Over input whose changes are inserts and deletes outside
+/// groups, `maintain` and `feed` take no more of them than the sum, over the changes that the catalogue does not refuse, of
+/// four for each combination of flat rows that the changed row is part of and four for each such flat row. So it is
+/// however the run ends.
 #[tactic(auto, using(run_course::proofs::RunLemmas::by_status))]
 pub fn run<F: Folders, S: Source, K: Sink, L: Ledger>(
     alloc: Global,
@@ -77,7 +77,7 @@ pub fn run<F: Folders, S: Source, K: Sink, L: Ledger>(
     ensures faults { reads_input (asked_of words.now) ≡ false → S.faults input.new ≡ S.faults input.old }
     ensures rises { steps.old ≤ steps.new }
     ensures steps { counts (asked_of words.now) ≡ false → steps.new ≡ steps.old }
-    ensures within { TakesSteps words.now (S.rest input.old) (world_of (F.state store.old) (K.state output.old)) steps.old steps.new result }
+    ensures within { TakesSteps words.now (S.rest input.old) (world_of (F.state store.old) (K.state output.old)) steps.old steps.new }
 {
     let command = command_of(words);
     let ending = run_command(alloc, command, store, input, output, steps);

@@ -1,5 +1,5 @@
 //! Opens a view.
-ghost use Rattle.std.specs.Prelude.{◌≡◌, ◌≢◌, ◌≤◌, ◌∷◌, [], List, Some, Err, IfOk, OnOk};
+ghost use Rattle.std.specs.Prelude.{◌≡◌, ◌≤◌, ◌∷◌, [], List, Some, IfOk};
 ghost use Rattle.effects.specs.Effects.{world_of};
 ghost use Rattle.outside.specs.Tree.{Tree};
 ghost use Rattle.effects.specs.Blame.{Blames};
@@ -53,7 +53,7 @@ pub fn open<F: Folders, K: Sink, L: Ledger>(
     ensures idle { IdleUnread result (world_of (F.state store.old) (K.state output.old)) (world_of (F.state store.new) (K.state output.new)) }
     ensures blames { Blames (world_of (F.state store.old) (K.state output.old)) (world_of (F.state store.new) (K.state output.new)) result }
     ensures rises { steps.old ≤ steps.new }
-    ensures steps { result ≢ Err Stop.NoMemory → steps.new ≡ steps.old }
+    ensures steps { steps.new ≡ steps.old }
 {
     match read_definition(alloc, store, name)? {
         Understood::Refused(fields) => {
@@ -84,7 +84,7 @@ fn open_view<F: Folders, K: Sink, L: Ledger>(
     ensures idle { IdleUnread result (world_of (F.state store.old) (K.state output.old)) (world_of (F.state store.new) (K.state output.new)) }
     ensures blames { Blames (world_of (F.state store.old) (K.state output.old)) (world_of (F.state store.new) (K.state output.new)) result }
     ensures rises { steps.old ≤ steps.new }
-    ensures steps { result ≢ Err Stop.NoMemory → steps.new ≡ steps.old }
+    ensures steps { steps.new ≡ steps.old }
 {
     match load_sources(alloc, store)? {
         Loading::Refused(fields) => {
@@ -116,7 +116,7 @@ fn open_session<F: Folders, K: Sink, L: Ledger>(
     ensures idle { IdleUnread result (world_of (F.state store.old) (K.state output.old)) (world_of (F.state store.new) (K.state output.new)) }
     ensures blames { Blames (world_of (F.state store.old) (K.state output.old)) (world_of (F.state store.new) (K.state output.new)) result }
     ensures rises { steps.old ≤ steps.new }
-    ensures steps { result ≢ Err Stop.NoMemory → steps.new ≡ steps.old }
+    ensures steps { steps.new ≡ steps.old }
 {
     match view_over(alloc, definition, catalogue, steps)? {
         Viewing::Refused(fields) => {
@@ -143,7 +143,7 @@ pub fn view_over<L: Ledger>(
 ) -> Result<Viewing, NoMemory>
     ensures views { IfOk result (λ r. Views r (query_of definition.view.value) catalogue.databases (refusal_of catalogue.databases (query_of definition.view.value))) }
     ensures rises { steps.old ≤ steps.new }
-    ensures steps { OnOk result (steps.new ≡ steps.old) }
+    ensures steps { steps.new ≡ steps.old }
 {
     let view_db = definition.view.view_db.copy()?;
     match Session::open(alloc, catalogue, definition.view, steps) {

@@ -366,7 +366,7 @@ impl OpenView {
         ensures view { OnOk result (self.new ≡ (by_fault self.old change.now (fault (working self.old.session) change.now)).view) }
         ensures blames { SinkBlames (K.state output.old) (K.state output.new) result }
         ensures rises { steps.old ≤ steps.new }
-        ensures within { result ≢ Err Stop.NoMemory → IsWithin (session_limit.limit_of self.old.session change.now) steps.old steps.new }
+        ensures within { IsWithin (session_limit.limit_of self.old.session change.now) steps.old steps.new }
     {
         match self.session.apply(alloc, change, steps) {
             Ok(script) => print_script(alloc, output, &script),
@@ -391,7 +391,7 @@ impl OpenView {
         ensures view { OnOk result (self.new ≡ (by_fault self.old change.now (fault (working self.old.session) change.now)).view) }
         ensures blames { SinkBlames (K.state output.old) (K.state output.new) result }
         ensures rises { steps.old ≤ steps.new }
-        ensures within { result ≢ Err Stop.NoMemory → IsWithin (limits.limit_of_change self.old change.now) steps.old steps.new }
+        ensures within { IsWithin (limits.limit_of_change self.old change.now) steps.old steps.new }
     {
         if self.in_group() {
             self.hold(alloc, output, change)
@@ -413,7 +413,7 @@ impl OpenView {
         ensures view { OnOk result (self.new ≡ (by_change self.old row.now (change_of row.now)).view) }
         ensures blames { SinkBlames (K.state output.old) (K.state output.new) result }
         ensures rises { steps.old ≤ steps.new }
-        ensures within { result ≢ Err Stop.NoMemory → IsWithin (limits.by_change self.old (change_of row.now)) steps.old steps.new }
+        ensures within { IsWithin (limits.by_change self.old (change_of row.now)) steps.old steps.new }
     {
         match Change::read(alloc, row) {
             Ok(change) => self.change(alloc, output, &change, steps),
@@ -439,7 +439,7 @@ impl OpenView {
         ensures no_read { IfErr result (λ e. e ≢ Stop.ReadFault) }
         ensures blames { Blames (world_of (F.state store.old) (K.state output.old)) (world_of (F.state store.new) (K.state output.new)) result }
         ensures rises { steps.old ≤ steps.new }
-        ensures within { result ≢ Err Stop.NoMemory → IsWithin (limits.by_row self.old row.now) steps.old steps.new }
+        ensures within { IsWithin (limits.by_row self.old row.now) steps.old steps.new }
     {
         match word_of(row) {
             Some(word) => self.word_line(alloc, store, output, row, word, steps),
@@ -463,7 +463,7 @@ impl OpenView {
         ensures no_read { IfErr result (λ e. e ≢ Stop.ReadFault) }
         ensures blames { Blames (world_of (F.state store.old) (K.state output.old)) (world_of (F.state store.new) (K.state output.new)) result }
         ensures rises { steps.old ≤ steps.new }
-        ensures within { result ≢ Err Stop.NoMemory → IsWithin (limits.limit self.old line.now) steps.old steps.new }
+        ensures within { IsWithin (limits.limit self.old line.now) steps.old steps.new }
     {
         match read_line(alloc, line) {
             Ok(row) => self.row(alloc, store, output, &row, steps),

@@ -228,7 +228,7 @@ impl OpenView {
         ensures view { OnOk result (self.new ≡ (by_word syncing self.old row.now word.Commit).view) }
         ensures blames { SinkBlames (K.state output.old) (K.state output.new) result }
         ensures rises { steps.old ≤ steps.new }
-        ensures within { result ≢ Err Stop.NoMemory → IsWithin (limits.by_word self.old word.Commit) steps.old steps.new }
+        ensures within { IsWithin (limits.by_word self.old word.Commit) steps.old steps.new }
     {
         if self.in_group() {
             self.commit_group(alloc, output, steps)
@@ -293,7 +293,7 @@ impl OpenView {
         ensures no_read { IfErr result (λ e. e ≢ Stop.ReadFault) }
         ensures blames { Blames (world_of (F.state store.old) (K.state output.old)) (world_of (F.state store.new) (K.state output.new)) result }
         ensures rises { steps.old ≤ steps.new }
-        ensures within { result ≢ Err Stop.NoMemory → IsWithin (limits.by_word self.old word) steps.old steps.new }
+        ensures within { IsWithin (limits.by_word self.old word) steps.old steps.new }
     {
         match word {
             Word::Begin => self.begin_line(alloc, output, row),
@@ -319,7 +319,7 @@ impl OpenView {
         ensures no_read { IfErr result (λ e. e ≢ Stop.ReadFault) }
         ensures blames { Blames (world_of (F.state store.old) (K.state output.old)) (world_of (F.state store.new) (K.state output.new)) result }
         ensures rises { steps.old ≤ steps.new }
-        ensures within { result ≢ Err Stop.NoMemory → IsWithin (limits.by_fields self.old row.now word) steps.old steps.new }
+        ensures within { IsWithin (limits.by_fields self.old row.now word) steps.old steps.new }
     {
         let got = row.cells().len();
         if got == 1 {

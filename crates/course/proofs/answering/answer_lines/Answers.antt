@@ -1,13 +1,10 @@
-use Rattle.std.proofs.Common.{◌≡◌, [], false, refl, ap, ◌∙◌, arith}
+use Rattle.std.proofs.Common.{[], false, refl, ap, ◌∙◌, arith}
 use Rattle.std.specs.Prelude.{Ok, Err}
 use Rattle.std.proofs.lemmas.Result.{err_from_is_err_and}
 use Rattle.tab_lines.specs.declared.lines.Next.TheVariants.{Line, End}
 use Rattle.course.proofs.AnsweringLemmas.{steady_more, none_answered, one_more, some_idle, some_stops, some_halts, some_end, some_end_stops}
 use Rattle.course.proofs.DrivingLemmas.{starts, none_ran, none_took, gave_out_took, line_stops_took, end_took, meet, gave_out, line_stops, line_ends, line_ends_all, line_stands, end_ran, end_all, none_seen, seen_more, no_line, fewer}
 use Rattle.course.proofs.StepLemmas.{none_spent, spent, line_spent, spent_more}
-use Rattle.effects.specs.declared.stop.Stop.TheVariants as stop
-use Rattle.course.specs.declared.status.LineStop.TheVariants as line_stop
-use Rattle.course.specs.Answering.{halt_of_line}
 use Rattle.course.proofs.KeepingLemmas.{keeping_starts, keeping_more, line_stops_kept, line_ends_kept, end_kept, stops_kept, gave_out_kept, disk_stops, disk_ends, disk_gave_out}
 use Rattle.course.proofs.answering.answer_lines.Goals as goal
 
@@ -38,7 +35,7 @@ lines-preserved g c =
       input = omega (arith, c.lines.invariant.input, c.in_ok-line.ensures.steady);
       rises = omega (arith, c.lines.invariant.rises, c.in_ok-verdict.ensures.rises);
       still = λ no. c.in_ok-verdict.ensures.still no ∙ c.lines.invariant.still no;
-      spends = spent_more g.M.LineHandler.step g.M.LineHandler.limit c.args.machine.now _ c.in-Line.line _ _ _ _ _ _ _ _ _ _ _ c.lines.invariant.spends (rw c.in-Line.is at c.in_ok-line.ensures.reads) (rw c.in-Line.is at c.in_ok-line.ensures.next) (rw c.in-None.is at c.in_ok-verdict.ensures.answered) (c.in_ok-verdict.ensures.within (λ is. cc));
+      spends = spent_more g.M.LineHandler.step g.M.LineHandler.limit c.args.machine.now _ c.in-Line.line _ _ _ _ _ _ _ _ _ _ _ c.lines.invariant.spends (rw c.in-Line.is at c.in_ok-line.ensures.reads) (rw c.in-Line.is at c.in_ok-line.ensures.next) (rw c.in-None.is at c.in_ok-verdict.ensures.answered) c.in_ok-verdict.ensures.within;
     }
 
 pub lines-smaller : goal.lines-smaller
@@ -130,26 +127,25 @@ pub returns-clause-some : goal.returns-clause-some
 returns-clause-some g c = some_end g.M.LineHandler.step g.M.LineHandler.finish c.args.machine.now _ _ _ c.lines.machine c.in_ok-verdict-2.verdict c.lines.invariant.answering c.in_ok-verdict-2.ensures.ended
 
 pub returns-in_err-lines-clause-within : goal.returns-in_err-lines-clause-within
-returns-in_err-lines-clause-within g c = λ bytes is other n bound. omega arith
+returns-in_err-lines-clause-within g c = λ bytes is n bound. omega arith
 
 pub returns-in_err-line-clause-within : goal.returns-in_err-line-clause-within
-returns-in_err-line-clause-within g c = λ bytes is other. spent g.M.LineHandler.step g.M.LineHandler.limit c.args.machine.now _ _ _ _ _ _ bytes c.lines.invariant.spends is
+returns-in_err-line-clause-within g c = λ bytes is. spent g.M.LineHandler.step g.M.LineHandler.limit c.args.machine.now _ _ _ _ _ _ bytes c.lines.invariant.spends is
 
 pub returns-in_err-verdict-clause-within : goal.returns-in_err-verdict-clause-within
-returns-in_err-verdict-clause-within g c = λ bytes is other.
-    let p = err_from_is_err_and c.from_residual-in_err-verdict.result c.from_residual-in_err-verdict.ensures.1 in
-    line_spent g.M.LineHandler.step g.M.LineHandler.limit c.args.machine.now _ c.in-Line.line _ _ _ _ _ _ _ _ bytes c.lines.invariant.spends (rw c.in-Line.is at c.in_ok-line.ensures.reads) (rw c.in-Line.is at c.in_ok-line.ensures.next) (c.in_err-verdict.ensures.within (λ e. let q : c.in_err-verdict.field-0.0 ≡ line_stop.Stopped stop.NoMemory = cc in other (p.1 ∙ ap Err (p.2 ∙ ap halt_of_line q)))) is
+returns-in_err-verdict-clause-within g c = λ bytes is.
+    line_spent g.M.LineHandler.step g.M.LineHandler.limit c.args.machine.now _ c.in-Line.line _ _ _ _ _ _ _ _ bytes c.lines.invariant.spends (rw c.in-Line.is at c.in_ok-line.ensures.reads) (rw c.in-Line.is at c.in_ok-line.ensures.next) c.in_err-verdict.ensures.within is
 
 pub returns-in-Some-clause-within : goal.returns-in-Some-clause-within
-returns-in-Some-clause-within g c = λ bytes is other.
-    line_spent g.M.LineHandler.step g.M.LineHandler.limit c.args.machine.now _ c.in-Line.line _ _ _ _ _ _ _ _ bytes c.lines.invariant.spends (rw c.in-Line.is at c.in_ok-line.ensures.reads) (rw c.in-Line.is at c.in_ok-line.ensures.next) (c.in_ok-verdict.ensures.within (λ e. cc)) is
+returns-in-Some-clause-within g c = λ bytes is.
+    line_spent g.M.LineHandler.step g.M.LineHandler.limit c.args.machine.now _ c.in-Line.line _ _ _ _ _ _ _ _ bytes c.lines.invariant.spends (rw c.in-Line.is at c.in_ok-line.ensures.reads) (rw c.in-Line.is at c.in_ok-line.ensures.next) c.in_ok-verdict.ensures.within is
 
 pub returns-in_err-verdict-2-clause-within : goal.returns-in_err-verdict-2-clause-within
-returns-in_err-verdict-2-clause-within g c = λ bytes is other n bound.
+returns-in_err-verdict-2-clause-within g c = λ bytes is n bound.
     omega (arith, c.in_err-verdict-2.ensures.steps, spent g.M.LineHandler.step g.M.LineHandler.limit c.args.machine.now _ _ _ _ _ _ bytes c.lines.invariant.spends is n bound)
 
 pub returns-clause-within : goal.returns-clause-within
-returns-clause-within g c = λ bytes is other n bound.
+returns-clause-within g c = λ bytes is n bound.
     omega (arith, c.in_ok-verdict-2.ensures.steps, spent g.M.LineHandler.step g.M.LineHandler.limit c.args.machine.now _ _ _ _ _ _ bytes c.lines.invariant.spends is n bound)
 
 pub returns-in_err-lines-clause-kept : goal.returns-in_err-lines-clause-kept

@@ -74,4 +74,4 @@ pub returns-clause-alone : goal.returns-clause-alone
 returns-clause-alone g c = alone_by c.args.words.now _ _ (rw c.command_of-command.ensures at c.run_command-ending.ensures.alone)
 
 pub returns-clause-within : goal.returns-clause-within
-returns-clause-within g c = rw c.status_of_ending.ensures (takes_steps c.args.words.now _ _ _ _ c.run_command-ending.result (rw c.command_of-command.ensures at c.run_command-ending.ensures.within))
+returns-clause-within g c = takes_steps c.args.words.now _ _ _ _ (rw c.command_of-command.ensures at c.run_command-ending.ensures.within)

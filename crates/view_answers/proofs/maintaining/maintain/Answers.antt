@@ -32,13 +32,11 @@ pub returns-in-Open-clause-alone : goal.returns-in-Open-clause-alone
 returns-in-Open-clause-alone g c = λ t d told defined none. open_reads step finish (opening t d) _ _ c.in-Open.view (rw c.in-Open.is at c.in_ok-view.ensures.opens t d told defined) none
 
 pub returns-in-Open-clause-within : goal.returns-in-Open-clause-within
-returns-in-Open-clause-within g c = λ t bytes d told given defined some.
-    drove_steps step limit (opening t d) c.in-Open.view (lines_of bytes) _ _ _ _ _ (rw c.in-Open.is at c.in_ok-view.ensures.opens t d told defined) (c.in_ok-view.ensures.steps (λ e. cc)) (c.answer_lines-ending.ensures.within bytes given some)
+returns-in-Open-clause-within g c = λ t bytes d told given defined.
+    drove_steps step limit (opening t d) c.in-Open.view (lines_of bytes) _ _ _ _ _ (rw c.in-Open.is at c.in_ok-view.ensures.opens t d told defined) c.in_ok-view.ensures.steps (c.answer_lines-ending.ensures.within bytes given)
 
 pub returns-in-Ended-clause-within : goal.returns-in-Ended-clause-within
-returns-in-Ended-clause-within g c = λ t bytes d told given defined some. unspent step limit (opening t d) (lines_of bytes) _ _ (c.in_ok-view.ensures.steps (λ e. cc))
+returns-in-Ended-clause-within g c = λ t bytes d told given defined. unspent step limit (opening t d) (lines_of bytes) _ _ c.in_ok-view.ensures.steps
 
 pub returns-in_err-view-clause-within : goal.returns-in_err-view-clause-within
-returns-in_err-view-clause-within g c = λ t bytes d told given defined some.
-    let p = err_from_is_err_and c.from_residual.result c.from_residual.ensures.1 in
-    unspent step limit (opening t d) (lines_of bytes) _ _ (c.in_err-view.ensures.steps (λ e. some (cc)))
+returns-in_err-view-clause-within g c = λ t bytes d told given defined. unspent step limit (opening t d) (lines_of bytes) _ _ c.in_err-view.ensures.steps
