@@ -228,7 +228,12 @@ fn answer<T>(done: Result<T, Error>) -> Result<T, StoreFault> {
     }
 }
 
+// The files of this machine tell nothing.
 impl<R: Files + AllocGlobal + Clone + Drop> Disk for HostDisk<R> {
+    ghost use Rattle.std.specs.Prelude.{None};
+
+    ghost known = { λ _. None };
+
     fn list(&mut self, _alloc: Global) -> Result<Option<Text>, StoreFault> {
         answer(self.read_list())
     }

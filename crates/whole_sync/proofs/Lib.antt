@@ -1,0 +1,7 @@
+pub mod DoingLemmas
+pub mod PutLemmas
+pub mod ListLemmas
+pub mod StopLemmas
+pub mod SameListLemmas
+pub mod EditedLemmas
+pub mod WholeLemmas

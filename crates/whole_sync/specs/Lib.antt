@@ -1,0 +1,5 @@
+pub mod Disks
+pub mod Lists
+pub mod Protocol
+pub mod Replacing
+pub mod Stops

@@ -4,8 +4,12 @@
 //! it is there, all is done: by the program itself, or by the next one, which finds the list. Without a list what lies
 //! beside is taken away.
 //!
-//! Its contract: none but that it is safe and ends, since a disk tells nothing. Its tests make each call of a sync and of
-//! a recovery go wrong in turn. It knows nothing of paths, links or locks.
+//! Its contract: over a disk that tells what it holds and which calls it did, wherever `replace` is stopped or fails, a
+//! recovery gives the files before the edits or those after them. One that succeeds leaves those after them, and did its
+//! calls in their order: what is written is put beside its places, then the list, then what makes something, and behind a
+//! sync what removes something. A recovery that succeeds did what the list says that it found, and one that is stopped can
+//! be done again. Of folders it says which calls are made, and not which folders are there. It knows nothing of paths,
+//! links or locks.
 #![tactic(auto)]
 
 mod disk;

@@ -1,4 +1,7 @@
 //! What is done once a list is there.
+ghost use Rattle.std.specs.Prelude.{◌≡◌, ◌∷◌, ◌++◌, IfOk, OnOk};
+ghost use Rattle.whole_sync.specs.Protocol.{is_making, is_due, making, removing, moves_of};
+
 use outside::{Edit, StoreFault};
 use ss_text::Text;
 use std::alloc::Global;
@@ -30,8 +33,17 @@ pub enum Move {
 
 impl Move {
     /// Whether it makes or writes something. All that do come before those that remove.
-    pub(crate) fn makes(&self) -> bool {
+    pub(crate) fn makes(&self) -> bool
+        ensures { result ≡ is_making self.now }
+    {
         matches!(self, Move::MakeFolder { .. } | Move::TakePlace { .. })
+    }
+
+    /// Whether it is one of those that make something, or one of the others.
+    pub(crate) fn is_due(&self, making: bool) -> bool
+        ensures { result ≡ is_due making self.now }
+    {
+        if making { self.makes() } else { !self.makes() }
     }
 }
 
@@ -42,26 +54,42 @@ pub(crate) fn moves_of(
     alloc: Global,
     edits: &[Edit],
     beside: &[Text],
-) -> Result<Vec<Move>, StoreFault> {
+) -> Result<Vec<Move>, StoreFault>
+    ensures { IfOk result (λ moves. moves.items ≡ moves_of edits.now beside.now) }
+{
     let written = places_written(alloc, edits)?;
     let mut moves = making_moves(alloc, edits, beside)?;
     for edit in edits {
-        match edit {
-            Edit::Remove { folder, file } => {
-                let place = (folder.copy()?, file.copy()?);
-                if written.contains(&place) {
-                    return Err(StoreFault::Failed);
-                }
-                let (folder, file) = place;
-                moves.push(Move::Remove { folder, file })?;
-            }
-            Edit::RemoveFolder { folder } => moves.push(Move::RemoveFolder {
-                folder: folder.copy()?,
-            })?,
-            _ => {}
-        }
+        push_removing(&mut moves, edit, &written)?;
     }
     Ok(moves)
+}
+
+// What an edit removes. A file that is written too is a failure.
+fn push_removing(
+    moves: &mut Vec<Move>,
+    edit: &Edit,
+    written: &BTreeSet<(Text, Text)>,
+) -> Result<(), StoreFault>
+    ensures { OnOk result ((es : _) → moves.old.items ++ removing (edit.now ∷ es) ≡ moves.new.items ++ removing es) }
+{
+    match edit {
+        Edit::Remove { folder, file } => {
+            let place = (folder.copy()?, file.copy()?);
+            if written.contains(&place) {
+                return Err(StoreFault::Failed);
+            }
+            let (folder, file) = place;
+            moves.push(Move::Remove { folder, file })?;
+            Ok(())
+        }
+        Edit::RemoveFolder { folder } => {
+            let folder = folder.copy()?;
+            moves.push(Move::RemoveFolder { folder })?;
+            Ok(())
+        }
+        Edit::MakeFolder { .. } | Edit::Write { .. } => Ok(()),
+    }
 }
 
 // The places that these edits write.
@@ -76,26 +104,43 @@ fn places_written(alloc: Global, edits: &[Edit]) -> Result<BTreeSet<(Text, Text)
 }
 
 // The folders that are made and the files that are written.
-fn making_moves(alloc: Global, edits: &[Edit], beside: &[Text]) -> Result<Vec<Move>, StoreFault> {
-    let mut names = beside.iter();
+fn making_moves(alloc: Global, edits: &[Edit], beside: &[Text]) -> Result<Vec<Move>, StoreFault>
+    ensures { IfOk result (λ moves. moves.items ≡ making edits.now beside.now) }
+{
+    let mut names = beside;
     let mut moves = Vec::new(alloc);
     for edit in edits {
-        match edit {
-            Edit::MakeFolder { folder } => moves.push(Move::MakeFolder {
-                folder: folder.copy()?,
-            })?,
-            Edit::Write { folder, file, .. } => {
-                let Some(beside) = names.next() else {
-                    return Err(StoreFault::Failed);
-                };
-                moves.push(Move::TakePlace {
-                    beside: beside.copy()?,
-                    folder: folder.copy()?,
-                    file: file.copy()?,
-                })?;
-            }
-            _ => {}
-        }
+        names = push_making(&mut moves, edit, names)?;
     }
     Ok(moves)
+}
+
+// What an edit makes or writes, and the names that are left for those behind it.
+fn push_making<'a>(
+    moves: &mut Vec<Move>,
+    edit: &Edit,
+    names: &'a [Text],
+) -> Result<&'a [Text], StoreFault>
+    ensures { IfOk result (λ rest. (es : _) → moves.old.items ++ making (edit.now ∷ es) names.now ≡ moves.new.items ++ making es rest.now) }
+{
+    match edit {
+        Edit::MakeFolder { folder } => {
+            let folder = folder.copy()?;
+            moves.push(Move::MakeFolder { folder })?;
+            Ok(names)
+        }
+        Edit::Write { folder, file, .. } => match names {
+            [beside, rest @ ..] => {
+                let (beside, folder, file) = (beside.copy()?, folder.copy()?, file.copy()?);
+                moves.push(Move::TakePlace {
+                    beside,
+                    folder,
+                    file,
+                })?;
+                Ok(rest)
+            }
+            [] => Err(StoreFault::Failed),
+        },
+        Edit::Remove { .. } | Edit::RemoveFolder { .. } => Ok(names),
+    }
 }

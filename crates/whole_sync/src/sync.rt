@@ -1,4 +1,10 @@
 //! The making of edits, and what the next program does where one was stopped.
+ghost use Rattle.std.specs.Prelude.{◌≡◌, [], ◌∷◌, ◌++◌, map, IfOk, OnOk, OnErr, None, Some, option_map};
+ghost use Rattle.whole_sync.specs.Disks.{Known, Do, Off, DoesAll, with_done};
+ghost use Rattle.whole_sync.specs.Protocol.{picked, finishing, edited};
+ghost use Rattle.whole_sync.specs.Replacing.{Aside, PutAll, Prepared, TakenBack, Unprepared, Dropped, Replaced, ListFinished};
+ghost use Rattle.whole_sync.specs.Stops.{Recovered, WholeAtEachStop, SameAtEachStop};
+
 use crate::moves::moves_of;
 use crate::words::{list_text, read_list};
 use crate::{Disk, Move};
@@ -8,18 +14,25 @@ use std::alloc::Global;
 
 /// Makes all of these edits, in order but that what is removed is so last, or none. Where it fails, none is made, or a
 /// list is there by which `recover` makes all. It fails for want of memory only where none is made.
-pub fn replace<D: Disk>(alloc: Global, disk: &mut D, edits: &[Edit]) -> Result<(), StoreFault> {
+pub fn replace<D: Disk>(alloc: Global, disk: &mut D, edits: &[Edit]) -> Result<(), StoreFault>
+    ensures ok { OnOk result (Replaced edits.now (D.known disk.old) (D.known disk.new)) }
+    ensures made { OnOk result ((k n : Known) → D.known disk.old ≡ Some k → D.known disk.new ≡ Some n → n.held.files ≡ edited edits.now k.held.files) }
+    ensures whole { (k n : Known) → D.known disk.old ≡ Some k → D.known disk.new ≡ Some n → k.held.list ≡ None → WholeAtEachStop edits.now k n }
+{
     let mut beside = Vec::new(alloc);
-    let moves = match prepare(alloc, disk, edits, &mut beside) {
-        Ok(moves) => moves,
-        Err(fault) => {
-            drop_all(alloc, disk, &beside);
-            return Err(fault);
+    match prepare(alloc, disk, edits, &mut beside) {
+        Ok(moves) => {
+            let listed = moves.as_slice();
+            match finish(alloc, disk, listed) {
+                Ok(()) => Ok(()),
+                Err(_) => Err(StoreFault::Failed),
+            }
         }
-    };
-    match finish(alloc, disk, &moves) {
-        Ok(()) => Ok(()),
-        Err(_) => Err(StoreFault::Failed),
+        Err(fault) => {
+            let names = beside.as_slice();
+            drop_all(alloc, disk, names);
+            Err(fault)
+        }
     }
 }
 
@@ -30,18 +43,33 @@ fn prepare<D: Disk>(
     disk: &mut D,
     edits: &[Edit],
     beside: &mut Vec<Text>,
-) -> Result<Vec<Move>, StoreFault> {
+) -> Result<Vec<Move>, StoreFault>
+    requires { beside.old.items ≡ [] }
+    ensures ok { IfOk result (λ moves. Prepared edits.now moves.items beside.new.items (D.known disk.old) (D.known disk.new)) }
+    ensures err { OnErr result (Unprepared edits.now beside.new.items (D.known disk.old) (D.known disk.new)) }
+{
     put_all(alloc, disk, edits, beside)?;
-    let moves = moves_of(alloc, edits, beside)?;
-    let list = list_text(alloc, &moves)?;
-    match disk.put_list(alloc, list.as_slice()) {
+    let names = beside.as_slice();
+    let moves = moves_of(alloc, edits, names)?;
+    let listed = moves.as_slice();
+    let list = list_text(alloc, listed)?;
+    let text = list.as_slice();
+    match disk.put_list(alloc, text) {
         Ok(()) => Ok(moves),
         Err(fault) => {
-            if disk.drop_list(alloc).is_err() {
-                beside.clear();
-            }
+            take_back(alloc, disk, beside);
             Err(fault)
         }
+    }
+}
+
+// Takes a list away. Where that fails, it may be there.
+fn take_back<D: Disk>(alloc: Global, disk: &mut D, beside: &mut Vec<Text>)
+    ensures { TakenBack beside.new.items (D.known disk.old) (D.known disk.new) }
+{
+    match disk.drop_list(alloc) {
+        Ok(()) => {}
+        Err(_) => beside.clear(),
     }
 }
 
@@ -50,42 +78,91 @@ fn put_all<D: Disk>(
     disk: &mut D,
     edits: &[Edit],
     beside: &mut Vec<Text>,
-) -> Result<(), StoreFault> {
+) -> Result<(), StoreFault>
+    requires { beside.old.items ≡ [] }
+    ensures ok { OnOk result (PutAll edits.now beside.new.items (D.known disk.old) (D.known disk.new)) }
+    ensures err { OnErr result (Aside (D.known disk.old) (D.known disk.new)) }
+{
     for edit in edits {
-        if let Edit::Write {
-            folder,
-            file,
-            bytes,
-        } = edit
-        {
-            let name = disk.put_beside(alloc, folder, file, bytes.as_slice())?;
-            beside.push(name)?;
-        }
+        put_one(alloc, disk, edit, beside)?;
     }
     Ok(())
 }
 
+fn put_one<D: Disk>(
+    alloc: Global,
+    disk: &mut D,
+    edit: &Edit,
+    beside: &mut Vec<Text>,
+) -> Result<(), StoreFault>
+    ensures ok { OnOk result ((names : _) × (beside.new.items ≡ beside.old.items ++ names) × PutAll (edit.now ∷ []) names (D.known disk.old) (D.known disk.new)) }
+    ensures err { OnErr result (Aside (D.known disk.old) (D.known disk.new)) }
+{
+    match edit {
+        Edit::Write {
+            folder,
+            file,
+            bytes,
+        } => {
+            let name = disk.put_beside(alloc, folder, file, bytes.as_slice())?;
+            beside.push(name)?;
+            Ok(())
+        }
+        Edit::MakeFolder { .. } => Ok(()),
+        Edit::Remove { .. } => Ok(()),
+        Edit::RemoveFolder { .. } => Ok(()),
+    }
+}
+
 // Takes away what was put beside places. What cannot be taken away is left to `clean`.
-fn drop_all<D: Disk>(alloc: Global, disk: &mut D, beside: &[Text]) {
+fn drop_all<D: Disk>(alloc: Global, disk: &mut D, beside: &[Text])
+    ensures { Dropped beside.now (D.known disk.old) (D.known disk.new) }
+{
     for name in beside {
         let _ = disk.drop_beside(alloc, name);
     }
 }
 
 // Does all that a list names, and takes the list away.
-fn finish<D: Disk>(alloc: Global, disk: &mut D, moves: &[Move]) -> Result<(), StoreFault> {
-    for one in moves.iter().filter(|one| one.makes()) {
-        do_move(alloc, disk, one)?;
-    }
+fn finish<D: Disk>(alloc: Global, disk: &mut D, moves: &[Move]) -> Result<(), StoreFault>
+    ensures { DoesAll (finishing moves.now) result (D.known disk.old) (D.known disk.new) }
+{
+    do_all(alloc, disk, moves, true)?;
     disk.sync(alloc)?;
-    for one in moves.iter().filter(|one| !one.makes()) {
-        do_move(alloc, disk, one)?;
-    }
+    do_all(alloc, disk, moves, false)?;
     disk.sync(alloc)?;
     disk.drop_list(alloc)
 }
 
-fn do_move<D: Disk>(alloc: Global, disk: &mut D, one: &Move) -> Result<(), StoreFault> {
+// Does those of these moves that make something, or the others.
+fn do_all<D: Disk>(
+    alloc: Global,
+    disk: &mut D,
+    moves: &[Move],
+    making: bool,
+) -> Result<(), StoreFault>
+    ensures { DoesAll (map Do (picked making moves.now)) result (D.known disk.old) (D.known disk.new) }
+{
+    for one in moves {
+        do_due(alloc, disk, one, making)?;
+    }
+    Ok(())
+}
+
+fn do_due<D: Disk>(alloc: Global, disk: &mut D, one: &Move, making: bool) -> Result<(), StoreFault>
+    ensures { DoesAll (map Do (picked making (one.now ∷ []))) result (D.known disk.old) (D.known disk.new) }
+{
+    if one.is_due(making) {
+        do_move(alloc, disk, one)
+    } else {
+        Ok(())
+    }
+}
+
+fn do_move<D: Disk>(alloc: Global, disk: &mut D, one: &Move) -> Result<(), StoreFault>
+    ensures ok { OnOk result (D.known disk.new ≡ option_map (with_done (Do one.now)) (D.known disk.old)) }
+    ensures err { OnErr result (Off (Do one.now) (D.known disk.old) (D.known disk.new)) }
+{
     match one {
         Move::MakeFolder { folder } => disk.make_folder(alloc, folder),
         Move::TakePlace {
@@ -100,10 +177,25 @@ fn do_move<D: Disk>(alloc: Global, disk: &mut D, one: &Move) -> Result<(), Store
 
 /// Does what the list of an earlier program says, where one is there, and takes away what lies beside places. To be
 /// called before anything is read. Where it fails, nothing is to be read: `recover` can be called again.
-pub fn recover<D: Disk>(alloc: Global, disk: &mut D) -> Result<(), StoreFault> {
-    if let Some(text) = disk.list(alloc)? {
-        let moves = read_list(alloc, text.as_slice())?;
-        finish(alloc, disk, &moves)?;
-    }
+pub fn recover<D: Disk>(alloc: Global, disk: &mut D) -> Result<(), StoreFault>
+    ensures ok { OnOk result ((k n : Known) → D.known disk.old ≡ Some k → D.known disk.new ≡ Some n → Recovered k.held n.held) }
+    ensures stops { (k n : Known) → D.known disk.old ≡ Some k → D.known disk.new ≡ Some n → SameAtEachStop k n }
+{
+    finish_list(alloc, disk)?;
     disk.clean(alloc)
+}
+
+// Does what the list of an earlier program says, where one is there.
+fn finish_list<D: Disk>(alloc: Global, disk: &mut D) -> Result<(), StoreFault>
+    ensures { ListFinished result (D.known disk.old) (D.known disk.new) }
+{
+    match disk.list(alloc)? {
+        None => Ok(()),
+        Some(text) => {
+            let bytes = text.as_slice();
+            let found = read_list(alloc, bytes)?;
+            let listed = found.as_slice();
+            finish(alloc, disk, listed)
+        }
+    }
 }

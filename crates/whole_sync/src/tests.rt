@@ -50,6 +50,15 @@ impl MemDisk {
         }
     }
 
+    // Moves what lies beside a place there, if it still does.
+    fn place(&mut self, beside: &Text, folder: &Text, file: &Text) -> Result<(), StoreFault> {
+        let from = (folder.copy()?, beside.copy()?);
+        if let Some(bytes) = self.files.remove(&from) {
+            self.files.insert((folder.copy()?, file.copy()?), bytes)?;
+        }
+        Ok(())
+    }
+
     fn put(&mut self, folder: &Text, file: &Text, bytes: &[u8]) -> Result<(), StoreFault> {
         let text = Text::of(self.alloc, bytes)?;
         self.files.insert((folder.copy()?, file.copy()?), text)?;
@@ -70,6 +79,10 @@ fn end(succeeds: bool) -> Result<(), StoreFault> {
 }
 
 impl Disk for MemDisk {
+    ghost use Rattle.std.specs.Prelude.{None};
+
+    ghost known = { λ _. None };
+
     fn list(&mut self, _alloc: Global) -> Result<Option<Text>, StoreFault> {
         let (_, succeeds) = self.call();
         end(succeeds)?;
@@ -141,10 +154,7 @@ impl Disk for MemDisk {
     ) -> Result<(), StoreFault> {
         let (does, succeeds) = self.call();
         if does {
-            let from = (folder.copy()?, beside.copy()?);
-            if let Some(bytes) = self.files.remove(&from) {
-                self.files.insert((folder.copy()?, file.copy()?), bytes)?;
-            }
+            self.place(beside, folder, file)?;
         }
         end(succeeds)
     }
