@@ -16,8 +16,8 @@ use Rattle.valuation_meaning.specs.Meaning.{facts, meaning, shape_of}
 use Rattle.apply_law.specs.Verdicts.{Verdict, Makes, IsIllegal, Clashes, tables_in}
 use Rattle.view_stack.specs.Limits.{lifted_limit}
 use Rattle.view_stack.specs.Stands.{catalogue_for}
-use Rattle.stack_answers.specs.Told as stack
-use Rattle.stack_answers.specs.Told.{Cause, Passes, cause_of, at_level}
+use Rattle.view_stack.specs.Told as stack
+use Rattle.view_stack.specs.Told.{Cause, Passes, cause_of, at_level}
 use Rattle.view_session.specs.Verdicts.{verdict_of}
 use Rattle.ss_print.specs.Fields.{illegal_fields, clash_fields}
 use Rattle.view_stages.specs.Stages.{refusal_of}

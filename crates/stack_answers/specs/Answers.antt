@@ -19,13 +19,13 @@ use Rattle.view_folder.specs.Sync.{later_sync}
 use Rattle.course.specs.declared.status.Verdict.TheVariants as verdict
 use Rattle.course.specs.Answering.{Reply, Continues, Ending}
 use Rattle.ss_print.specs.Fields.{escape_fields, first_field, line_fields, refusal_fields, group_broken_fields, open_group_fields, in_group_fields, no_group_fields}
-use Rattle.ss_print.specs.Printing.{refuses, prints_begun, prints_held, prints_aborted, prints_synced}
+use Rattle.ss_print.specs.Printing.{prints_begun, prints_held, prints_aborted, prints_synced}
 use Rattle.view_answers.specs.declared.word.Word.{Word}
 use Rattle.view_answers.specs.declared.word.Word.TheVariants as word
 use Rattle.view_answers.specs.Answers.{word_in}
+use Rattle.stack_print.specs.Printing.{refuses_at, prints_scripts}
 use Rattle.stack_answers.specs.Levels.{LevelRefusal, refused_at, lines_over, changing_refusal}
 use Rattle.stack_answers.specs.Stack.{LevelValue, StackState, queries_of, stack_tables, working, names_with, with_lines, synced_over}
-use Rattle.stack_answers.specs.Printing.{names_level, prints_scripts}
 
 -- an answer to a line: what is done, the changes that were made at all levels, and what the stack then is
 pub record Answer : Type 0 where
@@ -42,7 +42,7 @@ more_broken s = if in_group s then suc s.broken else s.broken
 
 -- a refusal by a level is printed, behind the number of the level where that is not the lowest
 abbrev pub refusal_effects : LevelRefusal → List Effect
-refusal_effects r = names_level r.level ++ refuses r.fields ∷ []
+refusal_effects r = refuses_at r.level r.fields
 
 -- a line is refused, and changes nothing else; and so is a group, which ends
 abbrev pub refusing : StackState → LevelRefusal → Answer

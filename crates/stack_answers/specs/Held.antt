@@ -6,7 +6,7 @@ use Rattle.schema_model.specs.declared.change.Change.{Change}
 use Rattle.valuation_meaning.specs.Meaning.{meaning}
 use Rattle.apply_law.specs.Standing.{Standing, Waiting}
 use Rattle.apply_law.specs.Verdicts.{Makes}
-use Rattle.stack_answers.specs.Told.{Cause, Passes, HasIllegal, HasClash}
+use Rattle.view_stack.specs.Told.{Cause, Passes, HasIllegal, HasClash}
 use Rattle.view_def.specs.Query.{Query}
 use Rattle.view_session.specs.Named.{Names, no_names}
 use Rattle.view_session.specs.Session.{SessionState, proposing, accepted}

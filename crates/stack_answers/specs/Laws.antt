@@ -1,7 +1,7 @@
 -- What a stack of sessions tells is what is said of their views.
 use Rattle.std.specs.Prelude.{◌≡◌, List, None, map, option_map}
 use Rattle.schema_model.specs.Catalogue.{CatalogueValue}
-use Rattle.stack_answers.specs.Told as stack
+use Rattle.view_stack.specs.Told as stack
 use Rattle.stack_answers.specs.Levels.{lines_over, changing_refusal}
 use Rattle.stack_answers.specs.Held.{LevelState, level_standing, databases_of, views_of, IsKept, told_as}
 

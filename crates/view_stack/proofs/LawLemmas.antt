@@ -1,10 +1,9 @@
 -- The lifted lines of a script make a catalogue that stands for the tables before stand for those after, unless a limit is passed.
 use Rattle.std.proofs.Common.{◌≡◌, ◌≤◌, ◌∙◌, ◌∷◌, ◌++◌, ◌&&◌, ◌||◌, Bool, true, false, cond, List, [], Option, Some, None, length, map, refl, sym, ap, subst}
-use Rattle.std.specs.Prelude.{is_some, option_map, unwrap_or}
+use Rattle.std.specs.Prelude.{option_map, unwrap_or}
 use Rattle.std.specs.List.{AllByRecursion}
 use Rattle.std.specs.Option.{option_or, option_map_or}
 use Rattle.ss_text.specs.Texts.{Text, Row, text_eq, row_eq, is_in}
-use Rattle.ss_text.specs.Label.{is_table_label}
 use Rattle.flow_law.specs.declared.shape.Shape.{Shape}
 use Rattle.flow_law.specs.Tables.{TableValue, TablesValue, table_of}
 use Rattle.flow_law.specs.InOrder.{AreTables}

@@ -9,4 +9,6 @@ pub mod LawLemmas
 pub mod PutLemmas
 pub mod SlotLemmas
 pub mod CodeLemmas
+pub mod SoundLemmas
 pub mod StackLemmas
+pub mod ToldLemmas

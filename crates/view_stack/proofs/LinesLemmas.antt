@@ -1,7 +1,7 @@
 -- A database that says what tables say, says it after lines that fit them.
 use Rattle.std.proofs.Common.{◌≡◌, ◌∙◌, Bool, true, false, cond, ◌&&◌, ◌||◌, List, [], ◌∷◌, ◌++◌, Option, Some, None, map, refl, sym, ap, subst}
 use Rattle.std.specs.Prelude.{remove, unwrap_or, option_map, option_and_then, is_some}
-use Rattle.std.specs.List.{position_or_len, AllByRecursion}
+use Rattle.std.specs.List.{position_or_len}
 use Rattle.std.specs.Option.{option_map_or}
 use Rattle.ss_text.specs.Texts.{Text, Row, text_eq, row_eq, text_cmp, is_in}
 use Rattle.ss_text.specs.Places.{changed_where}
@@ -24,8 +24,8 @@ use Rattle.schema_model.specs.Changes.{less_row, with_attribute, less_attribute,
 use Rattle.schema_model.specs.declared.change.Change.{Change}
 use Rattle.schema_model.specs.declared.change.Change.TheVariants.{Insert, Delete}
 use Rattle.view_stack.specs.Records.{text_of, record_of, front_cells, text_after, record_after}
-use Rattle.view_stack.specs.Lifted.{lifted_line, row_of, goes_on, table_at, names_after, names_of, lifted_behind}
-use Rattle.view_stack.proofs.SaysLemmas.{Distinct, Says, in_upper, row_came, row_went, column_added, column_dropped, same_bytes, bytes_same, same_rows, rows_same, and_first, and_second, not_true, or_right}
+use Rattle.view_stack.specs.Lifted.{lifted_line, row_of, goes_on, table_at, names_after, names_of}
+use Rattle.view_stack.proofs.SaysLemmas.{Distinct, Says, in_upper, row_came, row_went, column_added, column_dropped, same_bytes, bytes_same, rows_same, and_first, and_second, not_true, or_right}
 use Rattle.view_stack.proofs.MovedLemmas.{AreSaid, whole, said_changed, said_without, said_placed, cells_after, cells_said, HasColumns, relation_at}
 
 -- ---- tables stay in order

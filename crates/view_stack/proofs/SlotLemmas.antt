@@ -17,7 +17,7 @@ use Rattle.change_script.specs.Fits.{IsForm, TableFits, TablesFit}
 use Rattle.row_shelves.specs.Stocks.{Stock}
 use Rattle.row_shelves.specs.Shelves.{all_rows}
 use Rattle.kept_tables.specs.Kept.{KeptTableValue}
-use Rattle.kept_tables.specs.declared.slot.Slot.{Slot}
+use Rattle.kept_tables.specs.declared.slot.Held.{Held as Slot}
 use Rattle.kept_tables.specs.Slots.{slot_label, table_there, tables_in}
 use Rattle.kept_tables.proofs.SlotLemmas.{either}
 use Rattle.kept_tables.proofs.ThereLemmas.{tables_more, one_there}
@@ -88,7 +88,7 @@ all_rows_there ss i s lt is =
     let behind = rows_joined (tables_in (s ∷ [])) (tables_in (drop (i + 1) ss)) in
     omega (arith, all, behind)
 
-rows_of_database : (db : Text) (shape : Shape) (ts : TablesValue) → rows_in (database_for db shape ts) ≡ row_total ts
+pub rows_of_database : (db : Text) (shape : Shape) (ts : TablesValue) → rows_in (database_for db shape ts) ≡ row_total ts
 rows_of_database db shape [] = refl
 rows_of_database db shape (p ∷ ps) =
     sum_by-cons (λ (r : RelationValue). length r.rows) (relation_for shape p) (map (relation_for shape) ps)
@@ -97,7 +97,7 @@ rows_of_database db shape (p ∷ ps) =
 
 -- ---- the first limit
 module _ (db : Text) (shape : Shape) (ts : TablesValue) where
-  relations_long : length (map (relation_for shape) ts) ≡ length ts
+  pub relations_long : length (map (relation_for shape) ts) ≡ length ts
   relations_long = length-map ts (relation_for shape)
 
   many_relations : most_relations < length ts → Some Relations ≡ first_limit (database_for db shape ts)
@@ -110,12 +110,12 @@ module _ (db : Text) (shape : Shape) (ts : TablesValue) where
   many_rows few narrow h = rw (relations_long, le-ltb most_relations (length ts) few, narrow, rows_of_database db shape ts, lt-ltb most_rows (row_total ts) h) refl
 
   -- each count is within its limit where there is none
-  record IsWithin : Type 0 where
-    few : length ts ≤ most_relations
-    narrow : some_wide shape ts ≡ false
-    room : row_total ts ≤ most_rows
+  pub record IsWithin : Type 0 where
+    pub few : length ts ≤ most_relations
+    pub narrow : some_wide shape ts ≡ false
+    pub room : row_total ts ≤ most_rows
 
-  within : first_limit (database_for db shape ts) ≡ None → IsWithin
+  pub within : first_limit (database_for db shape ts) ≡ None → IsWithin
   within h = by_relations (nat_lt most_relations (length ts)) (some_wide shape ts) (nat_lt most_rows (row_total ts)) refl refl refl
     where
       bad_limit : (w : Which) → Some w ≡ first_limit (database_for db shape ts) → IsWithin
@@ -128,7 +128,7 @@ module _ (db : Text) (shape : Shape) (ts : TablesValue) where
       by_relations false false false e f g = record { few = ltb-false most_relations (length ts) e; narrow = f; room = ltb-false most_rows (row_total ts) g }
 
 -- ---- the relation of a table, behind those of the tables before it
-names_are : (db : Text) (shape : Shape) (ts : TablesValue) → relation_names (database_for db shape ts) ≡ labels_of ts
+pub names_are : (db : Text) (shape : Shape) (ts : TablesValue) → relation_names (database_for db shape ts) ≡ labels_of ts
 names_are db shape [] = refl
 names_are db shape (p ∷ ps) = ap (λ (ls : List Text). p.0 ∷ ls) (names_are db shape ps)
 

@@ -5,3 +5,4 @@ pub mod Records
 pub mod Lifted
 pub mod Laws
 pub mod Stacks
+pub mod Told

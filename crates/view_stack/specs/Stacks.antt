@@ -1,15 +1,17 @@
 -- Levels, each over the one below, and what changes make of them.
-use Rattle.std.specs.Prelude.{◌≡◌, ◌≤◌, ℕ, zero, suc, List, [], ◌∷◌, None, length, drop, ⊤}
+use Rattle.std.specs.Prelude.{◌≡◌, ◌≤◌, ℕ, zero, suc, List, [], ◌∷◌, None, option_map, map, length, drop, ⊤}
 use Rattle.std.specs.List.{AllByRecursion}
 use Rattle.ss_text.specs.Texts.{Text}
 use Rattle.flow_law.specs.declared.line.TableLine.{TableLine}
 use Rattle.schema_model.specs.Changes.{after_all}
 use Rattle.schema_model.specs.Refusals.{group_fault}
 use Rattle.schema_model.specs.declared.change.Change.{Change}
+use Rattle.schema_model.specs.declared.refusal.Refusal.TheVariants.{Limit}
 use Rattle.apply_law.specs.Standing.{Standing, Waiting, Idle, Proposes, tables_of, verdict_after, made}
 use Rattle.apply_law.specs.Verdicts.{IsScriptTo, IsGroupRefused}
 use Rattle.apply_law.specs.declared.refused.GroupRefused.{GroupRefused}
-use Rattle.view_stack.specs.Stands.{stands}
+use Rattle.view_stack.specs.Stands.{catalogue_for, stands}
+use Rattle.view_stack.specs.Limits.{lifted_limit}
 use Rattle.view_stack.specs.Lifted.{lifted}
 
 -- the levels, the lowest first, and the names of the databases that their tables are
@@ -76,9 +78,42 @@ AreProposed (s ∷ levels) names gs (lines ∷ all) [] = ⊥
 AreProposed (s ∷ levels) names gs (lines ∷ all) (w ∷ ws) =
     (w ≡ Proposes gs) × Takes s gs lines × AreProposed levels (drop 1 names) (changes_above names s levels lines) all ws
 
--- the level above stands for the tables after changes with these lines
-abbrev pub StandsAbove : List Text → Standing → List Standing → List Change → List TableLine → Type 0
-StandsAbove names s [] gs lines = ⊤
-StandsAbove [] s (t ∷ levels) gs lines = ⊤
-StandsAbove (name ∷ names) s (t ∷ levels) gs lines =
-    stands name s.shape (tables_of (made s gs)) (after_all t.catalogue (lifted name s.shape.constants (tables_of s) t.catalogue lines))
+-- the levels where the first proposes changes, and each other what the lines of the one below come to, with these lines
+abbrev pub proposing_all : {A : Type 0} → (A → Standing) → (A → List Change → A) → List A → List Text → List Change → List (List TableLine) → List A
+proposing_all state propose [] names gs all = []
+proposing_all state propose (a ∷ levels) names gs [] = a ∷ levels
+proposing_all state propose (a ∷ levels) names gs (lines ∷ all) =
+    propose a gs ∷ proposing_all state propose levels (drop 1 names) (changes_above names (state a) (map state levels) lines) all
+
+-- where a level takes changes with these lines, what they come to at the level above: it stands for the tables after them, and has the verdict over the catalogue that those are, unless a limit is passed on the way
+pub record IsLifted (name : Text) (s t : Standing) (gs : List Change) (lines : List TableLine) : Type 0 where
+  pub over : stands name s.shape (tables_of (made s gs)) (after_all t.catalogue (lifted name s.shape.constants (tables_of s) t.catalogue lines))
+  pub limit : group_fault t.catalogue (lifted name s.shape.constants (tables_of s) t.catalogue lines) ≡ option_map Limit (lifted_limit name s.shape (tables_of s) lines)
+  pub verdict : group_fault t.catalogue (lifted name s.shape.constants (tables_of s) t.catalogue lines) ≡ None
+      → verdict_after t (lifted name s.shape.constants (tables_of s) t.catalogue lines) ≡ t.verdict (catalogue_for name s.shape (tables_of (made s gs)))
+
+abbrev pub LiftsAbove : List Text → Standing → List Standing → List Change → List TableLine → Type 0
+LiftsAbove names s [] gs lines = ⊤
+LiftsAbove [] s (t ∷ levels) gs lines = ⊤
+LiftsAbove (name ∷ names) s (t ∷ levels) gs lines = IsLifted name s t gs lines
+
+-- the same of each level by which lines are lifted, where all take their changes
+abbrev pub AreLifted : List Standing → List Text → List Change → List (List TableLine) → Type 0
+AreLifted [] names gs all = ⊤
+AreLifted (s ∷ levels) names gs [] = ⊤
+AreLifted (s ∷ levels) names gs (lines ∷ all) = LiftsAbove names s levels gs lines × AreLifted levels (drop 1 names) (changes_above names s levels lines) all
+
+-- all levels propose, each is as it then is, and those above are over those below once that is made
+pub record HaveProposed {A : Type 0} (state : A → Standing) (propose : A → List Change → A) (old new : List A) (names : List Text) (gs : List Change) (all : List (List TableLine)) (ws : List Waiting) : Type 0 where
+  pub proposed : AreProposed (map state old) names gs all ws
+  pub stacked : AreStacked (made_all (map state old) names gs all) names
+  pub lifts : AreLifted (map state old) names gs all
+  pub values : new ≡ proposing_all state propose old names gs all
+
+-- what lines come to of those below the level of this number, from 1, which refuses
+abbrev pub IsLiftRefused : List Standing → List Text → List Change → ℕ → GroupRefused → Type 0
+IsLiftRefused [] names gs level why = ⊥
+IsLiftRefused (s ∷ levels) names gs zero why = ⊥
+IsLiftRefused (s ∷ levels) names gs (suc zero) why = IsGroupRefused s.verdict s.catalogue gs why
+IsLiftRefused (s ∷ levels) names gs (suc (suc k)) why =
+    (lines : List TableLine) × Takes s gs lines × LiftsAbove names s levels gs lines × IsLiftRefused levels (drop 1 names) (changes_above names s levels lines) (suc k) why

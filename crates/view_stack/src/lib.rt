@@ -20,7 +20,7 @@ ghost use Rattle.view_stack.specs.Laws.{LiftedStand, LiftedLimit};
 pub use database::catalogue_of;
 pub use fault::{LiftFault, StackRefused};
 pub use lifting::{Below, lifted};
-pub use stack::Stack;
+pub use stack::{Stack, apply_levels};
 
 /// Where a catalogue stands for tables, the lifted lines of the script to others make one that stands for these. The first
 /// of them that is refused is refused by the first limit that a database of tables passes on the way.

@@ -1,16 +1,18 @@
 //! Levels, each over the one below.
-ghost use Rattle.std.specs.Prelude.{◌≡◌, ◌≤◌, ◌<◌, ◌+◌, ◌++◌, [], ◌∷◌, List, map, length, drop, slice_index_or, IfOk, IfErr, OnOk, OnErr, IsTrue};
+ghost use Rattle.std.specs.Prelude.{◌≡◌, ◌≤◌, ◌<◌, ◌+◌, ◌++◌, [], ◌∷◌, List, None, map, length, drop, slice_index_or, IfOk, IfErr, OnOk, OnErr, IsTrue};
 ghost use Rattle.std.specs.Vec.{vec_len, vec_capacity};
 ghost use Rattle.std.specs.List.{AllByRecursion};
 ghost use Rattle.ss_text.specs.Texts.{Text as TextValue};
 ghost use Rattle.flow_law.specs.declared.line.TableLine.{TableLine};
-ghost use Rattle.schema_model.specs.Changes.{after_all, is_well_formed};
+ghost use Rattle.schema_model.specs.Changes.{is_well_formed};
+ghost use Rattle.schema_model.specs.Refusals.{group_fault};
 ghost use Rattle.schema_model.specs.declared.change.Change.{Change as ChangeValue};
-ghost use Rattle.apply_law.specs.Standing.{tables_of, verdict_after, made};
+ghost use Rattle.apply_law.specs.Standing.{tables_of, verdict_after};
 ghost use Rattle.apply_law.specs.Verdicts.{IsScriptTo};
 ghost use Rattle.view_stack.specs.Stands.{stands};
 ghost use Rattle.view_stack.specs.Lifted.{lifted};
-ghost use Rattle.view_stack.specs.Stacks.{stack_value, AreStacked, AreIdle, IsStack, changes_above, Takes, AreTaken, made_all, IsStackRefused, AreProposed, StandsAbove};
+ghost use Rattle.view_stack.specs.Stacks.{stack_value, AreStacked, AreIdle, IsStack, changes_above, Takes, AreTaken, made_all, IsStackRefused, AreProposed, proposing_all, IsLifted, LiftsAbove, HaveProposed, IsLiftRefused};
+ghost use Rattle.view_stack.specs.Told.{first_refusal, lines_over, IsOver, lowest, comes_to, IsTold};
 
 use crate::StackRefused;
 use crate::lifting::{Below, lifted};
@@ -82,19 +84,28 @@ impl<A: Applies> Stack<A> {
         requires stack { IsStack (map A.state self.old.levels) (map A.waits self.old.levels) self.old.names }
         requires well_formed { AllByRecursion (λ g. IsTrue (is_well_formed g)) changes.now }
         ensures taken { IfOk result (λ all. AreTaken (map A.state self.old.levels) self.old.names changes.now all.items) }
+        ensures lines { IfOk result (λ all. all.items ≡ lines_over (map A.state self.old.levels) self.old.names (comes_to (map A.state self.old.levels) changes.now)) }
+        ensures unrefused { OnOk result (first_refusal (map A.state self.old.levels) self.old.names (comes_to (map A.state self.old.levels) changes.now) ≡ None) }
+        ensures over { OnOk result (IsOver (map A.state self.new.levels) self.old.names (comes_to (map A.state self.old.levels) changes.now)) }
         ensures made { IfOk result (λ all. map A.state self.new.levels ≡ made_all (map A.state self.old.levels) self.old.names changes.now all.items) }
+        ensures levels { IfOk result (λ all. self.new.levels ≡ map A.after_accept (proposing_all A.state A.after_propose self.old.levels self.old.names changes.now all.items)) }
         ensures refused { IfErr result (λ e. IsStackRefused (map A.state self.old.levels) self.old.names changes.now e.level e.why) }
-        ensures same { OnErr result (map A.state self.new.levels ≡ map A.state self.old.levels) }
+        ensures told { group_fault (lowest (map A.state self.old.levels)) changes.now ≡ None
+            → IfErr result (λ e. IsTold (first_refusal (map A.state self.old.levels) self.old.names (comes_to (map A.state self.old.levels) changes.now)) e.level e.why) }
+        ensures same { OnErr result (self.new ≡ self.old) }
         ensures names { self.new.names ≡ self.old.names }
         ensures stack { IsStack (map A.state self.new.levels) (map A.waits self.new.levels) self.new.names }
         ensures rises { steps.old ≤ steps.new }
     {
-        apply(alloc, &mut self.levels, &self.names, changes, steps)
+        apply_levels(alloc, &mut self.levels, &self.names, changes, steps)
     }
 }
 
-// Makes changes of the first level with all that they come to above.
-fn apply<A: Applies, L: Ledger>(
+/// Makes changes of the lowest of levels, each over the one before it, with all that they come to above, and answers each
+/// level's lines; or tells the first level that refuses, and then each is as it was. Nothing waits afterwards.
+///
+/// It is what a stack does, for those who keep its levels themselves.
+pub fn apply_levels<A: Applies, L: Ledger>(
     alloc: Global,
     levels: &mut [A],
     names: &[Text],
@@ -104,9 +115,15 @@ fn apply<A: Applies, L: Ledger>(
     requires stack { IsStack (map A.state levels.old) (map A.waits levels.old) names.now }
     requires well_formed { AllByRecursion (λ g. IsTrue (is_well_formed g)) changes.now }
     ensures taken { IfOk result (λ all. AreTaken (map A.state levels.old) names.now changes.now all.items) }
+    ensures lines { IfOk result (λ all. all.items ≡ lines_over (map A.state levels.old) names.now (comes_to (map A.state levels.old) changes.now)) }
+    ensures unrefused { OnOk result (first_refusal (map A.state levels.old) names.now (comes_to (map A.state levels.old) changes.now) ≡ None) }
+    ensures over { OnOk result (IsOver (map A.state levels.new) names.now (comes_to (map A.state levels.old) changes.now)) }
     ensures made { IfOk result (λ all. map A.state levels.new ≡ made_all (map A.state levels.old) names.now changes.now all.items) }
+    ensures levels { IfOk result (λ all. levels.new ≡ map A.after_accept (proposing_all A.state A.after_propose levels.old names.now changes.now all.items)) }
     ensures refused { IfErr result (λ e. IsStackRefused (map A.state levels.old) names.now changes.now e.level e.why) }
-    ensures same { OnErr result (map A.state levels.new ≡ map A.state levels.old) }
+    ensures told { group_fault (lowest (map A.state levels.old)) changes.now ≡ None
+        → IfErr result (λ e. IsTold (first_refusal (map A.state levels.old) names.now (comes_to (map A.state levels.old) changes.now)) e.level e.why) }
+    ensures same { OnErr result (levels.new ≡ levels.old) }
     ensures stack { IsStack (map A.state levels.new) (map A.waits levels.new) names.now }
     ensures rises { steps.old ≤ steps.new }
 {
@@ -141,10 +158,9 @@ fn propose_all<A: Applies, L: Ledger>(
     requires room { vec_len all.old + length levels.old ≤ vec_capacity all.old }
     ensures same { map A.state levels.new ≡ map A.state levels.old }
     ensures proposed { OnOk result ((more : List (List TableLine)) × (all.new.items ≡ all.old.items ++ more)
-        × AreProposed (map A.state levels.old) names.now changes.now more (map A.waits levels.new)
-        × AreStacked (made_all (map A.state levels.old) names.now changes.now more) names.now) }
-    ensures idle { OnErr result (AreIdle (map A.waits levels.new)) }
-    ensures refused { IfErr result (λ e. IsStackRefused (map A.state levels.old) names.now changes.now e.level e.why) }
+        × HaveProposed A.state A.after_propose levels.old levels.new names.now changes.now more (map A.waits levels.new)) }
+    ensures unchanged { OnErr result (levels.new ≡ levels.old) }
+    ensures refused { IfErr result (λ e. IsLiftRefused (map A.state levels.old) names.now changes.now e.level e.why) }
     ensures level { IfErr result (λ e. e.level ≤ length levels.old) }
     ensures rises { steps.old ≤ steps.new }
 {
@@ -201,8 +217,7 @@ fn lifted_above<A: Applies>(
     requires { AreStacked (A.state lower.now ∷ map A.state above.now) names.now }
     ensures changes { IfOk result (λ changes. changes.items ≡ changes_above names.now (A.state lower.now) (map A.state above.now) lines.now) }
     ensures well_formed { IfOk result (λ changes. AllByRecursion (λ g. IsTrue (is_well_formed g)) changes.items) }
-    ensures stands { OnOk result ((gs : List ChangeValue) → Takes (A.state lower.now) gs lines.now
-        → StandsAbove names.now (A.state lower.now) (map A.state above.now) gs lines.now) }
+    ensures lifts { (gs : List ChangeValue) → Takes (A.state lower.now) gs lines.now → LiftsAbove names.now (A.state lower.now) (map A.state above.now) gs lines.now }
 {
     let Some(upper) = above.first() else {
         return Ok(Vec::new(alloc));
@@ -225,9 +240,8 @@ fn lifted_to<A: Applies>(
     ensures changes { IfOk result (λ changes.
         changes.items ≡ lifted name.now (A.state lower.now).shape.constants (tables_of (A.state lower.now)) (A.state upper.now).catalogue lines.now) }
     ensures well_formed { IfOk result (λ changes. AllByRecursion (λ g. IsTrue (is_well_formed g)) changes.items) }
-    ensures stands { (gs : List ChangeValue) → IsScriptTo (tables_of (A.state lower.now)) (verdict_after (A.state lower.now) gs) lines.now
-        → stands name.now (A.state lower.now).shape (tables_of (made (A.state lower.now) gs))
-        (after_all (A.state upper.now).catalogue (lifted name.now (A.state lower.now).shape.constants (tables_of (A.state lower.now)) (A.state upper.now).catalogue lines.now)) }
+    ensures lifts { (gs : List ChangeValue) → IsScriptTo (tables_of (A.state lower.now)) (verdict_after (A.state lower.now) gs) lines.now
+        → IsLifted name.now (A.state lower.now) (A.state upper.now) gs lines.now }
 {
     let shape = lower.shape();
     let below = Below {
@@ -243,6 +257,7 @@ fn accept_all<A: Applies>(levels: &mut [A])
     requires { (names : List TextValue) × (gs : List ChangeValue) × (all : List (List TableLine)) × AreProposed (map A.state levels.old) names gs all (map A.waits levels.old) }
     ensures made { (names : List TextValue) (gs : List ChangeValue) (all : List (List TableLine)) → AreProposed (map A.state levels.old) names gs all (map A.waits levels.old)
         → map A.state levels.new ≡ made_all (map A.state levels.old) names gs all }
+    ensures accepted { levels.new ≡ map A.after_accept levels.old }
     ensures idle { AreIdle (map A.waits levels.new) }
 {
     let Some((first, rest)) = levels.split_first_mut() else {

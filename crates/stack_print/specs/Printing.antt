@@ -4,7 +4,7 @@ use Rattle.ss_text.specs.Texts.{Row}
 use Rattle.effects.specs.Effects.{Effect, Print}
 use Rattle.flow_law.specs.declared.line.TableLine.{TableLine}
 use Rattle.change_script.specs.Printed.{printed}
-use Rattle.ss_print.specs.Printing.{says, lines_text}
+use Rattle.ss_print.specs.Printing.{says, refuses, lines_text}
 
 -- the number of a level
 abbrev pub level_row : ℕ → Row
@@ -15,6 +15,10 @@ abbrev pub names_level : ℕ → List Effect
 names_level zero = []
 names_level (suc zero) = []
 names_level (suc (suc n)) = says (level_row (suc (suc n))) ∷ []
+
+-- a refusal by a level
+abbrev pub refuses_at : ℕ → Row → List Effect
+refuses_at level fields = names_level level ++ refuses fields ∷ []
 
 -- the lines of levels, each behind its number, the first being this one
 abbrev pub rows_from : ℕ → List (List TableLine) → List Row

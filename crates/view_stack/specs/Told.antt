@@ -3,6 +3,10 @@ use Rattle.std.specs.Prelude.{◌≡◌, ℕ, suc, List, [], ◌∷◌, Option, 
 use Rattle.std.specs.Option.{option_or}
 use Rattle.ss_text.specs.Texts.{Text}
 use Rattle.schema_model.specs.Catalogue.{CatalogueValue}
+use Rattle.schema_model.specs.Changes.{after_all}
+use Rattle.schema_model.specs.declared.change.Change.{Change}
+use Rattle.schema_model.specs.declared.refusal.Refusal.{Refusal}
+use Rattle.schema_model.specs.declared.refusal.Refusal.TheVariants.{Limit}
 use Rattle.schema_model.specs.declared.refusal.Which.{Which}
 use Rattle.flow_law.specs.Script.{script}
 use Rattle.flow_law.specs.Tables.{TablesValue}
@@ -11,6 +15,8 @@ use Rattle.flow_law.specs.declared.refused.Clash.{Clash}
 use Rattle.flow_law.specs.declared.refused.IllegalLabel.{IllegalLabel}
 use Rattle.apply_law.specs.Standing.{Standing, tables_of}
 use Rattle.apply_law.specs.Verdicts.{Verdict, Makes, IsIllegal, Clashes, tables_in}
+use Rattle.apply_law.specs.declared.refused.GroupRefused.{GroupRefused}
+use Rattle.apply_law.specs.declared.refused.GroupRefused.TheVariants as refused
 use Rattle.view_stack.specs.Stands.{catalogue_for}
 use Rattle.view_stack.specs.Limits.{lifted_limit}
 
@@ -61,3 +67,23 @@ lines_over (s ∷ levels) names c =
 abbrev pub IsOver : List Standing → List Text → CatalogueValue → Type 0
 IsOver [] names c = ⊤
 IsOver (s ∷ levels) names c = (s.verdict s.catalogue ≡ s.verdict c) × IsOver levels (drop 1 names) (given_above names s (tables_in (s.verdict c)))
+
+-- the catalogue that the lowest level stands for, and the one that it comes to by changes
+abbrev pub lowest : List Standing → CatalogueValue
+lowest [] = []
+lowest (s ∷ levels) = s.catalogue
+
+abbrev pub comes_to : List Standing → List Change → CatalogueValue
+comes_to levels gs = after_all (lowest levels) gs
+
+-- a level that refuses a change of its own refuses it for a limit
+abbrev pub IsPassed : Option (ℕ × Cause) → ℕ → Refusal → Type 0
+IsPassed o level (Limit which) = o ≡ Some (level, Passes which)
+IsPassed o level r = ⊥
+
+-- the level of this number refuses, as is told, or there was no memory
+abbrev pub IsTold : Option (ℕ × Cause) → ℕ → GroupRefused → Type 0
+IsTold o level (refused.Change place r) = IsPassed o level r
+IsTold o level (refused.Illegal label) = o ≡ Some (level, HasIllegal label)
+IsTold o level (refused.Conflict clash) = o ≡ Some (level, HasClash clash)
+IsTold o level refused.NoMemory = ⊤
