@@ -13,7 +13,7 @@ use Rattle.view_answers.specs.Answers.{Answer}
 use Rattle.feed_core.specs.Arrivals.{arrivals_of, count_of, is_fresh, handled_at, same_change, by_handled}
 use Rattle.feed_core.specs.Replies.{ReplyValue, reply_to, taken_by}
 use Rattle.feed_core.specs.declared.arrival.Arrival.{Arrival}
-use Rattle.feed_core.specs.declared.arrival.Handled.{Handled}
+use Rattle.feed_core.specs.Handled.{Handled}
 use Rattle.feed_core.specs.declared.answer.Answer as core
 use Rattle.feed_core.specs.declared.answer.Answer.TheVariants.{Fresh, Kept, OtherChange}
 use Rattle.feed_lines.specs.declared.line.FeedLine.TheVariants.{Arrives}

@@ -20,7 +20,7 @@ use Rattle.view_answers.specs.Answers.{by_fault, by_view, keeping}
 use Rattle.feed_core.specs.Arrivals.{handled_at, answer_to}
 use Rattle.feed_core.specs.Replies.{ReplyValue}
 use Rattle.feed_core.specs.declared.arrival.Arrival.{Arrival}
-use Rattle.feed_core.specs.declared.arrival.Handled.{Handled}
+use Rattle.feed_core.specs.Handled.{Handled}
 use Rattle.feed_core.specs.declared.answer.Answer as core
 use Rattle.feed_core.specs.declared.answer.Answer.TheVariants.{Fresh, Kept, Early, OtherChange}
 use Rattle.feed_lines.specs.Lines.{Said, IsAnswer}

@@ -1,5 +1,5 @@
 //! The command `feed`.
-ghost use Rattle.std.specs.Prelude.{◌≡◌, ◌≢◌, ◌≤◌, true, false, List, ℕ, Some, Err, IfOk, IfErr};
+ghost use Rattle.std.specs.Prelude.{◌≡◌, ◌≤◌, true, false, List, ℕ, Some, IfOk, IfErr};
 ghost use Rattle.effects.specs.Effects.{world_of};
 ghost use Rattle.outside.specs.Tree.{Tree};
 ghost use Rattle.tab_lines.specs.Lines.{lines_of};
@@ -16,7 +16,6 @@ ghost use Rattle.feed_answers.specs.Limits.{limit};
 
 use crate::view::FeedView;
 use course::{Halt, NoDisk, Verdict, answer_lines};
-use effects::Stop;
 use outside::{Folders, Sink, Source};
 use ss_text::{Steps, Text};
 use std::alloc::Global;
@@ -55,7 +54,7 @@ pub fn feed<F: Folders, S: Source, K: Sink, L: Ledger>(
     ensures blames { BlamesRun (S.faults input.old) (S.faults input.new) (world_of (F.state store.old) (K.state output.old)) (world_of (F.state store.new) (K.state output.new)) result }
     ensures rises { steps.old ≤ steps.new }
     ensures within { (t : Tree) (bytes : List ℕ) (d : DefinitionOrRefusal) → (F.state store.old).tree ≡ Some t → S.rest input.old ≡ Some bytes
-        → IsDefinition name.now (definition_bytes t name.now) d → result ≢ Err (Halt.Stopped Stop.NoMemory)
+        → IsDefinition name.now (definition_bytes t name.now) d
         → StepsBy step limit (starting at_first (opening t d)) (lines_of bytes) steps.old steps.new }
 {
     match open(alloc, store, output, name, steps)? {

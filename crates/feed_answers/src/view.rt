@@ -115,7 +115,7 @@ impl FeedView {
         requires idle { self.old.view.session.held ≡ None }
         ensures took { IfOk result (Takes self.old arrival self.new) }
         ensures rises { steps.old ≤ steps.new }
-        ensures within { OnOk result (IsWithin (limits.limit_of_arrival self.old arrival) steps.old steps.new) }
+        ensures within { IsWithin (limits.limit_of_arrival self.old arrival) steps.old steps.new }
     {
         let view = &mut self.view;
         stands(&view.session);
@@ -138,7 +138,7 @@ impl FeedView {
         ensures fed { OnOk result (self.new ≡ fed_by self.old (Ok (Arrives arrival))) }
         ensures blames { SinkBlames (K.state output.old) (K.state output.new) result }
         ensures rises { steps.old ≤ steps.new }
-        ensures within { result ≢ Err Stop.NoMemory → IsWithin (limits.limit_of_arrival self.old arrival) steps.old steps.new }
+        ensures within { IsWithin (limits.limit_of_arrival self.old arrival) steps.old steps.new }
     {
         let source = arrival.source.copy()?;
         let number = arrival.number;
@@ -164,7 +164,7 @@ impl FeedView {
         ensures no_read { IfErr result (λ e. e ≢ Stop.ReadFault) }
         ensures blames { Blames (world_of (F.state store.old) (K.state output.old)) (world_of (F.state store.new) (K.state output.new)) result }
         ensures rises { steps.old ≤ steps.new }
-        ensures within { result ≢ Err Stop.NoMemory → IsWithin (limits.limit self.old line.now) steps.old steps.new }
+        ensures within { IsWithin (limits.limit self.old line.now) steps.old steps.new }
     {
         match read_feed_line(alloc, line) {
             Ok(FeedLine::Arrives(arrival)) => self.arrive(alloc, output, arrival, steps),
@@ -196,12 +196,13 @@ fn tell_again<K: Sink>(
     ensures view { OnOk result (view.new ≡ (repeating view.old (Some handled.now)).view) }
     ensures blames { SinkBlames (K.state output.old) (K.state output.new) result }
 {
-    let arrival = &handled.arrival;
-    print_reply(alloc, output, &arrival.source, arrival.number)?;
-    match handled.reply.as_result() {
+    let reply = handled.reply(alloc)?;
+    print_reply(alloc, output, handled.source(), handled.number())?;
+    match reply.as_result() {
         Ok(script) => print_script(alloc, output, script),
         Err(refused) => {
-            let fields = refused_fields(alloc, &arrival.change, refused)?;
+            let change = handled.change(alloc)?;
+            let fields = refused_fields(alloc, &change, refused)?;
             view.refuse(alloc, output, &fields)
         }
     }

@@ -9,7 +9,7 @@ use Rattle.ss_text.specs.Texts.{Text, text_eq}
 use Rattle.ss_text.proofs.KeyLemmas.{text_order, equal_itself, equal_is}
 use Rattle.std.proofs.lemmas.List.{map-append}
 use Rattle.feed_core.specs.declared.arrival.Arrival.{Arrival}
-use Rattle.feed_core.specs.declared.arrival.Handled.{Handled}
+use Rattle.feed_core.specs.Handled.{Handled}
 use Rattle.feed_core.specs.Arrivals.{of_source, count_of, arrivals_of, handled_at}
 use Rattle.feed_core.specs.Numbered.{numbers_from, numbers_of, AreNumbered}
 use Rattle.feed_core.specs.Kept.{places_from, places_in, IsKept}

@@ -1,3 +1,3 @@
 pub mod KeptLemmas
-pub mod SameLemmas
+pub mod HandledLemmas
 pub mod TurnLemmas

@@ -12,7 +12,7 @@ use Rattle.schema_model.specs.Reading.{line_of}
 use Rattle.schema_model.specs.declared.change.Change.{Change}
 use Rattle.apply_law.specs.Standing.{Standing, made}
 use Rattle.feed_core.specs.declared.arrival.Arrival.{Arrival}
-use Rattle.feed_core.specs.declared.arrival.Handled.{Handled}
+use Rattle.feed_core.specs.Handled.{Handled}
 use Rattle.feed_core.specs.declared.answer.Answer.TheVariants as answer
 use Rattle.feed_core.specs.Replies.{ReplyValue, reply_to, standing_by}
 use Rattle.feed_core.specs.Arrivals.{count_of, is_fresh, arrivals_of, handled_at, reply_at, same_change, by_handled, answer_to}

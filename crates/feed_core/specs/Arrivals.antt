@@ -6,7 +6,7 @@ use Rattle.schema_model.specs.declared.change.Change.{Change}
 use Rattle.apply_law.specs.Standing.{Standing}
 use Rattle.feed_core.specs.Replies.{ReplyValue, reply_to, standing_by, taken_by}
 use Rattle.feed_core.specs.declared.arrival.Arrival.{Arrival}
-use Rattle.feed_core.specs.declared.arrival.Handled.{Handled}
+use Rattle.feed_core.specs.Handled.{Handled}
 use Rattle.feed_core.specs.declared.answer.Answer.{Answer}
 use Rattle.feed_core.specs.declared.answer.Answer.TheVariants as answer
 

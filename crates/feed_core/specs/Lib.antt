@@ -1,4 +1,5 @@
 pub mod Arrivals
+pub mod Handled
 pub mod Kept
 pub mod Numbered
 pub mod Replies

@@ -1,5 +1,6 @@
-//! A change that a source sends, and what is kept of it.
-use crate::Reply;
+//! A change that a source sends.
+ghost use Rattle.std.specs.Prelude.{◌≡◌};
+
 use schema_model::Change;
 use ss_text::Text;
 
@@ -23,9 +24,18 @@ impl Drop for Arrival {
     }
 }
 
-/// An arrival that was handled, with its reply.
-#[derive(Debug, Drop)]
-pub struct Handled {
-    pub arrival: Arrival,
-    pub reply: Reply,
+impl Arrival {
+    /// Its source and its number.
+    pub(crate) fn into_sender(self) -> (Text, u64)
+        ensures source { result.0 ≡ self.source }
+        ensures number { result.1 ≡ self.number }
+    {
+        let Arrival {
+            source,
+            number,
+            change,
+        } = self;
+        drop(change);
+        (source, number)
+    }
 }

@@ -7,8 +7,7 @@ ghost use Rattle.feed_core.specs.Replies.{reply_to};
 ghost use Rattle.feed_core.specs.Arrivals.{arrivals_of, is_fresh, count_of, handled_at, by_handled, answer_to, handled_after, standing_after, taken_after};
 
 use crate::places::{add_place, make_room, place_in};
-use crate::replying::reply_of;
-use crate::same::same_change;
+use crate::replying::handle;
 use crate::{Answer, Arrival, Handled};
 use apply_law::Applies;
 use indexmap::IndexMap;
@@ -28,7 +27,7 @@ pub struct Feeds {
 
 impl Model for Feeds {
     ghost use Rattle.std.specs.Prelude.{List};
-    ghost use Rattle.feed_core.specs.declared.arrival.Handled.{Handled};
+    ghost use Rattle.feed_core.specs.Handled.{Handled};
     ghost use Rattle.feed_core.specs.Kept.{IsKept};
 
     ghost Value = { List Handled };
@@ -123,7 +122,7 @@ impl Feeds {
         ensures { result ≡ by_handled arrival.now.change want (handled_at arrival.now.source arrival.now.number self.now) }
     {
         match self.handled(&arrival.source, arrival.number) {
-            Some(handled) if same_change(&arrival.change, &handled.arrival.change) => Answer::Kept,
+            Some(handled) if handled.has_change(&arrival.change) => Answer::Kept,
             Some(_) => Answer::OtherChange,
             None => Answer::Early { want },
         }
@@ -153,10 +152,10 @@ impl Feeds {
     {
         self.handled.reserve(1)?;
         make_room(alloc, &mut self.places, &arrival.source)?;
-        let reply = reply_of(alloc, to, &arrival.change, steps)?;
+        let handled = handle(alloc, to, arrival, steps)?;
         let place = self.handled.len();
-        add_place(&mut self.places, &arrival.source, place);
-        self.handled.push_reserved(Handled { arrival, reply });
+        add_place(&mut self.places, handled.source(), place);
+        self.handled.push_reserved(handled);
         Ok(())
     }
 }

@@ -27,7 +27,7 @@ use Rattle.upkeep_law.proofs.ListLemmas.{effects_append, shown_append, synced_ap
 use Rattle.feed_core.specs.Arrivals.{handled_at, answer_to}
 use Rattle.feed_core.specs.Replies.{ReplyValue}
 use Rattle.feed_core.specs.declared.arrival.Arrival.{Arrival}
-use Rattle.feed_core.specs.declared.arrival.Handled.{Handled}
+use Rattle.feed_core.specs.Handled.{Handled}
 use Rattle.feed_core.specs.declared.answer.Answer as core
 use Rattle.feed_core.specs.declared.answer.Answer.TheVariants.{Fresh, Kept, Early, OtherChange}
 use Rattle.feed_lines.specs.Lines.{Said, sync_of, feed_of, by_number, by_read, said_by_row, by_spelling, said_by_line}

@@ -32,7 +32,7 @@ use Rattle.feed_core.specs.Numbered.{AreNumbered}
 use Rattle.feed_core.specs.Replies.{ReplyValue, reply_to, standing_by}
 use Rattle.feed_core.specs.Turns.{FeedState, unfed, arrived, fed as all_fed, in_turn, changes_of, replies_to, accepted_in, AreHandled}
 use Rattle.feed_core.specs.declared.arrival.Arrival.{Arrival}
-use Rattle.feed_core.specs.declared.arrival.Handled.{Handled}
+use Rattle.feed_core.specs.Handled.{Handled}
 use Rattle.feed_core.specs.declared.answer.Answer as core
 use Rattle.feed_core.specs.declared.answer.Answer.TheVariants.{Fresh, Kept, OtherChange}
 use Rattle.feed_core.proofs.KeptLemmas.{numbered_more, handled_more, handled_last}

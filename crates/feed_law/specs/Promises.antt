@@ -24,7 +24,7 @@ use Rattle.feed_core.specs.Numbered.{AreNumbered}
 use Rattle.feed_core.specs.Replies.{ReplyValue}
 use Rattle.feed_core.specs.Turns.{in_turn, changes_of, replies_to, accepted_in, IsOther}
 use Rattle.feed_core.specs.declared.arrival.Arrival.{Arrival}
-use Rattle.feed_core.specs.declared.arrival.Handled.{Handled}
+use Rattle.feed_core.specs.Handled.{Handled}
 use Rattle.feed_core.specs.declared.answer.Answer as core
 use Rattle.feed_core.specs.declared.answer.Answer.TheVariants.{Fresh, Kept, Early, OtherChange}
 use Rattle.feed_lines.specs.Lines.{Said, said_by_line}

@@ -74,7 +74,7 @@ fn replied<A: Applies, L: Ledger>(
     };
     let answer = feeds.arrive(alloc, to, arrival, steps)?;
     let refused = match feeds.handled(&source, number) {
-        Some(handled) => handled.reply.as_result().is_err(),
+        Some(handled) => handled.reply(alloc)?.as_result().is_err(),
         None => false,
     };
     Ok((answer, refused))

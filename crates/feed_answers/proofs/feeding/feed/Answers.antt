@@ -22,9 +22,7 @@ returns-in_err-view-clause-some g c = λ t d told defined.
     rw (p.1, p.2) (some_fed_stopped (opening t d) (world_of (g.F.Folders.state c.args.store.now) (g.K.Sink.state c.args.output.now)) (world_of (g.F.Folders.state c.open.new.store) (g.K.Sink.state c.open.new.output)) c.in_err-view.field-0.0 (c.in_err-view.ensures.opens t d told defined))
 
 pub returns-in_err-view-clause-within : goal.returns-in_err-view-clause-within
-returns-in_err-view-clause-within g c = λ t bytes d told given defined some.
-    let p = err_from_is_err_and c.from_residual.result c.from_residual.ensures.1 in
-    unspent step limit (starting at_first (opening t d)) (lines_of bytes) _ _ (c.in_err-view.ensures.steps (λ e. some (cc)))
+returns-in_err-view-clause-within g c = λ t bytes d told given defined. unspent step limit (starting at_first (opening t d)) (lines_of bytes) _ _ c.in_err-view.ensures.steps
 
 pub returns-in-Open-clause-ran : goal.returns-in-Open-clause-ran
 returns-in-Open-clause-ran g c = λ t bytes d told given defined.
@@ -52,8 +50,8 @@ pub returns-in-Open-clause-alone : goal.returns-in-Open-clause-alone
 returns-in-Open-clause-alone g c = λ t d told defined none. fed_reads (opening t d) c.in-Open.view c.of-fed.result _ _ (rw c.in-Open.is at c.in_ok-view.ensures.opens t d told defined) c.of-fed.ensures none
 
 pub returns-in-Open-clause-within : goal.returns-in-Open-clause-within
-returns-in-Open-clause-within g c = λ t bytes d told given defined some.
-    fed_within (opening t d) c.in-Open.view c.of-fed.result _ _ (rw c.in-Open.is at c.in_ok-view.ensures.opens t d told defined) c.of-fed.ensures (lines_of bytes) _ _ _ (c.in_ok-view.ensures.steps (λ e. cc)) (c.answer_lines-ending.ensures.within bytes given some)
+returns-in-Open-clause-within g c = λ t bytes d told given defined.
+    fed_within (opening t d) c.in-Open.view c.of-fed.result _ _ (rw c.in-Open.is at c.in_ok-view.ensures.opens t d told defined) c.of-fed.ensures (lines_of bytes) _ _ _ c.in_ok-view.ensures.steps (c.answer_lines-ending.ensures.within bytes given)
 
 pub returns-in-Ended-clause-ran : goal.returns-in-Ended-clause-ran
 returns-in-Ended-clause-ran g c = λ t bytes d told given defined. fed_ended (opening t d) _ _ bytes (g.S.Source.rest c.args.input.now) c.in-Ended.verdict (rw c.in-Ended.is at c.in_ok-view.ensures.opens t d told defined)
@@ -65,4 +63,4 @@ pub returns-in-Ended-clause-enough : goal.returns-in-Ended-clause-enough
 returns-in-Ended-clause-enough g c = λ t bytes d told given defined. enough_fed (opening t d) _ _ bytes _ _ c.in-Ended.verdict (rw c.in-Ended.is at c.in_ok-view.ensures.opens t d told defined)
 
 pub returns-in-Ended-clause-within : goal.returns-in-Ended-clause-within
-returns-in-Ended-clause-within g c = λ t bytes d told given defined some. unspent step limit (starting at_first (opening t d)) (lines_of bytes) _ _ (c.in_ok-view.ensures.steps (λ e. cc))
+returns-in-Ended-clause-within g c = λ t bytes d told given defined. unspent step limit (starting at_first (opening t d)) (lines_of bytes) _ _ c.in_ok-view.ensures.steps
