@@ -1,10 +1,13 @@
 """What the measurements share: a folder of its own, a timed run, and a line of figures."""
 
+import contextlib
 import os
 import pathlib
+import signal
 import subprocess
 import sys
 import tempfile
+import threading
 import time
 from typing import NamedTuple
 
@@ -33,6 +36,9 @@ def write(root, path, lines):
         file.writelines(lines)
     return target
 
+
+# So many bytes at most are read of a program that is talked to, at once.
+CHUNK = 65_536
 
 # So many bytes and lines at the end of an output are kept: what this process holds counts in what a run is said to need.
 LAST_BYTES, LAST_LINES = 4_000_000, 100
@@ -65,6 +71,74 @@ def run(words, root, given=None):
         output.seek(max(output.tell() - LAST_BYTES, 0))
         lines = output.read().decode(errors="replace").splitlines()[-LAST_LINES:]
     return Run(seconds, usage.ru_utime + usage.ru_stime, usage.ru_maxrss / 1024, child.returncode, lines)
+
+
+class Talk:
+    """A run of the program that is given its input in parts, and what each part takes. For a `with`."""
+
+    def __init__(self, words, root):
+        self.child = subprocess.Popen(words, cwd=root, stdin=subprocess.PIPE, stdout=subprocess.PIPE)
+        # What Linux calls the clock of the processors of another process. It goes on where that process begins to wait.
+        self.clock = ~self.child.pid << 3 | 2
+        self.parts = 0
+        self.take("")
+
+    def __enter__(self):
+        return self
+
+    def __exit__(self, *_):
+        self.child.kill()
+        self.child.wait()
+        self.child.stdout.close()
+        with contextlib.suppress(BrokenPipeError):
+            self.child.stdin.close()
+
+    def take(self, text):
+        """The seconds of processors for these lines, and those that answer them. A last line, which is none of the program's
+        words, tells the end by its answer."""
+        self.parts += 1
+        mark = f"mark-{self.parts}"
+        begun = time.clock_gettime(self.clock)
+        writer = threading.Thread(target=self._write, args=(f"{text}{mark}\n".encode(),))
+        writer.start()
+        lines = self._lines_before(f"refused\tunknown-verb\t{mark}\n".encode())
+        writer.join()
+        while not self._waits():
+            time.sleep(0.0002)
+        return time.clock_gettime(self.clock) - begun, lines
+
+    def end(self, mark):
+        """The seconds of processors from the end of the input to a line that begins so, and the lines before it. What behind
+        the line ends the run may count in part."""
+        begun = time.clock_gettime(self.clock)
+        self.child.stdin.close()
+        lines = self._lines_before(mark)
+        os.kill(self.child.pid, signal.SIGSTOP)
+        os.waitid(os.P_PID, self.child.pid, os.WSTOPPED | os.WEXITED | os.WNOWAIT)
+        seconds = time.clock_gettime(self.clock) - begun
+        os.kill(self.child.pid, signal.SIGCONT)
+        return seconds, lines
+
+    def _waits(self):
+        """Whether the program waits for more input."""
+        with open(f"/proc/{self.child.pid}/stat") as stat:
+            return stat.read().rpartition(")")[2].split()[0] == "S"
+
+    def _lines_before(self, mark):
+        """The lines that the program prints before one that begins so."""
+        said = bytearray()
+        seen = 0
+        while said.find(mark, seen) < 0:
+            seen = max(len(said) - len(mark), 0)
+            more = self.child.stdout.read1(CHUNK)
+            if not more:
+                sys.exit(f"ended behind {bytes(said[-200:])}")
+            said += more
+        return said[: said.find(mark, seen)].splitlines()
+
+    def _write(self, given):
+        self.child.stdin.write(given)
+        self.child.stdin.flush()
 
 
 def report(name, ended, more=""):
