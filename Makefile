@@ -23,11 +23,11 @@ $(UNPROVED): $(SOURCES)
 
 # Shows the three offices in one another's form by the unproved program, in a folder to try it in.
 try: $(UNPROVED)
-	@examples/offices/show $(UNPROVED) build/offices
+	@examples/show $(UNPROVED) build
 	@echo
 	@echo "Nothing is proved yet. This was made by $(UNPROVED), the program as it is written."
 	@echo "It checks each access to memory, and is many times slower than the proved one."
-	@echo "The files are in build/offices. To try the commands of README.md there:"
+	@echo "The files are in build/offices, and the other examples beside it. To try the commands of README.md there:"
 	@echo
 	@echo "    cd build/offices"
 	@echo "    alias schemasql=../../$(UNPROVED)"
