@@ -6,10 +6,11 @@ use ss_text::{NoMemory, Text};
 use std::alloc::Global;
 use std::test::Fail;
 
-// A byte, and whether a crash may leave another one in its place.
+// A byte, the one that was there at the last sync, and whether a crash may leave another one in its place.
 #[derive(Clone, Copy)]
 struct Byte {
     value: u8,
+    old: u8,
     is_doubtful: bool,
 }
 
@@ -29,6 +30,7 @@ impl Held {
         for value in bytes {
             held.bytes.push(Byte {
                 value: *value,
+                old: *value,
                 is_doubtful: false,
             })?;
         }
@@ -43,6 +45,7 @@ impl Held {
             } else {
                 self.bytes.push(Byte {
                     value: 0,
+                    old: 0,
                     is_doubtful: true,
                 })?;
             }
@@ -64,6 +67,7 @@ impl Held {
     fn sync(&mut self) {
         for byte in self.bytes.iter_mut() {
             byte.is_doubtful = false;
+            byte.old = byte.value;
         }
         self.stable = self.bytes.len();
     }
@@ -77,11 +81,12 @@ impl Held {
         Ok(())
     }
 
-    // How many images there are of one length: any with four bytes at each of four places and four at all further ones.
+    // How many images there are of one length: with what was written and with what was there before, any with four bytes at
+    // each of four places and four at all further ones.
     fn images(&self) -> u32 {
-        let mut images = 1;
+        let mut images = 2;
         for byte in &self.bytes {
-            if byte.is_doubtful && images < 1024 {
+            if byte.is_doubtful && images < 2048 {
                 images *= 4;
             }
         }
@@ -103,14 +108,15 @@ impl Held {
 }
 
 // What is left of a byte, before which so many are doubtful: where it is doubtful itself, as the number says 0, 1, 255 or
-// what was written. From the fifth one on they are alike.
+// what was written, and of an odd number what was there before. From the fifth one on they are alike.
 fn left(byte: &Byte, nth: u32, number: u32) -> u8 {
-    match number >> (2 * nth.min(4)) & 3 {
+    match number >> (2 * nth.min(4) + 1) & 3 {
         _ if !byte.is_doubtful => byte.value,
         0 => 0,
         1 => 1,
         2 => 255,
-        _ => byte.value,
+        _ if number % 2 == 0 => byte.value,
+        _ => byte.old,
     }
 }
 
