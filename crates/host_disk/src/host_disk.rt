@@ -5,7 +5,7 @@ ghost use Rattle.outside.specs.Counts.{Rose};
 use disk::Disk;
 use outside::{Failed, StoreFault};
 use std::alloc::Global;
-use std::fs::{File, OpenOptions};
+use std::fs::{File, OpenOptions, TryLockError};
 use std::io::{Error, ErrorKind, Write};
 use std::os::unix::fs::FileExt;
 use std::rt::Files;
@@ -14,7 +14,7 @@ const PATH: &str = "schemasql.journal";
 
 /// The file `schemasql.journal` as a disk. Its first call opens and locks it, and makes it of one byte 0 where it is
 /// missing; the file and its folder are then synced. A file that another program has locked, and one that is shorter than
-/// a read asks for, are failures.
+/// a read asks for, are failures. Where the file system knows no locks, or syncs no folders, it does without.
 #[derive(Drop)]
 pub struct HostDisk<R: Files<File = File> + Drop> {
     rt: R,
@@ -134,18 +134,37 @@ fn open<R: Files<File = File>>(rt: &R) -> Result<File, Error> {
     options.write(true);
     match options.open(rt, PATH) {
         Ok(file) => {
-            file.try_lock()?;
+            lock(&file)?;
             Ok(file)
         }
         Err(error) if error.kind() == ErrorKind::NotFound => {
             options.create_new(true);
             let mut file = options.open(rt, PATH)?;
-            file.try_lock()?;
+            lock(&file)?;
             file.write_all(&[0])?;
             file.sync_all()?;
-            File::open(rt, ".")?.sync_all()?;
+            sync_folder(rt)?;
             Ok(file)
         }
+        Err(error) => Err(error),
+    }
+}
+
+// Locks the file, where the file system knows locks. One that another program has locked is a failure.
+fn lock(file: &File) -> Result<(), Error> {
+    match file.try_lock() {
+        Ok(()) => Ok(()),
+        Err(TryLockError::WouldBlock) => Err(Error::from(ErrorKind::WouldBlock)),
+        Err(TryLockError::Error(_)) => Ok(()),
+    }
+}
+
+// What was made in the current folder is on the disk. A file system that syncs no folders does without.
+fn sync_folder<R: Files<File = File>>(rt: &R) -> Result<(), Error> {
+    match File::open(rt, ".")?.sync_all() {
+        Ok(()) => Ok(()),
+        Err(error) if error.kind() == ErrorKind::InvalidInput => Ok(()),
+        Err(error) if error.kind() == ErrorKind::Unsupported => Ok(()),
         Err(error) => Err(error),
     }
 }
