@@ -1,0 +1,6 @@
+pub mod LabelLemmas
+pub mod WorkedRows
+pub mod LevelLemmas
+pub mod KeptLemmas
+pub mod TakingLemmas
+pub mod OpeningLemmas
