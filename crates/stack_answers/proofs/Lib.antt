@@ -1,2 +1,8 @@
 mod WorkedRows
-pub mod LevelLemmas
+pub mod AnswerLemmas
+pub mod DefinitionLemmas
+pub mod FolderLemmas
+pub mod OpeningLemmas
+pub mod PerformingLemmas
+pub mod StackLemmas
+pub mod StackingLemmas

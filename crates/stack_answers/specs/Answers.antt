@@ -1,7 +1,7 @@
 -- How an opened stack answers the lines of its input: as an opened view does, but that changes are made at all levels or at none.
-use Rattle.std.specs.Prelude.{Bool, true, ◌==◌, ◌+◌, ◌||◌, ℕ, zero, suc, List, [], ◌∷◌, ◌++◌, filter, length, Option, None, Some, is_some, option_map, unwrap_or, Result, Ok, Err, if◌then◌else◌}
+use Rattle.std.specs.Prelude.{Bool, true, ◌==◌, ◌+◌, ℕ, zero, suc, List, [], ◌∷◌, ◌++◌, length, Option, None, Some, is_some, option_map, unwrap_or, Result, Ok, Err, if◌then◌else◌}
 use Rattle.std.specs.Option.{option_map_or}
-use Rattle.ss_text.specs.Texts.{Row, is_in}
+use Rattle.ss_text.specs.Texts.{Row}
 use Rattle.tab_lines.specs.Spelling.{unspell}
 use Rattle.effects.specs.Effects.{Effect, Replace}
 use Rattle.schema_model.specs.Changes.{after_all}
@@ -12,7 +12,7 @@ use Rattle.schema_model.specs.declared.change.ChangeFault.{ChangeFault}
 use Rattle.schema_model.specs.declared.change.ChangeFault.TheVariants.{FieldCount}
 use Rattle.schema_model.specs.declared.refusal.Refusal.{Refusal}
 use Rattle.csv_catalog.specs.Saved.{saved}
-use Rattle.flow_law.specs.Tables.{TablesValue, labels_of}
+use Rattle.flow_law.specs.Tables.{TablesValue}
 use Rattle.valuation_meaning.specs.Meaning.{shape_of}
 use Rattle.view_folder.specs.Files.{view_folder}
 use Rattle.view_folder.specs.Sync.{later_sync}
@@ -24,8 +24,10 @@ use Rattle.view_answers.specs.declared.word.Word.{Word}
 use Rattle.view_answers.specs.declared.word.Word.TheVariants as word
 use Rattle.view_answers.specs.Answers.{word_in}
 use Rattle.stack_print.specs.Printing.{refuses_at, prints_scripts}
-use Rattle.stack_answers.specs.Levels.{LevelRefusal, refused_at, lines_over, changing_refusal}
-use Rattle.stack_answers.specs.Stack.{LevelValue, StackState, queries_of, stack_tables, working, names_with, with_lines, synced_over}
+use Rattle.stack_levels.specs.declared.refusal.LevelRefusal.{LevelRefusal}
+use Rattle.stack_levels.specs.Levels.{refused_at, lines_over, changing_refusal}
+use Rattle.stack_levels.specs.Values.{LevelValue, with_lines, synced_over, count_of}
+use Rattle.stack_answers.specs.Stack.{StackState, queries_of, stack_tables, working, names_with}
 
 -- an answer to a line: what is done, the changes that were made at all levels, and what the stack then is
 pub record Answer : Type 0 where
@@ -105,10 +107,7 @@ abbrev pub by_broken : StackState → ℕ → Answer
 by_broken s zero = judged giving_up s (unwrap_or s.held [])
 by_broken s (suc n) = plainly giving_up s (group_broken_fields (suc n))
 
--- of the labels that a level's lines named, how many have a table, or had one at the last sync; and of all levels
-abbrev pub count_of : LevelValue → TablesValue → ℕ
-count_of l ts = length (filter (λ label. is_in label (labels_of ts) || is_in label l.synced) l.named)
-
+-- the counts of all levels' files together
 abbrev pub sync_count : List LevelValue → List TablesValue → ℕ
 sync_count [] all = 0
 sync_count (l ∷ ls) [] = 0

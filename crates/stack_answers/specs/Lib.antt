@@ -1,6 +1,7 @@
-pub mod Levels
 pub mod Stack
 pub mod Answers
 pub mod Held
-pub mod Laws
 pub mod Opening
+pub mod Definitions
+pub mod Folders
+pub mod Steps

@@ -13,7 +13,8 @@ use Rattle.course.specs.declared.status.Verdict.TheVariants as verdict
 use Rattle.course.specs.Answering.{Reply, Continues, Finishes}
 use Rattle.ss_print.specs.Printing.{prints_synced}
 use Rattle.view_stages.specs.Stages.{Accepted, DefinitionOrRefusal, loaded_or_refused, files_of_view}
-use Rattle.stack_answers.specs.Levels.{LevelRefusal, refused_at, given_by, opening_refusal}
+use Rattle.stack_levels.specs.declared.refusal.LevelRefusal.{LevelRefusal}
+use Rattle.stack_levels.specs.Levels.{refused_at, given_by, opening_refusal}
 use Rattle.stack_answers.specs.Stack.{StackState, stack_at_first}
 use Rattle.stack_answers.specs.Answers.{refusal_effects}
 

@@ -1,24 +1,15 @@
 -- An opened stack.
-use Rattle.std.specs.Prelude.{Bool, false, ℕ, List, [], ◌∷◌, ◌++◌, map, Option, None, unwrap_or}
-use Rattle.ss_text.specs.Texts.{Text, text_cmp}
-use Rattle.ss_text.specs.Ascending.{ascending}
+use Rattle.std.specs.Prelude.{Bool, false, ℕ, List, [], map, Option, None, unwrap_or}
+use Rattle.ss_text.specs.Texts.{Text}
 use Rattle.schema_model.specs.Catalogue.{CatalogueValue}
 use Rattle.schema_model.specs.Changes.{after_all}
 use Rattle.schema_model.specs.declared.change.Change.{Change}
 use Rattle.schema_model.specs.declared.pair.Pair.{Pair}
 use Rattle.view_def.specs.Query.{Query}
-use Rattle.flow_law.specs.Lines.{label_of}
-use Rattle.flow_law.specs.Tables.{TablesValue, labels_of}
-use Rattle.flow_law.specs.declared.line.TableLine.{TableLine}
-use Rattle.valuation_meaning.specs.Meaning.{meaning}
+use Rattle.flow_law.specs.Tables.{TablesValue}
 use Rattle.view_session.specs.Named.{Names, with_changes}
-use Rattle.stack_answers.specs.Levels.{tables_over, given_by}
-
--- a level: its view, the labels that were named since the last sync, and those of its tables at that sync
-pub record LevelValue : Type 0 where
-  pub query : Query
-  pub named : List Text
-  pub synced : List Text
+use Rattle.stack_levels.specs.Levels.{tables_over}
+use Rattle.stack_levels.specs.Values.{LevelValue, synced_over}
 
 -- the catalogue of the sources, the relations and databases of it that changes named since the last sync, the levels over it, the lowest first, the changes that the open group holds, where one is open, whether some line was refused, and how many were refused in the open group
 pub record StackState : Type 0 where
@@ -44,17 +35,6 @@ working s = after_all s.catalogue (unwrap_or s.held [])
 -- what was named of the sources, with changes
 abbrev pub names_with : StackState → List Change → Names
 names_with s gs = with_changes (record { labels = []; relations = s.relations; databases = s.databases }) s.catalogue gs
-
--- levels after the lines of each, which name labels
-abbrev pub with_lines : List LevelValue → List (List TableLine) → List LevelValue
-with_lines [] all = []
-with_lines (l ∷ ls) [] = l ∷ ls
-with_lines (l ∷ ls) (lines ∷ all) = record { query = l.query; named = ascending text_cmp (l.named ++ map label_of lines); synced = l.synced } ∷ with_lines ls all
-
--- levels that were just synced, each over the catalogue that the one below gives
-abbrev pub synced_over : CatalogueValue → List Query → List LevelValue
-synced_over c [] = []
-synced_over c (q ∷ qs) = record { query = q; named = []; synced = labels_of (meaning c q) } ∷ synced_over (given_by c q) qs
 
 -- a stack that was just opened
 abbrev pub stack_at_first : List Query → CatalogueValue → StackState

@@ -1,14 +1,14 @@
-//! Views over one another: how an opened stack of them answers the lines of its input.
+//! The command `stack`: an opened stack of views, and its answers to the lines of its input.
 //!
-//! Its contract: what a stack of sessions tells of a catalogue that its lowest level comes to is what is said of the views,
-//! each over the database that the tables of the one below are. It knows nothing of folders or of how a line is read.
+//! Its contract: `stack` opens the views of its names over one another and does what each line asks, in turn, at all levels
+//! or at none, and syncs the folder of each level at the end of the input. It knows nothing of how a level takes changes, or
+//! of the words of the command line.
 #![tactic(auto)]
 
-ghost use Rattle.stack_answers.specs.Laws.{StacksTell, StacksKeep};
+mod definitions;
+mod folders;
+mod open_stack;
+mod opening;
+mod stacking;
 
-/// Which level of a stack of sessions refuses, and why, and the lines of each level, are those of the views over the
-/// catalogues; and the tables of each level stay those of its view.
-pub fn stacks_tell_of_views()
-    ensures tell { StacksTell }
-    ensures keep { StacksKeep }
-{}
+pub use stacking::stack;
