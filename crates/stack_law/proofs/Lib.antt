@@ -1,0 +1,14 @@
+pub mod CaseLemmas
+pub mod EffectLemmas
+pub mod FolderLemmas
+pub mod GivenLemmas
+pub mod KeptLemmas
+pub mod LevelLemmas
+pub mod LineLemmas
+pub mod OpenedLemmas
+pub mod RefusedLemmas
+pub mod SourceLemmas
+pub mod StackedLemmas
+pub mod StageLemmas
+pub mod StopLemmas
+pub mod WithinLemmas

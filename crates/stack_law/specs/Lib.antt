@@ -1,0 +1,4 @@
+pub mod Behind
+pub mod Law
+pub mod Lists
+pub mod Promises

@@ -1,0 +1,14 @@
+//! What a stack of views that is opened and answers lines comes to: laws without code.
+//!
+//! Its contract: where its course was done, or its input gave out, the files of each level are those of its view's meaning
+//! over the database that the level below gives, and the sources hold what the changes make that all levels accepted. It
+//! knows nothing of words or of how a line is read.
+#![tactic(auto)]
+
+ghost use Rattle.stack_law.specs.Law.{DoneAreMaintained, CutOffAreSynced};
+
+/// Views are kept up to date over one another over all lines of the input, or over those before the input gave out.
+pub fn stacks_are_kept()
+    ensures done { DoneAreMaintained }
+    ensures cut_off { CutOffAreSynced }
+{}
