@@ -17,8 +17,8 @@ use std::rt::Files;
 /// Folders below the current one. A listing that meets a name which is not UTF-8, and a file of 2^32 bytes or more, are
 /// failures. A file is written beside its place, and takes it when it is whole.
 ///
-/// Who may change the sources holds a lock on their folder from its first call to its end, and who may change a view one
-/// on the file of its definition; where another program holds it, each call that reads is a failure. What an earlier
+/// Who may change the sources holds a lock on their folder from its first call to its end, and who may change views one
+/// on the file of each definition; where another program holds it, each call that reads is a failure. What an earlier
 /// program that was stopped left to be done there is done before anything is read there.
 #[derive(Drop)]
 pub struct HostFolders<R: Files<File = File> + AllocGlobal + Clone + Drop> {

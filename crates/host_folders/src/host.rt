@@ -20,8 +20,8 @@ pub enum Writes {
     View,
     /// The folder of one view, which is the only copy.
     OnlyView,
-    /// That, and the sources.
-    ViewAndSources,
+    /// The folders of views, and the sources.
+    ViewsAndSources,
 }
 
 /// The folders below the current one, the locks that are held, and what is known of the files that were read and written.
@@ -30,7 +30,8 @@ pub(crate) struct Host<R: Files<File = File> + AllocGlobal + Clone + Drop> {
     pub(crate) rt: R,
     may: Writes,
     locks: Locks,
-    definition: Option<String>,
+    /// The files of the definitions that were read, by their paths.
+    definitions: Vec<String>,
     has_begun: bool,
     /// The roots in which nothing is left to be done.
     ready: Vec<Root>,
@@ -48,8 +49,8 @@ impl<R: Files<File = File> + AllocGlobal + Clone + Drop> Host<R> {
         Host {
             rt,
             may,
-            locks: Locks::none(),
-            definition: None,
+            locks: Locks::none(alloc),
+            definitions: Vec::new(alloc),
             has_begun: false,
             ready: Vec::new(alloc),
             sources: Stamps::none(alloc),
@@ -61,7 +62,7 @@ impl<R: Files<File = File> + AllocGlobal + Clone + Drop> Host<R> {
     // Before a folder or a file in it is read: takes the locks, and does what is left to be done there.
     pub(crate) fn begin(&mut self, folder: &Text, file: Option<&Text>) -> Result<(), Error> {
         if !self.has_begun {
-            if self.may == Writes::ViewAndSources {
+            if self.may == Writes::ViewsAndSources {
                 self.locks.hold_sources(&self.rt)?;
             }
             self.has_begun = true;
@@ -79,14 +80,14 @@ impl<R: Files<File = File> + AllocGlobal + Clone + Drop> Host<R> {
         let Some(file) = file else {
             return Ok(());
         };
-        if self.definition.is_some() {
+        let path = file_path(self.rt.alloc(), folder, file)?;
+        if self.definitions.contains(&path) {
             return Ok(());
         }
-        let path = file_path(self.rt.alloc(), folder, file)?;
         if self.may != Writes::Nothing {
             self.locks.hold_definition(&self.rt, path.as_str())?;
         }
-        self.definition = Some(path);
+        self.definitions.push(path)?;
         Ok(())
     }
 
@@ -124,11 +125,11 @@ impl<R: Files<File = File> + AllocGlobal + Clone + Drop> Host<R> {
         }
     }
 
-    // The lock of a root, for a while.
+    // The lock of a root, for a while. What changes nothing reads one definition.
     fn lock_of(&self, root: &Root) -> Result<Option<File>, Error> {
         match root {
             Root::Sources => lock_at(&self.rt, "sources"),
-            Root::View(_) => match &self.definition {
+            Root::View(_) => match self.definitions.first() {
                 Some(path) => lock_at(&self.rt, path.as_str()),
                 None => Ok(None),
             },
@@ -138,14 +139,14 @@ impl<R: Files<File = File> + AllocGlobal + Clone + Drop> Host<R> {
     // Whether the lock of a root is held to the end.
     fn is_held(&self, root: &Root) -> bool {
         match root {
-            Root::Sources => self.may == Writes::ViewAndSources,
+            Root::Sources => self.may == Writes::ViewsAndSources,
             Root::View(_) => self.may != Writes::Nothing,
         }
     }
 
     // Keeps which file of the sources was read.
     fn keep_read(&mut self, folder: &Text, file: &Text, stamp: Stamp) -> Result<(), Error> {
-        if self.may == Writes::ViewAndSources && is_source(folder) {
+        if self.may == Writes::ViewsAndSources && is_source(folder) {
             let path = file_path(self.rt.alloc(), folder, file)?;
             self.sources.keep(path, Some(stamp))?;
         }
@@ -156,7 +157,7 @@ impl<R: Files<File = File> + AllocGlobal + Clone + Drop> Host<R> {
     // changes while it is read counts as changed.
     pub(crate) fn begin_part(&mut self, folder: &Text, file: &Text) -> Result<(), Error> {
         self.begin(folder, Some(file))?;
-        if self.may != Writes::ViewAndSources || !is_source(folder) {
+        if self.may != Writes::ViewsAndSources || !is_source(folder) {
             return Ok(());
         }
         let path = file_path(self.rt.alloc(), folder, file)?;
@@ -228,7 +229,7 @@ impl<R: Files<File = File> + AllocGlobal + Clone + Drop> Host<R> {
 
     // Keeps which files of the sources are there now.
     pub(crate) fn keep_written(&mut self, edits: &[Edit]) -> Result<(), Error> {
-        if self.may != Writes::ViewAndSources {
+        if self.may != Writes::ViewsAndSources {
             return Ok(());
         }
         for edit in edits {

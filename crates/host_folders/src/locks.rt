@@ -1,22 +1,23 @@
 //! Locks on files and folders, by which one program at a time writes.
 use crate::paths::is_missing;
+use std::alloc::Global;
 use std::fs::{self, File, TryLockError};
 use std::io::{Error, ErrorKind};
 use std::rt::Files;
 
-/// The locks that a program holds until it ends: on the folder of the sources, and on the file of a view's definition.
+/// The locks that a program holds until it ends: on the folder of the sources, and on the files of its views' definitions.
 #[derive(Drop)]
 pub(crate) struct Locks {
     sources: Option<File>,
-    definition: Option<File>,
+    definitions: Vec<File>,
 }
 
 impl Locks {
     /// No lock.
-    pub(crate) fn none() -> Locks {
+    pub(crate) fn none(alloc: Global) -> Locks {
         Locks {
             sources: None,
-            definition: None,
+            definitions: Vec::new(alloc),
         }
     }
 
@@ -32,7 +33,9 @@ impl Locks {
         rt: &R,
         path: &str,
     ) -> Result<(), Error> {
-        self.definition = lock_at(rt, path)?;
+        if let Some(lock) = lock_at(rt, path)? {
+            self.definitions.push(lock)?;
+        }
         Ok(())
     }
 }

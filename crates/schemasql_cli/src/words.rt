@@ -37,7 +37,7 @@ fn status_of(error: &Error) -> Status {
 pub(crate) fn writes_of(words: &[Text]) -> Writes {
     match words {
         [command, ..] => match command.as_slice() {
-            b"maintain" | b"feed" => Writes::ViewAndSources,
+            b"maintain" | b"stack" | b"feed" => Writes::ViewsAndSources,
             b"show" => Writes::View,
             b"apply" => Writes::OnlyView,
             _ => Writes::Nothing,
