@@ -35,6 +35,12 @@ mod saved;
 #[cfg(test)]
 mod schemas;
 #[cfg(test)]
+mod stacked;
+#[cfg(test)]
+mod stacked_failing;
+#[cfg(test)]
+mod stacked_limits;
+#[cfg(test)]
 mod sweeps;
 #[cfg(test)]
 mod world;

@@ -25,6 +25,13 @@ pub const C_TO_A: File = (
     "create view CtoA::salInfo(category, dept, salFloor) as select T.category, R, T.salFloor from univ-C -> R, univ-C::R T",
 );
 
+// The departments, which are columns of the view of A_TO_B, as values again.
+pub const BACK: File = (
+    "defs",
+    "Back.ssql",
+    "create view Back::salInfo(category, dept, salFloor) as select T.category, D, T.D from AtoB::salInfo -> D, AtoB::salInfo T where D <> 'category'",
+);
+
 pub const ALL: File = (
     "defs",
     "All.ssql",

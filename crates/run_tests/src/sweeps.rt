@@ -1,7 +1,7 @@
 //! Sweeps: of a run the first call of one kind fails, then the second, and so on, until the run ends as it does where
 //! none fails. What it prints before is a front of what it prints then, and a second run over the same folders makes
 //! good what it left.
-use crate::offices::{A, A_TO_B, A_TO_C, B, B_TO_A};
+use crate::offices::{A, A_TO_B, A_TO_C, B, B_TO_A, BACK};
 use crate::place::{File, run_over, texts};
 use crate::world::{Calls, World};
 use outside::{MemFolders, StoreFault, SureSink, SureSource};
@@ -24,7 +24,7 @@ const COLUMNS: File = (
     "category,cs,math\nAssoc,60000,\nProf,72000,65000\n",
 );
 
-const RUNS: [Swept; 8] = [
+const RUNS: [Swept; 9] = [
     Swept {
         words: &["show", "AtoC"],
         files: &[A_TO_C, A, ("views/AtoC", "old.csv", "x\n")],
@@ -84,6 +84,18 @@ const RUNS: [Swept; 8] = [
         status: 1,
         printed: "synced\t2\nreply\ta\t1\nrow+\tmath\tLect\t1\ndone\t1\nsynced\t1\nreply\ta\t1\nrow+\tmath\tLect\t1\ndone\t1\nrefused\tearly\tb\t1\nreply\tb\t1\nrow-\tmath\tProf\t65000\ndone\t1\nsynced\t1\n",
         verify: &["verify", "AtoC"],
+    },
+    // A column of the lower view that comes and goes, and its rows in the upper one, over two syncs.
+    Swept {
+        words: &["stack", "AtoB", "Back"],
+        files: &[A_TO_B, BACK, A],
+        pieces: &[
+            "insert\tuniv-A\tsalInfo\tProf\tphysics\t70000\nsync\n",
+            "delete\tuniv-A\tsalInfo\tProf\tphysics\t70000\n",
+        ],
+        status: 0,
+        printed: "synced\t2\nlevel\t1\ncolumn+\tsalInfo\tphysics\ncell\tsalInfo\tphysics\t70000\tProf\nlevel\t2\nrow+\tsalInfo\tAssoc\tphysics\t\nrow+\tsalInfo\tProf\tphysics\t70000\ndone\t4\nsynced\t2\nlevel\t1\ncolumn-\tsalInfo\tphysics\nlevel\t2\nrow-\tsalInfo\tAssoc\tphysics\t\nrow-\tsalInfo\tProf\tphysics\t70000\ndone\t3\nsynced\t2\n",
+        verify: &["verify", "AtoB"],
     },
     Swept {
         words: &["apply", "AtoB"],

@@ -1,6 +1,7 @@
 -- The effects of each course are on what is exempt.
-use Rattle.std.proofs.Common.{◌≡◌, ℕ, List, [], ◌∷◌, ◌++◌, Option, None, Some, refl, sym, ap, ◌∙◌, subst, append-nil}
+use Rattle.std.proofs.Common.{◌≡◌, ℕ, List, [], ◌∷◌, ◌++◌, Option, None, Some, map, refl, sym, ap, ◌∙◌, subst, append-nil}
 use Rattle.std.specs.Prelude.{Result, Ok, Err}
+use Rattle.ss_text.specs.Texts.{Text}
 use Rattle.outside.specs.Tree.{Tree}
 use Rattle.effects.specs.Effects.{Effect, World, contents, Partly}
 use Rattle.valuation_meaning.specs.Meaning.{shape_of}
@@ -28,12 +29,17 @@ use Rattle.view_answers.specs.Answers.{step, finish}
 use Rattle.upkeep_law.specs.Promises.{sources_exempt}
 use Rattle.upkeep_law.proofs.WithinLemmas.{maintain_over, so_far_over}
 use Rattle.view_answers.specs.Steps.{starting}
+use Rattle.stack_answers.specs.Answers as stack
+use Rattle.stack_answers.specs.Opening as stack_opening
+use Rattle.stack_law.specs.Promises.{sources_stacked}
+use Rattle.stack_law.proofs.OpenedLemmas.{all_exempt, names_some}
+use Rattle.stack_law.proofs.WithinLemmas.{stack_within, stack_so_far_within}
 use Rattle.feed_answers.specs.Answers as feed
 use Rattle.feed_law.specs.Promises.{sources_fed}
 use Rattle.feed_law.proofs.WithinLemmas.{feed_over, feed_so_far_over}
-use Rattle.ss_top.specs.Commands.{Asked, Check, Show, Maintain, Verify, Apply, Feed, Load, Other}
+use Rattle.ss_top.specs.Commands.{Asked, Check, Show, Maintain, Verify, Apply, Stack, Feed, Load, Other, HasViews}
 use Rattle.ss_top.specs.Runs.{Definitions, Request, course_by, course_of}
-use Rattle.ss_top.specs.Promises.{KeepsBut, exempt_by}
+use Rattle.ss_top.specs.Promises.{KeepsBut, views_exempt, exempt_by}
 
 -- those of a command with one view
 module _ (t : Tree) where
@@ -83,36 +89,56 @@ module _ (t : Tree) where
     apply_taken (Err fields) gs e = absurd (cc e)
     apply_taken (Ok a) gs e = apply_so_far t a lines (held (shape_of a.query) t (folder_of a)) gs e
 
-course_within : (a : Asked) (t : Tree) (ds : Definitions) (lines : List (List ℕ)) → AllWithin (exempt_by a t ds lines) ((course_by a t ds).whole lines).effects
-course_within (Check name) t ds lines = check_within t (ds name)
-course_within (Show name) t ds lines = show_within t (ds name)
-course_within (Maintain name) t ds lines = maintain_within t lines (ds name)
-course_within (Verify name) t ds lines = verify_within t (ds name)
-course_within (Apply name) t ds lines = apply_within t lines (ds name)
-course_within (Feed name) t ds lines = feed_within t lines (ds name)
-course_within (Load changes seed) t ds lines = (tt, tt)
-course_within Other t ds lines = (tt, tt)
+-- the folders of views over one another
+pub same_exempt : (names : List Text) (ds : Definitions) → all_exempt (map ds names) ≡ views_exempt names ds
+same_exempt [] ds = refl
+same_exempt (name ∷ names) ds = ap (λ (xs : List Exempt). view_exempt (ds name) ++ xs) (same_exempt names ds)
 
-so_far_within : (a : Asked) (t : Tree) (ds : Definitions) (lines : List (List ℕ)) (gs : List Effect) → (course_by a t ds).so_far lines ≡ Some gs → AllWithin (exempt_by a t ds lines) gs
-so_far_within (Check name) t ds lines gs e = absurd (cc e)
-so_far_within (Show name) t ds lines gs e = absurd (cc e)
-so_far_within (Maintain name) t ds lines gs e = maintain_so_far t lines (ds name) gs e
-so_far_within (Verify name) t ds lines gs e = absurd (cc e)
-so_far_within (Apply name) t ds lines gs e = apply_taken t lines (ds name) gs e
-so_far_within (Feed name) t ds lines gs e = feed_so_far t lines (ds name) gs e
-so_far_within (Load changes seed) t ds lines gs e = absurd (cc e)
-so_far_within Other t ds lines gs e = absurd (cc e)
+module _ (t : Tree) (lines : List (List ℕ)) (names : List Text) (ds : Definitions) (some : HasViews (Stack names)) where
+  abbrev Stacked : List Effect → Type 0
+  Stacked es = AllWithin (views_exempt names ds ++ sources_stacked (stack_opening.opening t (map ds names)) lines) es
+
+  exempt_so : (es : List Effect) → AllWithin (all_exempt (map ds names) ++ sources_stacked (stack_opening.opening t (map ds names)) lines) es → Stacked es
+  exempt_so es h = subst (λ (xs : List Exempt). AllWithin (xs ++ sources_stacked (stack_opening.opening t (map ds names)) lines) es) (same_exempt names ds) h
+
+  stacked_within : Stacked ((by_lines stack.step stack.finish (stack_opening.opening t (map ds names))).whole lines).effects
+  stacked_within = exempt_so _ (stack_within t lines (map ds names) (names_some names ds some))
+
+  stacked_so_far : (gs : List Effect) → (by_lines stack.step stack.finish (stack_opening.opening t (map ds names))).so_far lines ≡ Some gs → Stacked gs
+  stacked_so_far gs e = exempt_so gs (stack_so_far_within t lines (map ds names) (names_some names ds some) gs e)
+
+course_within : (a : Asked) (t : Tree) (ds : Definitions) (lines : List (List ℕ)) → HasViews a → AllWithin (exempt_by a t ds lines) ((course_by a t ds).whole lines).effects
+course_within (Check name) t ds lines some = check_within t (ds name)
+course_within (Show name) t ds lines some = show_within t (ds name)
+course_within (Maintain name) t ds lines some = maintain_within t lines (ds name)
+course_within (Verify name) t ds lines some = verify_within t (ds name)
+course_within (Apply name) t ds lines some = apply_within t lines (ds name)
+course_within (Stack names) t ds lines some = stacked_within t lines names ds some
+course_within (Feed name) t ds lines some = feed_within t lines (ds name)
+course_within (Load changes seed) t ds lines some = (tt, tt)
+course_within Other t ds lines some = (tt, tt)
+
+so_far_within : (a : Asked) (t : Tree) (ds : Definitions) (lines : List (List ℕ)) → HasViews a → (gs : List Effect) → (course_by a t ds).so_far lines ≡ Some gs → AllWithin (exempt_by a t ds lines) gs
+so_far_within (Check name) t ds lines some gs e = absurd (cc e)
+so_far_within (Show name) t ds lines some gs e = absurd (cc e)
+so_far_within (Maintain name) t ds lines some gs e = maintain_so_far t lines (ds name) gs e
+so_far_within (Verify name) t ds lines some gs e = absurd (cc e)
+so_far_within (Apply name) t ds lines some gs e = apply_taken t lines (ds name) gs e
+so_far_within (Stack names) t ds lines some gs e = stacked_so_far t lines names ds some gs e
+so_far_within (Feed name) t ds lines some gs e = feed_so_far t lines (ds name) gs e
+so_far_within (Load changes seed) t ds lines some gs e = absurd (cc e)
+so_far_within Other t ds lines some gs e = absurd (cc e)
 
 -- a run leaves all others as they were
-module _ (q : Request) (old new : World) (told : old.store.tree ≡ Some q.tree) where
+module _ (q : Request) (old new : World) (told : old.store.tree ≡ Some q.tree) (some : HasViews q.asked) where
   abbrev exempt : List (List ℕ) → List Exempt
   exempt lines = exempt_by q.asked q.tree q.definitions lines
 
   within : (lines : List (List ℕ)) → AllWithin (exempt lines) ((course_of q).whole lines).effects
-  within lines = course_within q.asked q.tree q.definitions lines
+  within lines = course_within q.asked q.tree q.definitions lines some
 
   within_so_far : (lines : List (List ℕ)) (gs : List Effect) → (course_of q).so_far lines ≡ Some gs → AllWithin (exempt lines) gs
-  within_so_far lines gs e = so_far_within q.asked q.tree q.definitions lines gs e
+  within_so_far lines gs e = so_far_within q.asked q.tree q.definitions lines some gs e
 
   kept : (lines : List (List ℕ)) → StaysIn (exempt lines) q.tree (contents new) → Keeps (exempt lines) q.tree new
   unfolding contents
@@ -160,7 +186,7 @@ module _ (q : Request) (old new : World) (told : old.store.tree ≡ Some q.tree)
     did_told (Err halt.DiskFault) h = held_up h
     did_told (Err (halt.Stopped e)) h = all_lines (done_partly (lines_of bytes) h)
 
-pub did_keep : (q : Request) (input rest : Option (List ℕ)) (old new : World) (r : Result Verdict Halt) → old.store.tree ≡ Some q.tree → RanSome (course_of q) old new r
+pub did_keep : (q : Request) (input rest : Option (List ℕ)) (old new : World) (r : Result Verdict Halt) → old.store.tree ≡ Some q.tree → HasViews q.asked → RanSome (course_of q) old new r
     → ((bytes : List ℕ) → input ≡ Some bytes → RanBy (course_of q) bytes rest old new r) → KeepsBut q input new
-did_keep q None rest old new r told some ran = did_some q old new told r some
-did_keep q (Some bytes) rest old new r told some ran = did_told q old new told bytes rest r (ran bytes refl)
+did_keep q None rest old new r told views some ran = did_some q old new told views r some
+did_keep q (Some bytes) rest old new r told views some ran = did_told q old new told views bytes rest r (ran bytes refl)

@@ -1,5 +1,5 @@
 -- What a run left is between what is there before one of its stages and what is there behind it.
-use Rattle.std.proofs.Common.{◌≡◌, ℕ, List, [], ◌∷◌, ◌++◌, Option, None, Some, refl, ap, ◌∙◌}
+use Rattle.std.proofs.Common.{◌≡◌, ℕ, List, [], ◌∷◌, ◌++◌, Option, None, Some, map, refl, ap, ◌∙◌, subst}
 use Rattle.std.specs.Prelude.{Result, Ok, Err}
 use Rattle.tab_lines.specs.Lines.{lines_of, whole_lines}
 use Rattle.outside.specs.Tree.{Tree}
@@ -19,6 +19,7 @@ use Rattle.run_course.proofs.FrontLemmas.{partly_whole, partly_front, lines_fron
 use Rattle.view_stages.specs.Stages.{DefinitionOrRefusal, loaded_or_refused}
 use Rattle.view_stages.specs.Opening.{opening, done_at_once}
 use Rattle.view_stages.specs.Opened.{folder_of, view_exempt}
+use Rattle.view_stages.specs.Places.{Exempt}
 use Rattle.view_stages.proofs.StoppedLemmas.{Stopped, printed}
 use Rattle.view_answers.specs.Answers.{step, finish}
 use Rattle.plain_commands.specs.Verifying.{verified}
@@ -27,12 +28,17 @@ use Rattle.plain_commands.proofs.StopLemmas.{show_over, check_definition, verify
 use Rattle.upkeep_law.specs.Behind.{stages_from}
 use Rattle.upkeep_law.proofs.StopLemmas.{maintain_over}
 use Rattle.view_answers.specs.Steps.{starting}
+use Rattle.stack_answers.specs.Answers as stack
+use Rattle.stack_answers.specs.Opening as stack_opening
+use Rattle.stack_law.specs.Behind.{stack_stages_from}
+use Rattle.stack_law.proofs.StopLemmas.{stack_stops}
 use Rattle.feed_answers.specs.Answers as feed
 use Rattle.feed_law.specs.Behind.{feed_stages_from}
 use Rattle.feed_law.proofs.StopLemmas.{feed_over}
-use Rattle.ss_top.specs.Commands.{Asked, Check, Show, Maintain, Verify, Apply, Feed, Load, Other}
+use Rattle.ss_top.specs.Commands.{Asked, Check, Show, Maintain, Verify, Apply, Stack, Feed, Load, Other}
 use Rattle.ss_top.specs.Runs.{Definitions, Request, course_by, course_of}
 use Rattle.ss_top.specs.Between.{stages_by, file_by_file, IsLeftBetween}
+use Rattle.ss_top.proofs.KeepLemmas.{same_exempt}
 
 -- the run of each command
 module _ (s : Stored) (old new : Contents) (told : old.stored ≡ Some s) (lines : List (List ℕ)) where
@@ -65,6 +71,7 @@ module _ (s : Stored) (old new : Contents) (told : old.stored ≡ Some s) (lines
   course_stops (Maintain name) ds h = maintain_stops (ds name) h
   course_stops (Verify name) ds h = verify_stops (ds name) h
   course_stops (Apply name) ds h = apply_stops (ds name) h
+  course_stops (Stack names) ds h = subst (λ (xs : List Exempt). Stopped xs (stack_stages_from (stack_opening.opening t (map ds names)) lines) t new) (same_exempt names ds) (stack_stops s old new told lines (map ds names) h)
   course_stops (Feed name) ds h = feed_stops (ds name) h
   course_stops (Load changes seed) ds h = printed [] s old new told _ h
   course_stops Other ds h = printed [] s old new told _ h
@@ -75,6 +82,7 @@ course_front (Show name) t ds xs more fs e = absurd (cc e)
 course_front (Maintain name) t ds xs more fs e = lines_front step finish (opening t (ds name)) xs more fs e
 course_front (Verify name) t ds xs more fs e = absurd (cc e)
 course_front (Apply name) t ds xs more fs e = lines_front applying.step applying.finish (apply_opening t (ds name)) xs more fs e
+course_front (Stack names) t ds xs more fs e = lines_front stack.step stack.finish (stack_opening.opening t (map ds names)) xs more fs e
 course_front (Feed name) t ds xs more fs e = lines_front feed.step feed.finish (starting feed.at_first (opening t (ds name))) xs more fs e
 course_front (Load changes seed) t ds xs more fs e = absurd (cc e)
 course_front Other t ds xs more fs e = absurd (cc e)

@@ -1,5 +1,5 @@
 -- A run that ended with a refusal changed nothing.
-use Rattle.std.proofs.Common.{◌≡◌, true, [], refl, sym, ap, ◌∙◌}
+use Rattle.std.proofs.Common.{◌≡◌, true, [], map, refl, sym, ap, ◌∙◌}
 use Rattle.std.specs.Prelude.{Result}
 use Rattle.std.proofs.lemmas.Bool.{false≢true}
 use Rattle.outside.specs.Tree.{Tree}
@@ -21,9 +21,12 @@ use Rattle.plain_commands.specs.Applies.{apply_opening}
 use Rattle.plain_commands.proofs.RefusedLemmas.{check_unchanged, verify_unchanged, apply_unchanged}
 use Rattle.upkeep_law.proofs.RefusedLemmas.{lines_unrefused}
 use Rattle.view_answers.specs.Steps.{starting}
+use Rattle.stack_answers.specs.Answers as stack
+use Rattle.stack_answers.specs.Opening as stack_opening
+use Rattle.stack_law.proofs.RefusedLemmas.{stack_unchanged}
 use Rattle.feed_answers.specs.Answers as feed
 use Rattle.feed_law.proofs.RefusedLemmas.{feed_unrefused}
-use Rattle.ss_top.specs.Commands.{Asked, Check, Show, Maintain, Verify, Apply, Feed, Load, Other, uses_store}
+use Rattle.ss_top.specs.Commands.{Asked, Check, Show, Maintain, Verify, Apply, Stack, Feed, Load, Other, uses_store}
 use Rattle.ss_top.specs.Runs.{Definitions, course_by, Told}
 
 -- nothing is changed where a run is refused
@@ -38,6 +41,8 @@ module _ (old new : World) (r : Result Verdict Halt) (refused : is_refused_statu
   did_refuse (Verify name) t ds told h = verify_unchanged t old new (told refl) (status_of r) refused (ds name) (some_refused old new r refused (verified t (ds name)) r refl h.ran)
   did_refuse (Apply name) t ds told h =
       apply_unchanged t old new (told refl) (status_of r) refused h.lines (ds name) (some_refused old new r refused ((by_lines applying.step applying.finish (apply_opening t (ds name))).whole h.lines) r refl h.ran)
+  did_refuse (Stack names) t ds told h =
+      stack_unchanged t old new (told refl) (status_of r) refused h.lines (map ds names) (some_refused old new r refused ((by_lines stack.step stack.finish (stack_opening.opening t (map ds names))).whole h.lines) r refl h.ran)
   did_refuse (Feed name) t ds told h =
       opening_unchanged t old new (told refl) (status_of r) refused (λ x. (by_lines feed.step feed.finish (starting feed.at_first x)).whole h.lines) (λ es v. refl) (λ es o. feed_unrefused h.lines [] o) (ds name)
       (some_refused old new r refused ((by_lines feed.step feed.finish (starting feed.at_first (opening t (ds name)))).whole h.lines) r refl h.ran)

@@ -22,10 +22,12 @@ use Rattle.plain_commands.proofs.AppliedLemmas.{did_apply}
 use Rattle.plain_commands.proofs.RefusedLemmas.{did_differ}
 use Rattle.plain_commands.proofs.StopLemmas.{did_nothing}
 use Rattle.upkeep_law.proofs.MaintainedLemmas.{did_maintain, did_cut_off}
+use Rattle.stack_law.proofs.StackedLemmas.{did_stack, did_stack_cut_off}
 use Rattle.feed_law.proofs.FedLemmas.{did_feed, did_feed_cut_off}
-use Rattle.ss_top.specs.Commands.{Asked, Check, Show, Maintain, Verify, Apply, Feed, Load, Other, asked_of, names_of, uses_store, reads_input, can_end}
-use Rattle.ss_top.specs.Runs.{Definitions, AreDefined, Request, Asks, OverEach, StepsOf, Told, of_view, course_by, course_of}
-use Rattle.ss_top.specs.Clauses.{DoesCourse, IsComplete, AnswersSome, Checks, Shows, Maintains, StopsAtSync, Feeds, FeedStopsAtSync, Verifies, TellsDifference, Applies, AppliesNothing, Loads, KeepsAll, KeepsOthers, LeavesBetween, TakesLittle, TakesEnough, TakesSteps}
+use Rattle.ss_top.specs.Commands.{Asked, Check, Show, Maintain, Verify, Apply, Stack, Feed, Load, Other, HasViews, asked_of, names_of, uses_store, reads_input, can_end}
+use Rattle.ss_top.specs.Runs.{Definitions, AreDefined, Request, Asks, OverEach, StepsOf, Told, of_view, of_views, course_by, course_of}
+use Rattle.ss_top.specs.Clauses.{DoesCourse, IsComplete, AnswersSome, Checks, Shows, Maintains, StopsAtSync, Stacks, StackStopsAtSync, Feeds, FeedStopsAtSync, Verifies, TellsDifference, Applies, AppliesNothing, Loads, KeepsAll, KeepsOthers, LeavesBetween, TakesLittle, TakesEnough, TakesSteps}
+use Rattle.ss_top.proofs.WordLemmas.{asked_views}
 use Rattle.ss_top.proofs.RefusedLemmas.{did_refuse}
 use Rattle.ss_top.proofs.KeepLemmas.{did_keep}
 use Rattle.ss_top.proofs.LeaveLemmas.{did_leave}
@@ -37,6 +39,7 @@ unheld (Show name) = refl
 unheld (Maintain name) = refl
 unheld (Verify name) = refl
 unheld (Apply name) = refl
+unheld (Stack names) = refl
 unheld (Feed name) = refl
 unheld (Load changes seed) = refl
 unheld Other = refl
@@ -50,6 +53,10 @@ module _ (words : List Text) (old : World) where
   asking : (P : Asked → Tree → Definitions → Type 0) → OverEach (asked_of words) old.store.tree (P (asked_of words)) → (q : Request) → Asks words old q → P q.asked q.tree q.definitions
   asking P each q asks =
       subst (λ (a : Asked). Told (uses_store a) old.store.tree q.tree → AreDefined (names_of a) q.tree q.definitions → P a q.tree q.definitions) (sym asks.is) (each q.tree q.definitions) asks.told asks.defined
+
+  -- where they ask for views over one another, these are some
+  asked_some : (q : Request) → Asks words old q → HasViews q.asked
+  asked_some q asks = subst HasViews (sym asks.is) (asked_views words)
 
   -- what a run did
   module _ (new : World) (r : Result Verdict Halt) where
@@ -74,7 +81,7 @@ module _ (words : List Text) (old : World) where
       ran_told ran = asking (λ a t ds. (bytes : List ℕ) → Told (reads_input a) input bytes → RanBy (course_by a t ds) bytes rest old new r) ran
 
       pub keeps_others : RanSomehow → Ran → KeepsOthers words input old new
-      keeps_others some ran q asks told = did_keep q input rest old new r told (ran_some some q asks) (λ bytes given. ran_told ran q asks bytes (λ _. given))
+      keeps_others some ran q asks told = did_keep q input rest old new r told (asked_some q asks) (ran_some some q asks) (λ bytes given. ran_told ran q asks bytes (λ _. given))
 
       pub leaves_between : RanSomehow → Ran → LeavesBetween words input old new
       leaves_between some ran q asks told = did_leave q input rest old new r told (ran_some some q asks) (λ bytes given. ran_told ran q asks bytes (λ _. given))
@@ -101,6 +108,16 @@ module _ (words : List Text) (old : World) where
           pub stops_at_sync : StopsAtSync words input rest old new (status_of r)
           stops_at_sync name t bytes d asks given gave =
               did_cut_off name t bytes d rest old new (status_of r) asks.defined.0 (asks.told refl) (whole t (asks.told refl)) gave (does_course (of_view Maintain name t d) bytes asks (λ _. given))
+
+          pub stacks : Stacks words input old new (status_of r)
+          stacks names t bytes ds asks given done =
+              did_stack names t ds bytes rest old new (status_of r)
+              (record { some = asked_some (of_views names t ds) asks; defined = asks.defined; told = asks.told refl; whole = whole t (asks.told refl); did = does_course (of_views names t ds) bytes asks (λ _. given) }) done
+
+          pub stack_stops_at_sync : StackStopsAtSync words input rest old new (status_of r)
+          stack_stops_at_sync names t bytes ds asks given gave =
+              did_stack_cut_off names t ds bytes rest old new (status_of r)
+              (record { some = asked_some (of_views names t ds) asks; defined = asks.defined; told = asks.told refl; whole = whole t (asks.told refl); did = does_course (of_views names t ds) bytes asks (λ _. given) }) gave
 
           pub feeds : Feeds words input old new (status_of r)
           feeds name t bytes d asks given done =

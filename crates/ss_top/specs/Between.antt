@@ -1,5 +1,5 @@
 -- What a run that breaks off leaves: each file and each folder is as a sync found it or as it leaves it, but for the file that was under way; and what is not written file by file is all the one or all the other.
-use Rattle.std.specs.Prelude.{◌≡◌, ℕ, List, [], ◌∷◌, Option, Some}
+use Rattle.std.specs.Prelude.{◌≡◌, ℕ, List, [], ◌∷◌, map, Option, Some}
 use Rattle.tab_lines.specs.Lines.{lines_of}
 use Rattle.outside.specs.Tree.{Tree}
 use Rattle.effects.specs.Effects.{Effect, World}
@@ -7,14 +7,17 @@ use Rattle.view_stages.specs.Opening.{opening}
 use Rattle.view_stages.specs.Places.{Exempt}
 use Rattle.view_stages.specs.Between.{StopsIn}
 use Rattle.upkeep_law.specs.Behind.{stages_from}
+use Rattle.stack_answers.specs.Opening as stack_opening
+use Rattle.stack_law.specs.Behind.{stack_stages_from}
 use Rattle.feed_law.specs.Behind.{feed_stages_from}
-use Rattle.ss_top.specs.Commands.{Asked, Maintain, Apply, Feed, names_of}
+use Rattle.ss_top.specs.Commands.{Asked, Maintain, Apply, Stack, Feed, names_of}
 use Rattle.ss_top.specs.Runs.{Definitions, Request, course_by}
 use Rattle.ss_top.specs.Promises.{views_exempt}
 
--- the stages of a command over these lines: but for `maintain` and `feed` there is one, which makes one sync, or none
+-- the stages of a command over these lines: but for `maintain`, `stack` and `feed` there is one, which makes one sync, or none
 abbrev pub stages_by : Asked → Tree → Definitions → List (List ℕ) → List (List Effect)
 stages_by (Maintain name) t ds lines = stages_from (opening t (ds name)) lines
+stages_by (Stack names) t ds lines = stack_stages_from (stack_opening.opening t (map ds names)) lines
 stages_by (Feed name) t ds lines = feed_stages_from (opening t (ds name)) lines
 stages_by asked t ds lines = ((course_by asked t ds).whole lines).effects ∷ []
 

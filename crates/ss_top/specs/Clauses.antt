@@ -1,5 +1,5 @@
 -- The promises of `run`, each over the words, what was left of the input, the outside and the status. What the words ask is a request; most promises are about one of a command with one view.
-use Rattle.std.specs.Prelude.{◌≡◌, ◌≢◌, ℕ, ◌<◌, true, false, List, length, Option, Some}
+use Rattle.std.specs.Prelude.{◌≡◌, ◌≢◌, ℕ, ◌<◌, true, false, List, length, map, Option, Some}
 use Rattle.ss_text.specs.Texts.{Text}
 use Rattle.tab_lines.specs.Lines.{lines_of}
 use Rattle.tab_lines.specs.Taking.{most_taken}
@@ -14,9 +14,10 @@ use Rattle.plain_commands.specs.Applies.{IsApplied}
 use Rattle.plain_commands.specs.Loads.{IsLoaded}
 use Rattle.plain_commands.specs.Promises.{IsChecked, IsShown, IsVerified, Differs}
 use Rattle.upkeep_law.specs.Promises.{IsMaintained, IsCutOff}
+use Rattle.stack_law.specs.Promises.{AreMaintained, AreCutOff}
 use Rattle.feed_law.specs.Promises.{IsFed, IsFedCutOff}
 use Rattle.ss_top.specs.Commands.{Check, Show, Maintain, Verify, Apply, Feed, Load, asked_of, reads_input}
-use Rattle.ss_top.specs.Runs.{Request, Asks, Told, StepsOf, of_view, course_of}
+use Rattle.ss_top.specs.Runs.{Definitions, Request, Asks, Told, StepsOf, of_view, of_views, course_of}
 use Rattle.ss_top.specs.Between.{IsLeftBetween}
 use Rattle.ss_top.specs.Promises.{KeepsBut}
 
@@ -49,6 +50,18 @@ abbrev pub StopsAtSync : List Text → Option (List ℕ) → Option (List ℕ) �
 StopsAtSync words input rest old new s =
     (name : Text) (t : Tree) (bytes : List ℕ) (d : DefinitionOrRefusal) → Asks words old (of_view Maintain name t d) → input ≡ Some bytes
     → GaveOutStatus old new s → IsCutOff d t bytes rest old new
+
+-- `stack` is done where each level is kept up to date over the one below, over all lines of the input
+abbrev pub Stacks : List Text → Option (List ℕ) → World → World → Status → Type 0
+Stacks words input old new s =
+    (names : List Text) (t : Tree) (bytes : List ℕ) (ds : Definitions) → Asks words old (of_views names t ds) → input ≡ Some bytes
+    → is_done_status s ≡ true → AreMaintained (map ds names) t (lines_of bytes) old new s
+
+-- where its input gave out, so it is up to the last sync
+abbrev pub StackStopsAtSync : List Text → Option (List ℕ) → Option (List ℕ) → World → World → Status → Type 0
+StackStopsAtSync words input rest old new s =
+    (names : List Text) (t : Tree) (bytes : List ℕ) (ds : Definitions) → Asks words old (of_views names t ds) → input ≡ Some bytes
+    → GaveOutStatus old new s → AreCutOff (map ds names) t bytes rest old new
 
 -- `feed` is done where the changes of each source were handled in turn over all lines of the input, and the view is kept up to date
 abbrev pub Feeds : List Text → Option (List ℕ) → World → World → Status → Type 0
@@ -94,11 +107,11 @@ ReadsWhole words input rest s = (bytes : List ℕ) → reads_input (asked_of wor
 abbrev pub KeepsAll : List Text → World → World → Status → Type 0
 KeepsAll words old new s = (r : Request) → Asks words old r → is_refused_status s ≡ true → Unchanged old new
 
--- whatever the status, only the `.csv` files of the view's folder are changed, and the sources that accepted changes named
+-- whatever the status, only the `.csv` files of the folders of the views are changed, and the sources that accepted changes named
 abbrev pub KeepsOthers : List Text → Option (List ℕ) → World → World → Type 0
 KeepsOthers words input old new = (r : Request) → Asks words old r → old.store.tree ≡ Some r.tree → KeepsBut r input new
 
--- wherever a run ends or breaks off, all files and folders but the view's own are as a sync found them, or all are as it leaves them; each of the view's own is the one or the other, but for a file that was being written or removed; and in `apply` they too are all the one or all the other
+-- wherever a run ends or breaks off, all files and folders but the views' own are as a sync found them, or all are as it leaves them; each of the views' own is the one or the other, but for a file that was being written or removed; and in `apply` they too are all the one or all the other
 abbrev pub LeavesBetween : List Text → Option (List ℕ) → World → World → Type 0
 LeavesBetween words input old new = (r : Request) → Asks words old r → old.store.tree ≡ Some r.tree → IsLeftBetween r input new
 

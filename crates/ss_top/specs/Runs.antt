@@ -1,5 +1,5 @@
 -- What words ask of a store, and the course of a run that does it.
-use Rattle.std.specs.Prelude.{◌≡◌, Bool, true, List, [], ◌∷◌, Option, Some, ℕ}
+use Rattle.std.specs.Prelude.{◌≡◌, Bool, true, List, [], ◌∷◌, map, Option, Some, ℕ}
 use Rattle.std.specs.List.{AllByRecursion}
 use Rattle.ss_text.specs.Texts.{Text}
 use Rattle.outside.specs.Tree.{Tree}
@@ -13,13 +13,15 @@ use Rattle.view_stages.specs.Opening.{IsDefinition, definition_bytes, opening, d
 use Rattle.view_answers.specs.Answers.{step, finish}
 use Rattle.view_answers.specs.Limits.{StepsBehind, StepsBy}
 use Rattle.view_answers.specs.Steps.{starting}
+use Rattle.stack_answers.specs.Answers as stack
+use Rattle.stack_answers.specs.Opening as stack_opening
 use Rattle.feed_answers.specs.Answers as feed
 use Rattle.feed_answers.specs.Limits as feed_limit
 use Rattle.plain_commands.specs.Checking.{checked}
 use Rattle.plain_commands.specs.Verifying.{verified}
 use Rattle.plain_commands.specs.Loads.{loaded}
 use Rattle.plain_commands.specs.Applies.{apply_opening}
-use Rattle.ss_top.specs.Commands.{Asked, Check, Show, Maintain, Verify, Apply, Feed, Load, Other, asked_of, names_of, prints_usage, uses_store}
+use Rattle.ss_top.specs.Commands.{Asked, Check, Show, Maintain, Verify, Apply, Stack, Feed, Load, Other, asked_of, names_of, prints_usage, uses_store}
 
 -- what each name is defined as
 abbrev pub Definitions : Type 0
@@ -38,6 +40,10 @@ pub record Request : Type 0 where
 -- a command of one view, which has this definition
 abbrev pub of_view : (Text → Asked) → Text → Tree → DefinitionOrRefusal → Request
 of_view command name t d = record { asked = command name; tree = t; definitions = λ _. d }
+
+-- `stack` of these names, which have these definitions
+abbrev pub of_views : List Text → Tree → Definitions → Request
+of_views names t ds = record { asked = Stack names; tree = t; definitions = ds }
 
 -- the content is told, where it is wanted
 abbrev pub Told : {A : Type 0} → Bool → Option A → A → Type 0
@@ -60,6 +66,7 @@ course_by (Show name) t ds = unread (ending done_at_once (opening t (ds name)))
 course_by (Maintain name) t ds = by_lines step finish (opening t (ds name))
 course_by (Verify name) t ds = unread (verified t (ds name))
 course_by (Apply name) t ds = by_lines applying.step applying.finish (apply_opening t (ds name))
+course_by (Stack names) t ds = by_lines stack.step stack.finish (stack_opening.opening t (map ds names))
 course_by (Feed name) t ds = by_lines feed.step feed.finish (starting feed.at_first (opening t (ds name)))
 course_by (Load changes seed) t ds = unread (loaded changes seed)
 course_by Other t ds = unread (record { effects = prints_usage ∷ []; status = verdict.Usage })

@@ -1,6 +1,8 @@
 //! What the words ask for.
 ghost use Rattle.std.specs.Prelude.{◌≡◌};
-ghost use Rattle.ss_top.specs.Commands.{asked_of, asked_by, command_named, command_counted};
+ghost use Rattle.std.specs.List.{list_all};
+ghost use Rattle.ss_text.specs.Label.{is_table_label};
+ghost use Rattle.ss_top.specs.Commands.{asked_of, asked_by, command_named, command_counted, are_some_levels, are_levels, stack_of};
 
 use load_run::{changes_of, seed_of};
 use ss_text::{Text, table_label_legal};
@@ -13,6 +15,7 @@ pub(crate) enum Command<'a> {
     Maintain(&'a Text),
     Verify(&'a Text),
     Apply(&'a Text),
+    Stack(&'a [Text]),
     Feed(&'a Text),
     Load { changes: u32, seed: u32 },
     Other,
@@ -24,8 +27,8 @@ pub(crate) fn command_of(words: &[Text]) -> Command<'_>
 {
     match words {
         [word, name] if table_label_legal(name) => named(word, name),
-        [word, changes, seed] => counted(word, changes, seed),
-        _ => Command::Other,
+        [word, changes, seed] if word.as_slice() == b"load".as_slice() => counted(changes, seed),
+        _ => stacked(words),
     }
 }
 
@@ -51,15 +54,43 @@ fn named<'a>(word: &Text, name: &'a Text) -> Command<'a>
     }
 }
 
-// A word with two numbers.
-fn counted(word: &Text, changes: &Text, seed: &Text) -> Command<'static>
-    ensures { asked_by result ≡ command_counted word.now changes.now seed.now }
+// `load` with two numbers.
+fn counted(changes: &Text, seed: &Text) -> Command<'static>
+    ensures { asked_by result ≡ command_counted changes.now seed.now }
 {
-    if word.as_slice() != b"load".as_slice() {
-        return Command::Other;
-    }
     match (changes_of(changes), seed_of(seed)) {
         (Some(changes), Some(seed)) => Command::Load { changes, seed },
         _ => Command::Other,
     }
+}
+
+// `stack` with the names of its levels.
+fn stacked(words: &[Text]) -> Command<'_>
+    ensures { asked_by result ≡ stack_of words.now }
+{
+    match words.split_first() {
+        Some((word, names)) if legal_levels(names) && word.as_slice() == b"stack".as_slice() => {
+            Command::Stack(names)
+        }
+        _ => Command::Other,
+    }
+}
+
+// Whether these are names of views over one another: two to eight, each legal.
+fn legal_levels(names: &[Text]) -> bool
+    ensures { result ≡ are_levels names.now }
+{
+    are_some_levels(names.len()) && all_legal(names)
+}
+
+fn are_some_levels(count: usize) -> bool
+    ensures { result ≡ are_some_levels count }
+{
+    2 <= count && count <= 8
+}
+
+fn all_legal(names: &[Text]) -> bool
+    ensures { result ≡ list_all is_table_label names.now }
+{
+    names.iter().all(|name| table_label_legal(name))
 }

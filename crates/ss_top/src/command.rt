@@ -4,7 +4,7 @@ ghost use Rattle.effects.specs.Effects.{world_of};
 ghost use Rattle.outside.specs.Reading.{OnlyRead};
 ghost use Rattle.tab_lines.specs.Lines.{lines_of};
 ghost use Rattle.course.specs.Answering.{BlamesRun, is_too_long};
-ghost use Rattle.ss_top.specs.Commands.{asked_by, uses_store, only_reads, reads_input, counts, can_end};
+ghost use Rattle.ss_top.specs.Commands.{HasViews, asked_by, uses_store, only_reads, reads_input, counts, can_end};
 ghost use Rattle.run_course.specs.Course.{RanBy, RanSome, Took, TookEnough, status_of, IsWholeInput};
 ghost use Rattle.ss_top.specs.Runs.{OverEach, StepsOf, Told, course_by};
 ghost use Rattle.run_course.specs.Idle.{IdleRun};
@@ -16,6 +16,7 @@ use feed_answers::feed;
 use outside::{Folders, Sink, Source};
 use plain_commands::{apply, check, load, show, verify};
 use ss_text::Steps;
+use stack_answers::stack;
 use std::alloc::Global;
 use std::sync::ledger::Ledger;
 use view_answers::maintain;
@@ -30,6 +31,7 @@ pub(crate) fn run_command<F: Folders, S: Source, K: Sink, L: Ledger>(
     output: &mut K,
     steps: &mut Steps<L>,
 ) -> Result<Verdict, Halt>
+    requires { HasViews (asked_by command) }
     ensures ran { OverEach (asked_by command.entry) (F.state store.old).tree (λ t ds. (bytes : List ℕ) → Told (reads_input (asked_by command.entry)) (S.rest input.old) bytes
         → RanBy (course_by (asked_by command.entry) t ds) bytes (S.rest input.new) (world_of (F.state store.old) (K.state output.old)) (world_of (F.state store.new) (K.state output.new)) result) }
     ensures blames { BlamesRun (S.faults input.old) (S.faults input.new) (world_of (F.state store.old) (K.state output.old)) (world_of (F.state store.new) (K.state output.new)) result }
@@ -68,6 +70,7 @@ pub(crate) fn run_command<F: Folders, S: Source, K: Sink, L: Ledger>(
             Ok(verdict)
         }
         Command::Apply(name) => apply(alloc, store, input, output, name, steps),
+        Command::Stack(names) => stack(alloc, store, input, output, names, steps),
         Command::Feed(name) => feed(alloc, store, input, output, name, steps),
         Command::Load { changes, seed } => {
             let verdict = load(alloc, store, output, changes, seed, steps)?;

@@ -6,7 +6,7 @@ ghost use Rattle.effects.specs.Effects.{world_of};
 ghost use Rattle.ss_top.specs.Commands.{asked_of, names_of, uses_store, only_reads, reads_input, counts, can_end};
 ghost use Rattle.run_course.specs.Course.{Cause};
 ghost use Rattle.ss_top.specs.Runs.{Definitions, AreDefined, Request, Asks, course_of};
-ghost use Rattle.ss_top.specs.Clauses.{DoesCourse, IsComplete, AnswersSome, Checks, Shows, Maintains, StopsAtSync, Feeds, FeedStopsAtSync, Verifies, TellsDifference, Applies, AppliesNothing, Loads, ReadsWhole, KeepsAll, KeepsOthers, LeavesBetween, TakesLittle, TakesEnough, TakesSteps};
+ghost use Rattle.ss_top.specs.Clauses.{DoesCourse, IsComplete, AnswersSome, Checks, Shows, Maintains, StopsAtSync, Stacks, StackStopsAtSync, Feeds, FeedStopsAtSync, Verifies, TellsDifference, Applies, AppliesNothing, Loads, ReadsWhole, KeepsAll, KeepsOthers, LeavesBetween, TakesLittle, TakesEnough, TakesSteps};
 
 use crate::asked::command_of;
 use crate::command::run_command;
@@ -16,18 +16,19 @@ use ss_text::{Steps, Text};
 use std::alloc::Global;
 use std::sync::ledger::Ledger;
 
-/// Runs the command that the words ask for, `check NAME`, `show NAME`, `maintain NAME`, `verify NAME`, `apply NAME` or
-/// `feed NAME`, over the folders `defs`, `sources` and `views` of a store, or `load N SEED`, which uses neither store nor input. What is answered and what is refused are lines of the output.
+/// Runs the command that the words ask for, `check NAME`, `show NAME`, `maintain NAME`, `verify NAME`, `apply NAME`,
+/// `stack NAME NAME ..` or `feed NAME`, over the folders `defs`, `sources` and `views` of a store, or `load N SEED`, which
+/// uses neither store nor input. What is answered and what is refused are lines of the output.
 ///
 /// The status says which kind of end it was. After a fault the output holds a front of the answers, and all sources are
 /// as the sync under way found them, or all are as it leaves them, and so are the files of a view under `apply`. Of the
-/// files of a view under `show`, `maintain` and `feed` each is the one or the other, but for one that was being written or
-/// removed.
+/// files of the views under `show`, `maintain`, `stack` and `feed` each is the one or the other, but for one that was being
+/// written or removed.
 ///
-/// Steps are counted by `maintain`, `feed` and `load` alone. Over input whose changes are inserts and deletes outside
-/// groups, `maintain` and `feed` take no more of them than the sum, over the changes that the catalogue does not refuse, of
-/// four for each combination of flat rows that the changed row is part of and four for each such flat row. So it is
-/// however the run ends.
+/// Steps are counted by `maintain`, `stack`, `feed` and `load` alone. Over input whose changes are inserts and deletes
+/// outside groups, `maintain` and `feed` take no more of them than the sum, over the changes that the catalogue does not
+/// refuse, of four for each combination of flat rows that the changed row is part of and four for each such flat row. So
+/// it is however the run ends.
 #[tactic(auto, using(run_course::proofs::RunLemmas::by_status))]
 pub fn run<F: Folders, S: Source, K: Sink, L: Ledger>(
     alloc: Global,
@@ -53,6 +54,9 @@ pub fn run<F: Folders, S: Source, K: Sink, L: Ledger>(
     ensures shown { Shows words.now (world_of (F.state store.old) (K.state output.old)) (world_of (F.state store.new) (K.state output.new)) result }
     ensures maintained { Maintains words.now (S.rest input.old) (world_of (F.state store.old) (K.state output.old)) (world_of (F.state store.new) (K.state output.new)) result }
     ensures cut_off { StopsAtSync words.now (S.rest input.old) (S.rest input.new) (world_of (F.state store.old) (K.state output.old)) (world_of (F.state store.new) (K.state output.new)) result }
+    ensures stacked { Stacks words.now (S.rest input.old) (world_of (F.state store.old) (K.state output.old)) (world_of (F.state store.new) (K.state output.new)) result }
+    ensures stack_cut_off { StackStopsAtSync words.now (S.rest input.old) (S.rest input.new)
+        (world_of (F.state store.old) (K.state output.old)) (world_of (F.state store.new) (K.state output.new)) result }
     ensures fed { Feeds words.now (S.rest input.old) (world_of (F.state store.old) (K.state output.old)) (world_of (F.state store.new) (K.state output.new)) result }
     ensures fed_cut_off { FeedStopsAtSync words.now (S.rest input.old) (S.rest input.new)
         (world_of (F.state store.old) (K.state output.old)) (world_of (F.state store.new) (K.state output.new)) result }

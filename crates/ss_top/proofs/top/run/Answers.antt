@@ -1,8 +1,12 @@
 use Rattle.run_course.proofs.RunLemmas.{by_cause}
 use Rattle.ss_top.specs.Commands.{asked_of, names_of}
 use Rattle.ss_top.proofs.DefinedLemmas.{all_defined}
-use Rattle.ss_top.proofs.TopLemmas.{not_held_up, does_course, is_complete, checks, shows, maintains, stops_at_sync, feeds, feed_stops_at_sync, verifies, prints_difference, applies, applies_nothing, loads, keeps_all, answers_some, keeps_others, leaves_between, takes_little, takes_enough, alone_by, takes_steps}
+use Rattle.ss_top.proofs.WordLemmas.{asked_views}
+use Rattle.ss_top.proofs.TopLemmas.{not_held_up, does_course, is_complete, checks, shows, maintains, stops_at_sync, stacks, stack_stops_at_sync, feeds, feed_stops_at_sync, verifies, prints_difference, applies, applies_nothing, loads, keeps_all, answers_some, keeps_others, leaves_between, takes_little, takes_enough, alone_by, takes_steps}
 use Rattle.ss_top.proofs.top.run.Goals as goal
+
+pub run_command-ending-requires : goal.run_command-ending-requires
+run_command-ending-requires g c = rw c.command_of-command.ensures (asked_views c.args.words.now)
 
 pub returns-clause-defined : goal.returns-clause-defined
 returns-clause-defined g c = λ t. all_defined (names_of (asked_of c.args.words.now)) t
@@ -30,6 +34,12 @@ returns-clause-maintained g c = rw c.status_of_ending.ensures (maintains c.args.
 
 pub returns-clause-cut_off : goal.returns-clause-cut_off
 returns-clause-cut_off g c = rw c.status_of_ending.ensures (stops_at_sync c.args.words.now _ _ c.run_command-ending.result _ _ _ _ (rw c.command_of-command.ensures at c.run_command-ending.ensures.ran) c.run_command-ending.ensures.blames c.run_command-ending.ensures.idle (λ t told. g.met.F.Folders.whole _ t told))
+
+pub returns-clause-stacked : goal.returns-clause-stacked
+returns-clause-stacked g c = rw c.status_of_ending.ensures (stacks c.args.words.now _ _ c.run_command-ending.result _ _ _ _ (rw c.command_of-command.ensures at c.run_command-ending.ensures.ran) c.run_command-ending.ensures.blames c.run_command-ending.ensures.idle (λ t told. g.met.F.Folders.whole _ t told))
+
+pub returns-clause-stack_cut_off : goal.returns-clause-stack_cut_off
+returns-clause-stack_cut_off g c = rw c.status_of_ending.ensures (stack_stops_at_sync c.args.words.now _ _ c.run_command-ending.result _ _ _ _ (rw c.command_of-command.ensures at c.run_command-ending.ensures.ran) c.run_command-ending.ensures.blames c.run_command-ending.ensures.idle (λ t told. g.met.F.Folders.whole _ t told))
 
 pub returns-clause-fed : goal.returns-clause-fed
 returns-clause-fed g c = rw c.status_of_ending.ensures (feeds c.args.words.now _ _ c.run_command-ending.result _ _ _ _ (rw c.command_of-command.ensures at c.run_command-ending.ensures.ran) c.run_command-ending.ensures.blames c.run_command-ending.ensures.idle (λ t told. g.met.F.Folders.whole _ t told))
