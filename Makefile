@@ -34,12 +34,13 @@ try: $(UNPROVED)
 	@echo
 	@echo "\`make\` proves the program."
 
-# The same by the proved program, over changes too; the sales of some months in one table; and two shops whose lines are
-# lost, repeated and out of order.
+# The same by the proved program, over changes too; the sales of some months in one table; two shops whose lines are lost,
+# repeated and out of order; and a view over a view.
 demo: $(PROGRAM)
 	examples/offices/run $(PROGRAM)
 	examples/months/run $(PROGRAM)
 	examples/feed/run $(PROGRAM)
+	examples/stack/run $(PROGRAM)
 
 # The one test command: the gate.
 test:
