@@ -1,0 +1,162 @@
+-- The elements of lists: what is in lists that are made of others, and lists that have the same elements.
+use Rattle.std.proofs.Common.{◌≡◌, ◌||◌, ◌∙◌, ◌⊎◌, inl, inr, Bool, true, false, cond, List, [], ◌∷◌, ◌++◌, map, refl, sym, ap, subst}
+use Rattle.std.specs.Prelude.{filter, flat_map}
+use Rattle.std.specs.List.{list_any, list_all, AllByRecursion}
+use Rattle.std.specs.declared.cmp.Ordering.{Ordering}
+use Rattle.ss_text.specs.Ascending.{ascending}
+use Rattle.ss_text.proofs.KeyLemmas.{IsKeyOrder, equal_itself, equal_is}
+use Rattle.ss_text.proofs.PairLemmas.{any_ascending}
+use Rattle.ss_text.proofs.SetLemmas.{SameElements}
+use Rattle.view_stack.proofs.SaysLemmas.{or_right}
+
+abbrev pub In : {A : Type 0} → A → List A → Type 0
+In x [] = ⊥
+In x (y ∷ ys) = (x ≡ y) ⊎ In x ys
+
+any_or : (b c : Bool) → (b || c) ≡ true → (b ≡ true) ⊎ (c ≡ true)
+any_or true c h = inl refl
+any_or false c h = inr h
+
+pub in_any : {A : Type 0} (p : A → Bool) (x : A) (xs : List A) → In x xs → p x ≡ true → list_any p xs ≡ true
+in_any p x [] i h = absurd i
+in_any p x (y ∷ ys) (inl e) h = ap (λ (b : Bool). b || list_any p ys) (ap p (sym e) ∙ h)
+in_any p x (y ∷ ys) (inr i) h = ap (λ (b : Bool). p y || b) (in_any p x ys i h) ∙ or_right (p y)
+
+pub any_in : {A : Type 0} (p : A → Bool) (xs : List A) → list_any p xs ≡ true → (x : A) × In x xs × (p x ≡ true)
+any_in p [] h = absurd (cc)
+any_in {A} p (y ∷ ys) h = by_first (any_or (p y) (list_any p ys) h) (any_in p ys)
+  where
+    by_first : (p y ≡ true) ⊎ (list_any p ys ≡ true) → (list_any p ys ≡ true → (x : A) × In x ys × (p x ≡ true)) → (x : A) × In x (y ∷ ys) × (p x ≡ true)
+    by_first (inl e) rest = (y, inl refl, e)
+    by_first (inr e) rest = let r = rest e in (r.0, inr r.1, r.2)
+
+pub both_true : (a b : Bool) → (a ≡ true → b ≡ true) → (b ≡ true → a ≡ true) → a ≡ b
+both_true true true f g = refl
+both_true true false f g = sym (f refl)
+both_true false true f g = g refl
+both_true false false f g = refl
+
+-- lists of which each has the elements of the other
+pub same_by : {A : Type 0} (xs ys : List A) → ((x : A) → In x xs → In x ys) → ((x : A) → In x ys → In x xs) → SameElements xs ys
+same_by xs ys f g = record { same = λ p. both_true (list_any p xs) (list_any p ys) (half p xs ys f) (half p ys xs g) }
+  where
+    half : {A : Type 0} (p : A → Bool) (xs ys : List A) → ((x : A) → In x xs → In x ys) → list_any p xs ≡ true → list_any p ys ≡ true
+    half p xs ys f h = let found = any_in p xs h in in_any p found.0 ys (f found.0 found.1) found.2
+
+pub in_all : {A : Type 0} (P : A → Type 0) (x : A) (xs : List A) → In x xs → AllByRecursion P xs → P x
+in_all P x [] i h = absurd i
+in_all P x (y ∷ ys) (inl e) h = subst P (sym e) h.0
+in_all P x (y ∷ ys) (inr i) h = in_all P x ys i h.1
+
+pub all_by : {A : Type 0} (P : A → Type 0) (xs : List A) → ((x : A) → In x xs → P x) → AllByRecursion P xs
+all_by P [] h = tt
+all_by P (x ∷ xs) h = (h x (inl refl), all_by P xs (λ y i. h y (inr i)))
+
+pub all_of : {A : Type 0} (P : A → Type 0) → ((x : A) → P x) → (xs : List A) → AllByRecursion P xs
+all_of P h [] = tt
+all_of P h (x ∷ xs) = (h x, all_of P h xs)
+
+pub all_append : {A : Type 0} (P : A → Type 0) (xs ys : List A) → AllByRecursion P xs → AllByRecursion P ys → AllByRecursion P (xs ++ ys)
+all_append P [] ys h k = k
+all_append P (x ∷ xs) ys h k = (h.0, all_append P xs ys h.1 k)
+
+pub all_flat : {A B : Type 0} (P : B → Type 0) (f : A → List B) (xs : List A) → AllByRecursion (λ x. AllByRecursion P (f x)) xs → AllByRecursion P (flat_map f xs)
+all_flat P f [] h = tt
+all_flat P f (x ∷ xs) h = all_append P (f x) (flat_map f xs) h.0 (all_flat P f xs h.1)
+
+pub list_all_by : {A : Type 0} (p : A → Bool) (xs : List A) → ((x : A) → In x xs → p x ≡ true) → list_all p xs ≡ true
+list_all_by p [] h = refl
+list_all_by p (x ∷ xs) h = rw (h x (inl refl)) (list_all_by p xs (λ y i. h y (inr i)))
+
+pub in_map : {A B : Type 0} (f : A → B) (x : A) (xs : List A) → In x xs → In (f x) (map f xs)
+in_map f x [] i = absurd i
+in_map f x (y ∷ ys) (inl e) = inl (ap f e)
+in_map f x (y ∷ ys) (inr i) = inr (in_map f x ys i)
+
+pub map_in : {A B : Type 0} (f : A → B) (y : B) (xs : List A) → In y (map f xs) → (x : A) × In x xs × (y ≡ f x)
+map_in f y [] i = absurd i
+map_in f y (x ∷ xs) (inl e) = (x, inl refl, e)
+map_in f y (x ∷ xs) (inr i) = let r = map_in f y xs i in (r.0, inr r.1, r.2)
+
+pub in_append : {A : Type 0} (x : A) (xs ys : List A) → In x xs ⊎ In x ys → In x (xs ++ ys)
+in_append x [] ys (inl i) = absurd i
+in_append x [] ys (inr i) = i
+in_append x (y ∷ xs) ys (inl (inl e)) = inl e
+in_append x (y ∷ xs) ys (inl (inr i)) = inr (in_append x xs ys (inl i))
+in_append x (y ∷ xs) ys (inr i) = inr (in_append x xs ys (inr i))
+
+pub append_in : {A : Type 0} (x : A) (xs ys : List A) → In x (xs ++ ys) → In x xs ⊎ In x ys
+append_in x [] ys i = inr i
+append_in x (y ∷ xs) ys (inl e) = inl (inl e)
+append_in x (y ∷ xs) ys (inr i) = elim (append_in x xs ys i) [ inl j ↦ inl (inr j) | inr j ↦ inr j ]
+
+pub flat_in : {A B : Type 0} (f : A → List B) (xs : List A) (y : B) → In y (flat_map f xs) → (x : A) × In x xs × In y (f x)
+flat_in f [] y i = absurd i
+flat_in {A} f (x ∷ xs) y i = by_part (append_in y (f x) (flat_map f xs) i) (flat_in f xs y)
+  where
+    by_part : In y (f x) ⊎ In y (flat_map f xs) → (In y (flat_map f xs) → (z : A) × In z xs × In y (f z)) → (z : A) × In z (x ∷ xs) × In y (f z)
+    by_part (inl j) rest = (x, inl refl, j)
+    by_part (inr j) rest = let r = rest j in (r.0, inr r.1, r.2)
+
+pub in_flat : {A B : Type 0} (f : A → List B) (xs : List A) (x : A) (y : B) → In x xs → In y (f x) → In y (flat_map f xs)
+in_flat f [] x y i j = absurd i
+in_flat f (z ∷ xs) x y (inl e) j = in_append y (f z) (flat_map f xs) (inl (subst (λ a. In y (f a)) e j))
+in_flat f (z ∷ xs) x y (inr i) j = in_append y (f z) (flat_map f xs) (inr (in_flat f xs x y i j))
+
+pub in_kept : {A : Type 0} (p : A → Bool) (xs : List A) (x : A) → In x xs → p x ≡ true → In x (filter p xs)
+in_kept p [] x i h = absurd i
+in_kept p (y ∷ ys) x i h = by_first (p y) refl i (λ j. in_kept p ys x j h)
+  where
+    by_first : (b : Bool) → p y ≡ b → (x ≡ y) ⊎ In x ys → (In x ys → In x (filter p ys)) → In x (cond b (y ∷ filter p ys) (filter p ys))
+    by_first true e (inl s) rest = inl s
+    by_first true e (inr j) rest = inr (rest j)
+    by_first false e (inl s) rest = let bad : true ≡ false = sym h ∙ ap p s ∙ e in absurd (cc)
+    by_first false e (inr j) rest = rest j
+
+pub kept_in : {A : Type 0} (p : A → Bool) (xs : List A) (x : A) → In x (filter p xs) → In x xs × (p x ≡ true)
+kept_in p [] x i = absurd i
+kept_in p (y ∷ ys) x i = by_first (p y) refl i (kept_in p ys x)
+  where
+    by_first : (b : Bool) → p y ≡ b → In x (cond b (y ∷ filter p ys) (filter p ys)) → (In x (filter p ys) → In x ys × (p x ≡ true)) → ((x ≡ y) ⊎ In x ys) × (p x ≡ true)
+    by_first true e (inl s) rest = (inl s, ap p s ∙ e)
+    by_first true e (inr j) rest = let r = rest j in (inr r.0, r.1)
+    by_first false e j rest = let r = rest j in (inr r.0, r.1)
+
+-- each once, ascending
+module _ {K : Type 0} {R : K → K → Ordering} {E : K → K → Bool} (o : IsKeyOrder R E) where
+  pub found_in : (k : K) (ks : List K) → list_any (E k) ks ≡ true → In k ks
+  found_in k ks h = let found = any_in (E k) ks h in subst (λ (j : K). In j ks) (sym (equal_is o k found.0 found.2)) found.1
+
+  pub in_ascending : (k : K) (ks : List K) → In k ks → In k (ascending R ks)
+  in_ascending k ks i = found_in k (ascending R ks) (any_ascending o k ks ∙ in_any (E k) k ks i (equal_itself o k))
+
+  pub ascending_in : (k : K) (ks : List K) → In k (ascending R ks) → In k ks
+  ascending_in k ks i = found_in k ks (sym (any_ascending o k ks) ∙ in_any (E k) k (ascending R ks) i (equal_itself o k))
+
+-- what stands under each label, each once, and the labels once each: the elements stay
+module _ {A B K L : Type 0} {R : K → K → Ordering} {E : K → K → Bool} {S : L → L → Ordering} {F : L → L → Bool} (keys : IsKeyOrder R E) (labels : IsKeyOrder S F) (key : A → K) (label : A → L) (back : L → K → B) where
+  abbrev pub under_labels : List A → List B
+  under_labels xs = flat_map (λ (l : L). map (back l) (ascending R (map key (filter (λ (x : A). F l (label x)) xs)))) (ascending S (map label xs))
+
+  pub regrouped : (xs : List A) → SameElements (under_labels xs) (map (λ (x : A). back (label x) (key x)) xs)
+  regrouped xs = same_by (under_labels xs) (map (λ (x : A). back (label x) (key x)) xs) out again
+    where
+      own : L → List A
+      own l = filter (λ (x : A). F l (label x)) xs
+
+      out : (y : B) → In y (under_labels xs) → In y (map (λ (x : A). back (label x) (key x)) xs)
+      out y i =
+          let l = flat_in (λ (l : L). map (back l) (ascending R (map key (filter (λ (x : A). F l (label x)) xs)))) (ascending S (map label xs)) y i in
+          let k = map_in (back l.0) y (ascending R (map key (filter (λ (x : A). F l.0 (label x)) xs))) l.2 in
+          let x = map_in key k.0 (filter (λ (x : A). F l.0 (label x)) xs) (ascending_in keys k.0 (map key (filter (λ (x : A). F l.0 (label x)) xs)) k.1) in
+          let kept = kept_in (λ (x : A). F l.0 (label x)) xs x.0 x.1 in
+          let is : y ≡ back (label x.0) (key x.0) = k.2 ∙ (λ i. back (equal_is labels l.0 (label x.0) kept.1 i) (x.2 i)) in
+          subst (λ (z : B). In z (map (λ (x : A). back (label x) (key x)) xs)) (sym is) (in_map (λ (x : A). back (label x) (key x)) x.0 xs kept.0)
+
+      again : (y : B) → In y (map (λ (x : A). back (label x) (key x)) xs) → In y (under_labels xs)
+      again y i =
+          let x = map_in (λ (x : A). back (label x) (key x)) y xs i in
+          let there = in_map key x.0 (filter (λ (z : A). F (label x.0) (label z)) xs) (in_kept (λ (z : A). F (label x.0) (label z)) xs x.0 x.1 (equal_itself labels (label x.0))) in
+          let row = in_map (back (label x.0)) (key x.0) (ascending R (map key (filter (λ (z : A). F (label x.0) (label z)) xs))) (in_ascending keys (key x.0) (map key (filter (λ (z : A). F (label x.0) (label z)) xs)) there) in
+          subst (λ (z : B). In z (under_labels xs)) (sym x.2)
+          (in_flat (λ (l : L). map (back l) (ascending R (map key (filter (λ (x : A). F l (label x)) xs)))) (ascending S (map label xs)) (label x.0) (back (label x.0) (key x.0)) (in_ascending labels (label x.0) (map label xs) (in_map label x.0 xs x.1)) row)
