@@ -1,0 +1,16 @@
+use Rattle.std.proofs.Common.{◌∙◌, Ok, sym}
+use Rattle.effects.specs.Effects.{world_of}
+use Rattle.view_def.specs.Query.{query_of}
+use Rattle.journal_answers.proofs.OpeningLemmas.{opened_loaded}
+use Rattle.journal_answers.proofs.opening.open_defined.Goals as goal
+
+pub returns-in_ok-opened-in-Catalogue-clause-opens : goal.returns-in_ok-opened-in-Catalogue-clause-opens
+returns-in_ok-opened-in-Catalogue-clause-opens g c = λ t held told kept.
+    let printed = g.K.Sink.state c.args.output.now in
+    let read = c.in_ok-fields.ensures in
+    let told_as = read.told t told in
+    let loaded = rw c.in-Catalogue.is at told_as in
+    opened_loaded t held.bytes (query_of c.args.definition.view.value) c.in-Catalogue.catalogue.databases
+    (world_of (g.F.Folders.state c.args.store.now) printed) (world_of (g.F.Folders.state c.load_sources.new.store) printed)
+    (world_of (g.F.Folders.state c.open_loaded.new.store) (g.K.Sink.state c.open_loaded.new.output)) (Ok c.in_ok-opened-in-Catalogue.opened)
+    (sym loaded) (read.does printed) (c.in_ok-opened-in-Catalogue.ensures.opens t held (read.only_read.tree ∙ told) kept)

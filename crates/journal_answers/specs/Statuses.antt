@@ -1,0 +1,11 @@
+-- The statuses that `journal` can give.
+use Rattle.std.specs.Prelude.{Bool, true}
+use Rattle.run_course.specs.declared.status.Status.{Status}
+use Rattle.run_course.specs.declared.status.Status.TheVariants as status
+use Rattle.run_course.specs.Statuses.{can_maintain}
+
+-- those of `maintain`, and those of its disk
+abbrev pub can_journal : Status → Bool
+can_journal status.DiskFault = true
+can_journal status.JournalFull = true
+can_journal s = can_maintain s
