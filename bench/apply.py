@@ -33,7 +33,7 @@ def main():
         read = wanted(run(words, root, one), 0, "synced\t1")
         applied = wanted(run(words, root, all_lines), 0, "synced\t1")
     report(f"apply, {ROWS} rows, one line", read)
-    report(f"the same, {ROWS} lines", applied, f"; {applied.seconds / read.seconds:.1f} times as long")
+    report(f"the same, {ROWS} lines", applied, f"; {applied.processors / read.processors:.1f} times as long")
 
 
 main()

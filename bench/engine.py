@@ -40,8 +40,8 @@ def ended(root, word, kept, changes, count):
 
 
 def compare(word, changes, count):
-    """The seconds of one change over few rows and over many, behind the first ones: those of a run with all changes less
-    those of a run with the first, by the number of the others, each the least of several runs."""
+    """The seconds of processors of one change over few rows and over many, behind the first ones: those of a run with all
+    changes less those of a run with the first, by the number of the others, each the least of several runs."""
     cases = [(kept, made) for kept in (FEW, MANY) for made in (FIRST, changes)]
     runs = {case: [] for case in cases}
     with folder() as root:
@@ -51,7 +51,7 @@ def compare(word, changes, count):
     each = {}
     for kept in (FEW, MANY):
         all_made = least(runs[kept, changes])
-        each[kept] = (all_made.seconds - least(runs[kept, FIRST]).seconds) / (changes - FIRST)
+        each[kept] = (all_made.processors - least(runs[kept, FIRST]).processors) / (changes - FIRST)
         report(f"{word}, {kept} rows, {changes} changes", all_made, f"; one change {each[kept] * 1e6:.2f} us")
     print(f"{word}: a change over {MANY // FEW} times as many rows takes {each[MANY] / each[FEW]:.2f} times as long", flush=True)
 

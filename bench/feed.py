@@ -102,7 +102,7 @@ def main():
         if any(held != mixed_files for _, held in all_runs):
             sys.exit(f"the files of `{name}` differ from those of lines that came by windows")
     maintained, once, twice = runs["maintain"], runs["once"], runs["again"]
-    fresh, repeat = once.seconds / count, (twice.seconds - once.seconds) / count
+    fresh, repeat = once.processors / count, (twice.processors - once.processors) / count
     kept = (once.megabytes - maintained.megabytes) * 1024 * 1024 / count
     report(f"maintain, {count} changes", maintained)
     report(f"feed, the same of {SOURCES} sources", once, f"; one {fresh * 1e6:.2f} us")

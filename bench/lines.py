@@ -217,7 +217,8 @@ def taken(talk, kind, rows, count):
 
 def left_open(talk, rows, count):
     """The seconds of processors for a change that is held in an open group; and for one that is given up where the input ends
-    in the group, which may count some of what ends the run."""
+    in the group, which may count some of what ends the run. The large relation is linked before, by its first delete."""
+    talk.take("delete\tg\tr\ta\tb\tc\n")
     held, lines = talk.take("begin\n" + "".join(HELD.line(rows, step) + "\n" for step in range(count)))
     answered(HELD, count, lines)
     ended, _ = talk.end(b"refused\topen-group")

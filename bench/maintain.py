@@ -140,30 +140,31 @@ def times_of_change(name, count):
 
 
 def each_change(name, rows, count, runs):
-    """The seconds of one change behind the first ones, which are those of a run with all changes less those of a run with
-    the first, by the number of the others: both link the rows of the relation once, and save it and the view at the end."""
+    """The seconds of processors of one change behind the first ones, which are those of a run with all changes less those of
+    a run with the first, by the number of the others: both link the rows of the relation once, and save it and the view at
+    the end."""
     opened, begun, changed = (runs[rows, what] for what in ("opened", "begun", "changed"))
     if (rows, "grouped") in runs:
         grouped = runs[rows, "grouped"]
-        each = (grouped.seconds - begun.seconds) / (count - FIRST)
+        each = (grouped.processors - begun.processors) / (count - FIRST)
         report(f"maintain, {name}, {rows} rows, {count} changes in groups of ten", grouped, f"; one change {each * 1e6:.2f} us")
-    each = (changed.seconds - begun.seconds) / (count - FIRST)
-    once = begun.seconds - opened.seconds
+    each = (changed.processors - begun.processors) / (count - FIRST)
+    once = begun.processors - opened.processors
     report(f"maintain, {name}, {rows} rows, {count} changes", changed, f"; one change {each * 1e6:.2f} us, the first {FIRST} and the last sync {once:.2f} s")
     return each
 
 
 def least_of_sqlite(words, root, given):
-    """Of three runs of SQLite the one of the least time."""
+    """The least of three runs of SQLite."""
     runs = [run(words, root, given) for _ in range(3)]
     for done in runs:
         if done.status != 0:
             sys.exit(f"sqlite3 ended with status {done.status}")
-    return min(runs, key=lambda done: done.seconds)
+    return least(runs)
 
 
 def time_in_sqlite(rows, count):
-    """The seconds of one change in SQLite, whose triggers keep the wide table, in one transaction and in memory."""
+    """The seconds of processors of one change in SQLite, whose triggers keep the wide table, in one transaction and in memory."""
     if not shutil.which("sqlite3"):
         print("sqlite3 is not installed")
         return None
@@ -196,7 +197,7 @@ def time_in_sqlite(rows, count):
         words = ["sqlite3", ":memory:"]
         begun = least_of_sqlite(words, root, write(root, "begun.sql", [*head, *statements(FIRST), "commit;\n"]))
         changed = least_of_sqlite(words, root, write(root, "changed.sql", [*head, *statements(count), "commit;\n"]))
-    each = (changed.seconds - begun.seconds) / (count - FIRST)
+    each = (changed.processors - begun.processors) / (count - FIRST)
     report(f"sqlite3, triggers, {rows} rows, {count} changes", changed, f"; one change {each * 1e6:.2f} us")
     return each
 
@@ -212,7 +213,7 @@ def loads(counts):
             runs.append(done)
     for count, runs in made.items():
         report(f"load {count} 1", least(runs))
-    return [least(runs).seconds for runs in made.values()]
+    return [least(runs).processors for runs in made.values()]
 
 
 def main():
@@ -222,7 +223,7 @@ def main():
         few, many = (each_change(name, rows, count, runs) for rows in (fewer, more))
         opened, shown = runs[more, "opened"], runs[more, "shown"]
         print(f"{name}: a change over {more // fewer} times as many rows takes {many / few:.2f} times as long")
-        print(f"{name}: opening takes {opened.seconds / shown.seconds:.2f} of the time of show, {opened.megabytes / shown.megabytes:.2f} of its memory", flush=True)
+        print(f"{name}: opening takes {opened.processors / shown.processors:.2f} of the processors of show, {opened.megabytes / shown.megabytes:.2f} of its memory", flush=True)
         if name == "values to columns":
             other = time_in_sqlite(more, count)
             if other:

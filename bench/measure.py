@@ -3,6 +3,7 @@
 import contextlib
 import os
 import pathlib
+import shutil
 import signal
 import subprocess
 import sys
@@ -14,10 +15,25 @@ from typing import NamedTuple
 HERE = pathlib.Path(__file__).resolve().parent
 PROGRAM = HERE.parent / "build" / "schemasql"
 
+# A program in C++ that writes the files of some views, and where it is built.
+YARDSTICK = HERE / "yardstick.cc"
+YARDSTICK_MADE = HERE.parent / "build" / "yardstick"
+
 
 def program():
     """The program that is measured: the first argument, or the one that `make` builds."""
     return str(pathlib.Path(sys.argv[1] if len(sys.argv) > 1 else PROGRAM).resolve())
+
+
+def yardstick():
+    """The yardstick, which is built where it is older than its source, or nothing without a compiler for it."""
+    if not YARDSTICK_MADE.exists() or YARDSTICK_MADE.stat().st_mtime < YARDSTICK.stat().st_mtime:
+        compiler = next(filter(shutil.which, ["c++", "g++", "clang++"]), None)
+        if not compiler:
+            return None
+        YARDSTICK_MADE.parent.mkdir(exist_ok=True)
+        subprocess.run([compiler, "-std=c++17", "-O3", "-o", YARDSTICK_MADE, YARDSTICK], check=True)
+    return str(YARDSTICK_MADE)
 
 
 def folder():
@@ -145,9 +161,23 @@ def report(name, ended, more=""):
     print(f"{name}: {ended.seconds:.2f} s, {ended.processors:.2f} s of processors, {ended.megabytes:.0f} MB{more}", flush=True)
 
 
+def in_turn(runs, rounds):
+    """Makes each of these runs so many times, in turn with the others. Answers by the same names what each came to, in the
+    order of the rounds."""
+    made = {name: [] for name in runs}
+    for _ in range(rounds):
+        for name, make in runs.items():
+            made[name].append(make())
+    return made
+
+
 def least(runs):
-    """The one of the least time: other work on the machine makes a run longer, and none shorter."""
-    return min(runs, key=lambda ended: ended.seconds)
+    """The least of each figure of several runs: other work on the machine makes a run longer, and none shorter."""
+    return runs[0]._replace(
+        seconds=min(ended.seconds for ended in runs),
+        processors=min(ended.processors for ended in runs),
+        megabytes=min(ended.megabytes for ended in runs),
+    )
 
 
 def wanted(ended, status, last):

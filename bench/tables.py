@@ -24,7 +24,7 @@ def main():
             wanted(run([program(), "show", "T"], root), 0, f"synced\t{TABLES}") for _ in range(2)
         )
     report(f"show, {TABLES} tables", first)
-    report("the same again", second, f"; {second.seconds / first.seconds:.1f} times as long")
+    report("the same again", second, f"; {second.processors / first.processors:.1f} times as long")
 
 
 main()
