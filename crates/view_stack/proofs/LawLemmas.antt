@@ -27,7 +27,7 @@ use Rattle.view_stack.specs.Records.{front_cells}
 use Rattle.view_stack.specs.Lifted.{lifted_line, row_of, goes_on, table_at, names_after, names_of, lifted_behind, lifted}
 use Rattle.view_stack.proofs.SaysLemmas.{Distinct, same_bytes, same_rows, bytes_same, and_first, and_second}
 use Rattle.view_stack.proofs.MovedLemmas.{AreSaid, whole, HasColumns}
-use Rattle.view_stack.proofs.LinesLemmas.{IsSaid, IsDynamic, AreBlocks, Heads, Leaves, Reads, pending, after_in_order, after_all-append, table_went, table_came, row_gone, row_new, column_gone, column_new, row_changes, after_cells, cells_fit, same_line, after_names, same_both, own_names, next_heads, off_pending, on_pending, none_pending}
+use Rattle.view_stack.proofs.LinesLemmas.{IsSaid, IsDynamic, AreBlocks, Heads, Leaves, Reads, pending, after_in_order, after_all-append, table_went, table_came, row_gone, row_new, column_gone, column_new, row_changes, after_cells, after_row, cells_fit, row_fits, same_line, after_names, same_both, own_names, next_heads, off_pending, on_pending, none_pending}
 use Rattle.view_stack.proofs.LimitLemmas.{IsLegal, line_judged, goes_on_within, sound_within}
 use Rattle.view_stack.proofs.ScriptLemmas.{script_reads, script_blocks, script_dynamic, script_legal}
 use Rattle.view_stack.proofs.StandsLemmas.{are_distinct, columns_dynamic, stands_said, said_stands}
@@ -57,7 +57,10 @@ module _ (shape : Shape) (db : Text) (distinct : Distinct shape.constants) (befo
   line_said rs ts order said (RowMinus label key) lines fits dynamic = row_gone constants db distinct rs ts order said label key lines (and_first _ _ fits)
   line_said rs ts order said (ColumnMinus label column) lines fits dynamic = column_gone constants db distinct rs ts order said label column lines (and_first _ _ fits)
   line_said rs ts order said (ColumnPlus label column) lines fits dynamic = column_new constants db distinct rs ts order said label column lines (and_first _ _ fits) dynamic
-  line_said rs ts order said (RowPlus label key) lines fits dynamic = row_new constants db distinct rs ts order said label key lines (and_first _ _ fits)
+  line_said rs ts order said (RowPlus label key) lines fits dynamic =
+      subst (λ (us : TablesValue). IsSaid constants db (after_all (whole db rs) (lifted_line db constants (table_at ts label) (attributes_of (whole db rs) db label) (RowPlus label key) lines)) us)
+      (sym (after_row label key (front_cells label key lines) ts))
+      (row_new constants db distinct rs ts order said label key (front_cells label key lines) (λ t e. row_fits label key lines ts t e fits))
   line_said rs ts order said (Cell label column value key) lines fits dynamic =
       subst (λ (us : TablesValue). IsSaid constants db (after_all (whole db rs) (lifted_line db constants (table_at ts label) (attributes_of (whole db rs) db label) (Cell label column value key) lines)) us)
       (sym (after_cells label key ((column, value) ∷ front_cells label key lines) ts))

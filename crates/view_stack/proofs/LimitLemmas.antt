@@ -500,16 +500,16 @@ module _ (shape : Shape) (db : Text) (distinct : Distinct shape.constants) (some
       (add_judged db rs label column found.0 found.1 absent ∙ ap (λ (n : ℕ). full most_attributes n Attributes) same ∙ sym (past_full most_attributes (length (header shape f.table)) Attributes))
       (column_came shape db ts order counts label f.table (with_column column) f.found (omega (arith, own, new, longer)) (length-map f.table.rows (with_empty_cell (column_place column f.table.columns))))
 
-  row_plus_judged : (label : Text) (key : Row) → fits_label ts (RowPlus label key) ≡ true → Judged (Insert db label (record_of constants (attributes_of (whole db rs) db label) (table_at ts label) key) ∷ []) (at_table label (with_row key) ts)
-  row_plus_judged label key fits =
+  row_plus_judged : (label : Text) (key : Row) (cells : List (Text × Text)) → fits_label ts (RowPlus label key) ≡ true → Judged (Insert db label (record_after constants (attributes_of (whole db rs) db label) (table_at ts label) key cells) ∷ []) (at_table label (with_row key) ts)
+  row_plus_judged label key cells fits =
       let f = found_table ts (RowPlus label key) fits in
       let found = said_found constants label rs ts f.table said f.found in
-      let same = same_record constants db distinct rs ts order said label key found.0 f.table found.1 f.found in
+      let same = same_after constants db distinct rs ts order said label key cells found.0 f.table found.1 f.found in
       let more = one_key_more (λ k. 1) key (replicate (length f.table.columns) []) f.table.rows (not_true (has_row key f.table) f.fits) in
       let before = keys_long f.table in
       let later = keys_long (with_row key f.table) in
-      one_judged (Insert db label (record_of constants (attributes_of (whole db rs) db label) (table_at ts label) key)) (at_table label (with_row key) ts) (past most_rows (suc (all_of row_number ts)) Rows)
-      (insert_judged db rs label _ found.0 found.1 (record_long found.0 (text_of constants f.table key) _ same) ∙ ap (λ (n : ℕ). full most_rows n Rows) (all_rows constants db rs ts said) ∙ sym (past_full most_rows (all_of row_number ts) Rows))
+      one_judged (Insert db label (record_after constants (attributes_of (whole db rs) db label) (table_at ts label) key cells)) (at_table label (with_row key) ts) (past most_rows (suc (all_of row_number ts)) Rows)
+      (insert_judged db rs label _ found.0 found.1 (record_long found.0 (λ name. text_after name cells (text_of constants f.table key name)) _ same) ∙ ap (λ (n : ℕ). full most_rows n Rows) (all_rows constants db rs ts said) ∙ sym (past_full most_rows (all_of row_number ts) Rows))
       (row_came shape db ts order counts label f.table (with_row key) f.found (omega arith) (omega (arith, more, before, later)))
 
   cells_judged : (label column value : Text) (key : Row) (lines : List TableLine) → fits_label ts (Cell label column value key) ≡ true
@@ -584,7 +584,7 @@ module _ (shape : Shape) (db : Text) (distinct : Distinct shape.constants) (some
   line_judged (RowMinus label key) lines fits dynamic legal = row_minus_judged label key fits
   line_judged (ColumnMinus label column) lines fits dynamic legal = column_minus_judged label column fits
   line_judged (ColumnPlus label column) lines fits dynamic legal = column_plus_judged label column fits dynamic legal
-  line_judged (RowPlus label key) lines fits dynamic legal = row_plus_judged label key fits
+  line_judged (RowPlus label key) lines fits dynamic legal = row_plus_judged label key (front_cells label key lines) fits
   line_judged (Cell label column value key) lines fits dynamic legal = cells_judged label column value key lines fits
 
 -- a line that goes on with a row passes none

@@ -1,5 +1,5 @@
 -- A database that says what tables say, says it after lines that fit them.
-use Rattle.std.proofs.Common.{◌≡◌, ◌∙◌, Bool, true, false, cond, ◌&&◌, ◌||◌, List, [], ◌∷◌, ◌++◌, Option, Some, None, map, refl, sym, ap, subst}
+use Rattle.std.proofs.Common.{◌≡◌, ◌∙◌, Bool, true, false, cond, ◌&&◌, ◌||◌, not, List, [], ◌∷◌, ◌++◌, Option, Some, None, map, refl, sym, ap, subst}
 use Rattle.std.specs.Prelude.{remove, unwrap_or, option_map, option_and_then, is_some}
 use Rattle.std.specs.List.{position_or_len}
 use Rattle.std.specs.Option.{option_map_or}
@@ -25,8 +25,8 @@ use Rattle.schema_model.specs.declared.change.Change.{Change}
 use Rattle.schema_model.specs.declared.change.Change.TheVariants.{Insert, Delete}
 use Rattle.view_stack.specs.Records.{text_of, record_of, front_cells, text_after, record_after}
 use Rattle.view_stack.specs.Lifted.{lifted_line, row_of, goes_on, table_at, names_after, names_of}
-use Rattle.view_stack.proofs.SaysLemmas.{Distinct, Says, in_upper, row_came, row_went, column_added, column_dropped, same_bytes, bytes_same, rows_same, and_first, and_second, not_true, or_right}
-use Rattle.view_stack.proofs.MovedLemmas.{AreSaid, whole, said_changed, said_without, said_placed, cells_after, cells_said, HasColumns, relation_at}
+use Rattle.view_stack.proofs.SaysLemmas.{Distinct, Says, in_upper, row_went, column_added, column_dropped, same_bytes, bytes_same, rows_same, and_first, and_second, not_true, or_right}
+use Rattle.view_stack.proofs.MovedLemmas.{AreSaid, whole, said_changed, said_without, said_placed, cells_after, cells_said, row_said, HasColumns, relation_at}
 
 -- ---- tables stay in order
 pub table_found_in_order : (ts : TablesValue) (label : Text) (t : TableValue) → AreTables ts → table_of ts label ≡ Some t → IsTable t
@@ -135,13 +135,16 @@ module _ (constants : Row) (db : Text) (distinct : Distinct constants) (rs : Lis
             subst (λ (x : Row). Says constants (less_row x r) (without_row key t)) (same_record label key r t i j) (row_went constants r t s label key (fits_found (RowMinus label key) t fits j))),
       )
 
-  pub row_new : (label : Text) (key : Row) (later : List TableLine) → fits_label ts (RowPlus label key) ≡ true → IsSaid constants db (after_all (whole db rs) (read (RowPlus label key) later)) (at_table label (with_row key) ts)
-  row_new label key later fits =
-      let row = record_of constants (attributes_of (whole db rs) db label) (table_at ts label) key in (
+  -- a row comes, with cells
+  pub row_new : (label : Text) (key : Row) (cells : List (Text × Text)) → ((t : TableValue) → table_of ts label ≡ Some t → (has_row key t ≡ false) × HasColumns t cells)
+      → IsSaid constants db (after_all (whole db rs) (Insert db label (record_after constants (attributes_of (whole db rs) db label) (table_at ts label) key cells) ∷ [])) (at_table label (λ t. cells_after key cells (with_row key t)) ts)
+  row_new label key cells there =
+      let row = record_after constants (attributes_of (whole db rs) db label) (table_at ts label) key cells in (
         in_relation label (put_row row),
         at_whole db (at_relation_in label (put_row row)) rs,
-        said_changed constants label (put_row row) (with_row key) (λ r. refl) rs ts order.labels said (λ r t i j s.
-            subst (λ (x : Row). Says constants (put_row x r) (with_row key t)) (same_record label key r t i j) (row_came constants r t s label key (not_true (has_row key t) (fits_found (RowPlus label key) t fits j)))),
+        said_changed constants label (put_row row) (λ t. cells_after key cells (with_row key t)) (λ r. refl) rs ts order.labels said (λ r t i j s.
+            let both = there t j in
+            subst (λ (x : Row). Says constants (put_row x r) (cells_after key cells (with_row key t))) (same_after label key cells r t i j) (row_said constants r t s label key cells both.1 both.0)),
       )
 
   pub column_gone : (label column : Text) (later : List TableLine) → fits_label ts (ColumnMinus label column) ≡ true → IsSaid constants db (after_all (whole db rs) (read (ColumnMinus label column) later)) (at_table label (without_column column) ts)
@@ -179,7 +182,7 @@ module _ (constants : Row) (db : Text) (distinct : Distinct constants) (rs : Lis
         ap (at_relation db label (put_row new)) (at_whole db (at_relation_in label (less_row row)) rs) ∙ at_whole db (at_relation_in label (put_row new)) (in_relation label (less_row row)) ∙ ap (whole db) (changed_twice (λ (r : RelationValue). text_eq label r.name) (less_row row) (put_row new) (λ r. refl) rs),
         said_changed constants label (λ r. put_row new (less_row row r)) (cells_after key cells) (λ r. refl) rs ts order.labels said (λ r t i j s.
             let both = there t j in
-            let one = subst (λ (x : Row). Says constants (put_row (record_after constants r.attributes t key cells) (less_row x r)) (cells_after key cells t)) (same_record label key r t i j) (cells_said constants r t s label key cells both.0 both.1) in
+            let one = subst (λ (x : Row). Says constants (put_row (record_after constants r.attributes t key cells) (less_row x r)) (cells_after key cells t)) (same_record label key r t i j) (cells_said constants r t s label key cells both.1 both.0) in
             subst (λ (x : Row). Says constants (put_row x (less_row row r)) (cells_after key cells t)) (same_after label key cells r t i j) one),
       )
 
@@ -212,6 +215,9 @@ pub after_cells : (label : Text) (key : Row) (cells : List (Text × Text)) (ts :
 after_cells label key [] ts = sym (table_stays label ts)
 after_cells label key (x ∷ cells) ts = after_cells label key cells (at_table label (with_cell key x.0 x.1) ts) ∙ table_twice label (with_cell key x.0 x.1) (cells_after key cells) ts
 
+pub after_row : (label : Text) (key : Row) (cells : List (Text × Text)) (ts : TablesValue) → after_lines (at_table label (with_row key) ts) (cell_lines label key cells) ≡ at_table label (λ t. cells_after key cells (with_row key t)) ts
+after_row label key cells ts = after_cells label key cells (at_table label (with_row key) ts) ∙ table_twice label (with_row key) (cells_after key cells) ts
+
 -- columns of the cells at the front are there
 pub cells_fit : (label : Text) (key : Row) (lines : List TableLine) (ts : TablesValue) (t : TableValue) → table_of ts label ≡ Some t → fit_lines ts lines ≡ true → HasColumns t (front_cells label key lines)
 cells_fit label key [] ts t e h = tt
@@ -236,6 +242,15 @@ cells_fit label key (Cell l column value k ∷ lines) ts t e h = by_row (text_eq
         let now : table_of (after_line ts (Cell l column value k)) label ≡ Some (with_cell k column value t) =
         lookup_changed text_order (with_cell k column value) ts l label ∙ rw (name, same_bytes label, e) refl in
         rw same (and_second (has_row k t) (has_column column t) fits, rest (with_cell k column value t) now second)
+
+-- and those of the cells behind a row that comes, whose key is not there
+pub row_fits : (label : Text) (key : Row) (lines : List TableLine) (ts : TablesValue) (t : TableValue) → table_of ts label ≡ Some t → fit_lines ts (RowPlus label key ∷ lines) ≡ true → (has_row key t ≡ false) × HasColumns t (front_cells label key lines)
+row_fits label key lines ts t e h =
+    let first = and_first (fits_label ts (RowPlus label key)) (fit_lines (after_line ts (RowPlus label key)) lines) h in
+    let second = and_second (fits_label ts (RowPlus label key)) (fit_lines (after_line ts (RowPlus label key)) lines) h in
+    let new : not (has_row key t) ≡ true = sym (ap (λ (o : Option TableValue). option_map_or (fits_table (RowPlus label key)) o false) e) ∙ first in
+    let now : table_of (after_line ts (RowPlus label key)) label ≡ Some (with_row key t) = lookup_changed text_order (with_row key) ts label label ∙ rw (same_bytes label, e) refl in
+    (not_true (has_row key t) new, cells_fit label key lines (after_line ts (RowPlus label key)) (with_row key t) now second)
 
 -- ---- where the tables before all lines have the cells that are read
 abbrev pub Agrees : TableValue → TableValue → Row → Type 0
@@ -294,6 +309,10 @@ module _ (constants : Row) (db : Text) (before : TablesValue) (rs : List Relatio
           let column : is_in name t.columns ≡ true = sym (ap (λ (b : Bool). b || is_in name t.columns) k) ∙ either in
           rw k (agrees name (ap (has_column name) (sym now) ∙ column))
 
+  record_agrees : (label : Text) (key : Row) (t : TableValue) → table_of ts label ≡ Some t → Agrees (table_at before label) (table_at ts label) key → (cells : List (Text × Text))
+      → record_after constants (attributes_of (whole db rs) db label) (table_at before label) key cells ≡ record_after constants (attributes_of (whole db rs) db label) (table_at ts label) key cells
+  record_agrees label key t e agrees cells = map_agrees _ _ (attributes_of (whole db rs) db label) (λ name h. ap (text_after name cells) (text_agrees label key t e agrees name h))
+
   pub same_line : (line : TableLine) (lines : List TableLine) → fits_line ts line ≡ true → LineReads (table_at before (label_of line)) (table_at ts (label_of line)) line
       → lifted_line db constants (table_at before (label_of line)) (attributes_of (whole db rs) db (label_of line)) line lines ≡ lifted_line db constants (table_at ts (label_of line)) (attributes_of (whole db rs) db (label_of line)) line lines
   same_line (TableMinus label) lines fits reads = refl
@@ -302,17 +321,14 @@ module _ (constants : Row) (db : Text) (before : TablesValue) (rs : List Relatio
   same_line (ColumnPlus label column) lines fits reads = refl
   same_line (RowMinus label key) lines fits reads =
       let f = found_table ts (RowMinus label key) fits in
-      ap (λ (row : Row). Delete db label row ∷ []) (map_agrees _ _ (attributes_of (whole db rs) db label) (text_agrees label key f.table f.found reads))
+      ap (λ (row : Row). Delete db label row ∷ []) (record_agrees label key f.table f.found reads [])
   same_line (RowPlus label key) lines fits reads =
       let f = found_table ts (RowPlus label key) fits in
-      ap (λ (row : Row). Insert db label row ∷ []) (map_agrees _ _ (attributes_of (whole db rs) db label) (text_agrees label key f.table f.found reads))
+      ap (λ (row : Row). Insert db label row ∷ []) (record_agrees label key f.table f.found reads (front_cells label key lines))
   same_line (Cell label column value key) lines fits reads =
       let f = found_table ts (Cell label column value key) fits in
-      let texts = text_agrees label key f.table f.found reads in
-      let cells = (column, value) ∷ front_cells label key lines in
-      let old = map_agrees _ _ (attributes_of (whole db rs) db label) texts in
-      let new : record_after constants (attributes_of (whole db rs) db label) (table_at before label) key cells ≡ record_after constants (attributes_of (whole db rs) db label) (table_at ts label) key cells =
-      map_agrees _ _ (attributes_of (whole db rs) db label) (λ name h. ap (text_after name cells) (texts name h)) in
+      let old = record_agrees label key f.table f.found reads [] in
+      let new = record_agrees label key f.table f.found reads ((column, value) ∷ front_cells label key lines) in
       λ i. Delete db label (old i) ∷ Insert db label (new i) ∷ []
 
 -- ---- the attributes of a relation after a line
@@ -456,7 +472,7 @@ after_names constants db rs ts said t names (TablePlus label) later l fits =
     by_label true e = rw e refl
     by_label false e = rw e (sym (attributes_are db l rs))
 after_names constants db rs ts said t names (RowMinus label key) later l fits = edited_names db rs label l (less_row (record_of constants names t key)) (λ ns. ns) (λ r. refl) (λ r. refl) (λ e none. refl)
-after_names constants db rs ts said t names (RowPlus label key) later l fits = edited_names db rs label l (put_row (record_of constants names t key)) (λ ns. ns) (λ r. refl) (λ r. refl) (λ e none. refl)
+after_names constants db rs ts said t names (RowPlus label key) later l fits = edited_names db rs label l (put_row (record_after constants names t key (front_cells label key later))) (λ ns. ns) (λ r. refl) (λ r. refl) (λ e none. refl)
 after_names constants db rs ts said t names (ColumnMinus label column) later l fits =
     edited_names db rs label l (less_attribute column) (λ ns. remove ns (position_or_len (text_eq column) ns)) (λ r. refl) (λ r. refl) (λ e none. refl)
 after_names constants db rs ts said t names (ColumnPlus label column) later l fits =

@@ -1,5 +1,5 @@
 -- A database that says what tables say, says it after lines that fit them.
-use Rattle.std.proofs.Common.{◌≡◌, ◌∙◌, Bool, true, false, List, [], ◌∷◌, Option, Some, None, map, refl, sym, ap, subst, arith}
+use Rattle.std.proofs.Common.{◌≡◌, ◌∙◌, Bool, true, false, List, [], ◌∷◌, not, Option, Some, None, map, refl, sym, ap, subst, arith}
 use Rattle.std.specs.Prelude.{find}
 use Rattle.std.specs.List.{list_any, AllByRecursion}
 use Rattle.std.specs.List.Sorted.{IsStrictlySortedBy}
@@ -10,15 +10,15 @@ use Rattle.ss_text.specs.Places.{changed_where}
 use Rattle.ss_text.proofs.KeyLemmas.{text_order, lookup_lacks, lacks_after}
 use Rattle.flow_law.specs.Tables.{TableValue, TablesValue, empty_table, table_of, labels_of, row_keys, cell_of}
 use Rattle.flow_law.specs.InOrder.{IsTable}
-use Rattle.flow_law.specs.Lines.{with_cell, at_table, without_table, with_table, has_row, has_column, fits_table}
-use Rattle.flow_law.specs.declared.line.TableLine.TheVariants.{Cell}
+use Rattle.flow_law.specs.Lines.{with_row, with_cell, at_table, without_table, with_table, has_row, has_column, fits_table}
+use Rattle.flow_law.specs.declared.line.TableLine.TheVariants.{RowPlus, Cell}
 use Rattle.flow_law.proofs.TableLemmas.{empty_in_order, line_in_order}
-use Rattle.flow_law.proofs.StepLemmas.{key_is_there, cell_keys, cell_cells}
+use Rattle.flow_law.proofs.StepLemmas.{key_is_there, row_plus_keys, row_plus_cells, cell_keys, cell_cells}
 use Rattle.schema_model.specs.Catalogue.{RelationValue, CatalogueValue, relation_value, database_value}
 use Rattle.schema_model.specs.Catalogue.{with_row as put_row}
 use Rattle.schema_model.specs.Changes.{less_row, placed, without}
 use Rattle.view_stack.specs.Records.{text_of, record_of, text_after, record_after}
-use Rattle.view_stack.proofs.SaysLemmas.{Distinct, Says, row_changed, bytes_same, same_rows}
+use Rattle.view_stack.proofs.SaysLemmas.{Distinct, Says, row_came, row_changed, bytes_same, same_rows}
 
 -- ---- relation by relation
 abbrev pub AreSaid : Row → List RelationValue → TablesValue → Type 0
@@ -134,10 +134,7 @@ text_stays : (name : Text) (cells : List (Text × Text)) (t : Text) → AllByRec
 text_stays name [] t h = refl
 text_stays name (x ∷ cells) t h = rw h.0 (text_stays name cells t h.1)
 
-module _ (constants : Row) (r : RelationValue) (t : TableValue) (says : Says constants r t) (label : Text) (key : Row) (cells : List (Text × Text)) (there : has_row key t ≡ true) (columns : HasColumns t cells) where
-  made : IsRowChanged key t (cells_after key cells t) cells
-  made = cells_made label key cells t says.table there columns
-
+module _ (constants : Row) (r : RelationValue) (t : TableValue) (says : Says constants r t) (label : Text) (key : Row) (cells : List (Text × Text)) (columns : HasColumns t cells) where
   not_named : (name : Text) → is_in name constants ≡ true → (xs : List (Text × Text)) → HasColumns t xs → AllByRecursion (λ (x : Text × Text). text_eq name x.0 ≡ false) xs
   not_named name dynamic [] h = tt
   not_named name dynamic (x ∷ xs) h = (by_test (text_eq name x.0) refl, not_named name dynamic xs h.1)
@@ -146,16 +143,30 @@ module _ (constants : Row) (r : RelationValue) (t : TableValue) (says : Says con
       by_test true e = let bad : true ≡ false = sym h.0 ∙ ap (λ (n : Text). is_in n t.columns) (sym (bytes_same name x.0 e)) ∙ says.apart name dynamic in absurd (cc)
       by_test false e = e
 
-  text_made : (name : Text) → text_of constants (cells_after key cells t) key name ≡ text_after name cells (text_of constants t key name)
-  text_made name = by_in (is_in name constants) refl
+  -- the record of the key in a table where its cells got values
+  record_made : (u : TableValue) → ((c : Text) → cell_of u key c ≡ text_after c cells (cell_of t key c)) → record_of constants r.attributes u key ≡ record_after constants r.attributes t key cells
+  record_made u own = λ i. map (λ name. text_made name i) r.attributes
     where
-      by_in : (b : Bool) → is_in name constants ≡ b → text_of constants (cells_after key cells t) key name ≡ text_after name cells (text_of constants t key name)
-      by_in true e = rw e (sym (text_stays name cells _ (not_named name e cells columns)))
-      by_in false e = rw e (made.own name)
+      text_made : (name : Text) → text_of constants u key name ≡ text_after name cells (text_of constants t key name)
+      text_made name = by_in (is_in name constants) refl
+        where
+          by_in : (b : Bool) → is_in name constants ≡ b → text_of constants u key name ≡ text_after name cells (text_of constants t key name)
+          by_in true e = rw e (sym (text_stays name cells _ (not_named name e cells columns)))
+          by_in false e = rw e (own name)
 
-  record_made : record_of constants r.attributes (cells_after key cells t) key ≡ record_after constants r.attributes t key cells
-  record_made = λ i. map (λ name. text_made name i) r.attributes
+  pub cells_said : has_row key t ≡ true → Says constants (put_row (record_after constants r.attributes t key cells) (less_row (record_of constants r.attributes t key) r)) (cells_after key cells t)
+  cells_said there =
+      let u = cells_after key cells t in
+      let made = cells_made label key cells t says.table there columns in
+      subst (λ (row : Row). Says constants (put_row row (less_row (record_of constants r.attributes t key) r)) u) (record_made u made.own) (row_changed constants r t says key u there made.table made.columns made.keys made.others)
 
-  pub cells_said : Says constants (put_row (record_after constants r.attributes t key cells) (less_row (record_of constants r.attributes t key) r)) (cells_after key cells t)
-  cells_said = subst (λ (row : Row). Says constants (put_row row (less_row (record_of constants r.attributes t key) r)) (cells_after key cells t)) record_made
-      (row_changed constants r t says key (cells_after key cells t) there made.table made.columns made.keys made.others)
+  -- where the row comes with them
+  pub row_said : has_row key t ≡ false → Says constants (put_row (record_after constants r.attributes t key cells) r) (cells_after key cells (with_row key t))
+  row_said absent =
+      let u = cells_after key cells (with_row key t) in
+      let made = cells_made label key cells (with_row key t) (line_in_order (RowPlus label key) t says.table (ap not absent)) there columns in
+      subst (λ (row : Row). Says constants (put_row row r) u) (record_made u (λ c. made.own c ∙ ap (text_after c cells) (row_plus_cells t key key c says.table absent)))
+      (row_came constants r t says key u absent made.table made.columns made.keys (λ q c other. made.others q c other ∙ row_plus_cells t key q c says.table absent))
+    where
+      there : has_row key (with_row key t) ≡ true
+      there = key_is_there key (with_row key t) ∙ row_plus_keys t key key ∙ rw (same_rows key) refl

@@ -9,9 +9,9 @@ use Rattle.ss_text.proofs.KeyLemmas.{text_order, row_order, place_there, equal_i
 use Rattle.flow_law.specs.Tables.{TableValue, cell_in, cell_of, row_keys}
 use Rattle.flow_law.specs.InOrder.{IsTable}
 use Rattle.flow_law.specs.Lines.{without_row, with_row, without_column, with_column, column_place, has_row, has_column}
-use Rattle.flow_law.proofs.StepLemmas.{key_is_there, row_minus_cells, column_minus_columns, column_minus_keys, column_minus_cells, column_plus_columns, column_plus_keys, column_plus_cells, row_plus_cells, cell_no_column}
+use Rattle.flow_law.proofs.StepLemmas.{key_is_there, row_minus_cells, column_minus_columns, column_minus_keys, column_minus_cells, column_plus_columns, column_plus_keys, column_plus_cells, cell_no_column}
 use Rattle.flow_law.proofs.TableLemmas.{place_of_column, row_removed, all_removed, line_in_order}
-use Rattle.flow_law.specs.declared.line.TableLine.TheVariants.{RowMinus, ColumnMinus, ColumnPlus, RowPlus}
+use Rattle.flow_law.specs.declared.line.TableLine.TheVariants.{RowMinus, ColumnMinus, ColumnPlus}
 use Rattle.flow_law.specs.Lines.{by_key}
 use Rattle.flow_law.specs.Tables.{key_of}
 use Rattle.std.specs.Map.{keys_of}
@@ -310,6 +310,13 @@ others_left key (x ∷ rows) = by_first (row_eq key x.0) refl (others_left key r
     by_first true e rest = rw e rest
     by_first false e rest = rw e (turned row_order x.0 key ∙ e, rest)
 
+-- and so are all, where the key is not there
+others_there : (key : Row) (rows : List (Row × Row)) → list_any (λ (x : Row × Row). row_eq key x.0) rows ≡ false → AllByRecursion (λ (q : Row). row_eq q key ≡ false) (keys_of rows)
+others_there key [] h = tt
+others_there key (x ∷ rows) h =
+    let later : Bool = list_any (λ (y : Row × Row). row_eq key y.0) rows in
+    (turned row_order x.0 key ∙ or_false_left (row_eq key x.0) later h, others_there key rows (or_false_right (row_eq key x.0) later h))
+
 -- ---- a relation that says what a table says
 module _ (constants : Row) (r : RelationValue) (t : TableValue) (says : Says constants r t) where
   pub in_upper : (name : Text) → is_in name r.attributes ≡ (is_in name constants || is_in name t.columns)
@@ -365,34 +372,38 @@ module _ (constants : Row) (r : RelationValue) (t : TableValue) (says : Says con
   abbrev under : Row → Row → Row
   under names row = map (cell_in r.attributes row) names
 
-  -- ---- a row comes
-  pub row_came : (label : Text) (key : Row) → has_row key t ≡ false → Says constants (put_row (rec key) r) (with_row key t)
-  row_came label key absent = record {
-    attributes = says.attributes;
+  -- a table says of other keys what it said
+  abbrev OthersStay : Row → TableValue → Type 0
+  OthersStay key u = (q : Row) (c : Text) → row_eq q key ≡ false → cell_of u q c ≡ cell_of t q c
+
+  others_say : (key : Row) (u : TableValue) → OthersStay key u → (names : Row) (f : Row → ℕ) (ks : List Row) → AllByRecursion (λ (q : Row). row_eq q key ≡ false) ks
+      → AllByRecursion (λ k. f (says_by constants u names k) ≡ f (says_by constants t names k)) ks
+  others_say key u others names f [] h = tt
+  others_say key u others names f (k ∷ ks) h = (ap f (λ i. map (λ name. cond (is_in name constants) (cell_in constants k name) (others k name h.0 i)) names), others_say key u others names f ks h.1)
+
+  -- ---- a row comes, with its cells
+  pub row_came : (key : Row) (u : TableValue) → has_row key t ≡ false → IsTable u → u.columns ≡ t.columns → row_keys u ≡ row_keys (with_row key t) → OthersStay key u
+      → Says constants (put_row (record_of constants r.attributes u key) r) u
+  row_came key u absent table columns keys others = record {
+    attributes = λ f. says.attributes f ∙ ap (λ ns. weigh f constants + weigh f ns) (sym columns);
     rows = rows;
     distinct = says.distinct;
-    fits = fits_more (rec key) r.rows (mapped_long (text_of constants t key) r.attributes) says.fits;
-    apart = says.apart;
-    table = line_in_order (RowPlus label key) t says.table (ap not absent);
+    fits = fits_more (record_of constants r.attributes u key) r.rows (mapped_long (text_of constants u key) r.attributes) says.fits;
+    apart = λ name h. ap (is_in name) columns ∙ says.apart name h;
+    table = table;
   }
     where
-      same_text : (q : Row) (name : Text) → text_of constants (with_row key t) q name ≡ text_of constants t q name
-      same_text q name = ap (λ (x : Text). cond (is_in name constants) (cell_in constants q name) x) (row_plus_cells t key q name says.table absent)
-
-      same_says : (names q : Row) → says_by constants (with_row key t) names q ≡ says_by constants t names q
-      same_says names q = λ i. map (λ name. same_text q name i) names
-
-      rows : (names : Row) (f : Row → ℕ) → weigh f (rows_by names (put_row (rec key) r)) ≡ weigh (λ k. f (says_by constants (with_row key t) names k)) (row_keys (with_row key t))
+      rows : (names : Row) (f : Row → ℕ) → weigh f (rows_by names (put_row (record_of constants r.attributes u key) r)) ≡ weigh (λ k. f (says_by constants u names k)) (row_keys u)
       rows names f =
-          let a = weigh_mapped (under names) f (r.rows ++ rec key ∷ []) in
-          let b = weigh_append (λ row. f (under names row)) r.rows (rec key ∷ []) in
+          let a = weigh_mapped (under names) f (r.rows ++ record_of constants r.attributes u key ∷ []) in
+          let b = weigh_append (λ row. f (under names row)) r.rows (record_of constants r.attributes u key ∷ []) in
           let c = weigh_mapped (under names) f r.rows in
           let d = says.rows names f in
-          let e : weigh (λ k. f (says_by constants (with_row key t) names k)) (row_keys (with_row key t)) ≡ weigh (λ k. f (says_by constants t names k)) (row_keys (with_row key t)) =
-          ap (λ (g : Row → ℕ). weigh g (row_keys (with_row key t))) (λ i k. f (same_says names k i)) in
-          let g = one_key_more (λ k. f (says_by constants t names k)) key (replicate (length t.columns) []) t.rows absent in
-          let h : f (under names (rec key)) ≡ f (says_by constants t names key) = ap f (rows_say t names key refl) in
-          omega (arith, a, b, c, d, e, g, h)
+          let e : weigh (λ k. f (says_by constants u names k)) (row_keys u) ≡ weigh (λ k. f (says_by constants u names k)) (row_keys (with_row key t)) = ap (weigh (λ k. f (says_by constants u names k))) keys in
+          let g = one_key_more (λ k. f (says_by constants u names k)) key (replicate (length t.columns) []) t.rows absent in
+          let h = weigh_agree (λ k. f (says_by constants u names k)) (λ k. f (says_by constants t names k)) (row_keys t) (others_say key u others names f (row_keys t) (others_there key t.rows absent)) in
+          let k : f (under names (record_of constants r.attributes u key)) ≡ f (says_by constants u names key) = ap f (rows_say u names key columns) in
+          omega (arith, a, b, c, d, e, g, h, k)
 
   -- ---- a row goes
   without_says : (key : Row) (names : Row) (f : Row → ℕ) → has_row key t ≡ true → weigh f (rows_by names (less_row (rec key) r)) ≡ weigh (λ k. f (says_by constants t names k)) (row_keys (without_row key t))
@@ -418,20 +429,13 @@ module _ (constants : Row) (r : RelationValue) (t : TableValue) (says : Says con
     table = line_in_order (RowMinus label key) t says.table there;
   }
     where
-      same_says : (names q : Row) → row_eq q key ≡ false → says_by constants (without_row key t) names q ≡ says_by constants t names q
-      same_says names q other = λ i. map (λ name. cond (is_in name constants) (cell_in constants q name) (row_minus_cells t key q name other i)) names
-
-      each : (names : Row) (f : Row → ℕ) (ks : List Row) → AllByRecursion (λ (q : Row). row_eq q key ≡ false) ks → AllByRecursion (λ k. f (says_by constants (without_row key t) names k) ≡ f (says_by constants t names k)) ks
-      each names f [] h = tt
-      each names f (k ∷ ks) h = (ap f (same_says names k h.0), each names f ks h.1)
-
       rows : (names : Row) (f : Row → ℕ) → weigh f (rows_by names (less_row (rec key) r)) ≡ weigh (λ k. f (says_by constants (without_row key t) names k)) (row_keys (without_row key t))
       rows names f =
           without_says key names f there
-          ∙ sym (weigh_agree (λ k. f (says_by constants (without_row key t) names k)) (λ k. f (says_by constants t names k)) (row_keys (without_row key t)) (each names f (row_keys (without_row key t)) (others_left key t.rows)))
+          ∙ sym (weigh_agree (λ k. f (says_by constants (without_row key t) names k)) (λ k. f (says_by constants t names k)) (row_keys (without_row key t)) (others_say key (without_row key t) (row_minus_cells t key) names f (row_keys (without_row key t)) (others_left key t.rows)))
 
   -- ---- the cells of a row change
-  pub row_changed : (key : Row) (u : TableValue) → has_row key t ≡ true → IsTable u → u.columns ≡ t.columns → row_keys u ≡ row_keys t → ((q : Row) (c : Text) → row_eq q key ≡ false → cell_of u q c ≡ cell_of t q c)
+  pub row_changed : (key : Row) (u : TableValue) → has_row key t ≡ true → IsTable u → u.columns ≡ t.columns → row_keys u ≡ row_keys t → OthersStay key u
       → Says constants (put_row (record_of constants r.attributes u key) (less_row (rec key) r)) u
   row_changed key u there table columns keys others = record {
     attributes = λ f. says.attributes f ∙ ap (λ ns. weigh f constants + weigh f ns) (sym columns);
@@ -442,13 +446,6 @@ module _ (constants : Row) (r : RelationValue) (t : TableValue) (says : Says con
     table = table;
   }
     where
-      same_says : (names q : Row) → row_eq q key ≡ false → says_by constants u names q ≡ says_by constants t names q
-      same_says names q other = λ i. map (λ name. cond (is_in name constants) (cell_in constants q name) (others q name other i)) names
-
-      each : (names : Row) (f : Row → ℕ) (ks : List Row) → AllByRecursion (λ (q : Row). row_eq q key ≡ false) ks → AllByRecursion (λ k. f (says_by constants u names k) ≡ f (says_by constants t names k)) ks
-      each names f [] h = tt
-      each names f (k ∷ ks) h = (ap f (same_says names k h.0), each names f ks h.1)
-
       rows : (names : Row) (f : Row → ℕ) → weigh f (rows_by names (put_row (record_of constants r.attributes u key) (less_row (rec key) r))) ≡ weigh (λ k. f (says_by constants u names k)) (row_keys u)
       rows names f =
           let left = remove r.rows (position_or_len (row_eq (rec key)) r.rows) in
@@ -458,7 +455,7 @@ module _ (constants : Row) (r : RelationValue) (t : TableValue) (says : Says con
           let d = without_says key names f there in
           let e : weigh (λ k. f (says_by constants u names k)) (row_keys u) ≡ weigh (λ k. f (says_by constants u names k)) (row_keys t) = ap (weigh (λ k. f (says_by constants u names k))) keys in
           let g = one_key_less t key (λ k. f (says_by constants u names k)) says.table there in
-          let h = weigh_agree (λ k. f (says_by constants u names k)) (λ k. f (says_by constants t names k)) (row_keys (without_row key t)) (each names f (row_keys (without_row key t)) (others_left key t.rows)) in
+          let h = weigh_agree (λ k. f (says_by constants u names k)) (λ k. f (says_by constants t names k)) (row_keys (without_row key t)) (others_say key u others names f (row_keys (without_row key t)) (others_left key t.rows)) in
           let k : f (under names (record_of constants r.attributes u key)) ≡ f (says_by constants u names key) = ap f (rows_say u names key columns) in
           omega (arith, a, b, c, d, e, g, h, k)
 

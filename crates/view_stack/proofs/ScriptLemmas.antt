@@ -250,7 +250,8 @@ module _ (label : Text) (told tnew : TableValue) where
         let first = fits_here ts t (RowPlus label k) e (and_first _ (fit_lines (after_line ts (RowPlus label k)) (map (λ key. RowPlus label key) ks ++ rest)) fits) in
         let second = and_second (fits_line ts (RowPlus label k)) (fit_lines (after_line ts (RowPlus label k)) (map (λ key. RowPlus label key) ks ++ rest)) fits in (
           λ off. agrees_at ts t k e (λ name column. cell_no_key told k name new.0 ∙ sym (keeps.fresh k name new.0)),
-          rows_come ks rest (at_table label (with_row k) ts) (with_row k t) (step_found ts t (with_row k) e) (row_came t k (not_true (has_row k t) first) new.0 keeps) new.1 second then,
+          reads_none before (at_table label (with_row k) ts) (Some (label, k)) (map (λ key. RowPlus label key) ks ++ rest)
+              (rows_come ks rest (at_table label (with_row k) ts) (with_row k t) (step_found ts t (with_row k) e) (row_came t k (not_true (has_row k t) first) new.0 keeps) new.1 second then),
         )
 
     -- the cells of one row

@@ -10,10 +10,10 @@ use Rattle.view_stack.specs.Lifted.{lifted}
 abbrev empty : CatalogueValue
 empty = database_value (codes "V") [] ∷ []
 
--- a table that comes, with a column, a row and a cell
+-- a table that comes, with a column, and a row with a cell, which is one insert
 new_table : lifted (codes "V") (codes "a" ∷ []) [] empty (TablePlus (codes "t") ∷ ColumnPlus (codes "t") (codes "b") ∷ RowPlus (codes "t") (codes "k" ∷ []) ∷ Cell (codes "t") (codes "b") (codes "x") (codes "k" ∷ []) ∷ [])
     ≡ CreateRelation (codes "V") (codes "t") (codes "a" ∷ []) ∷ AddAttribute (codes "V") (codes "t") (codes "b") []
-    ∷ Insert (codes "V") (codes "t") (codes "k" ∷ [] ∷ []) ∷ Delete (codes "V") (codes "t") (codes "k" ∷ [] ∷ []) ∷ Insert (codes "V") (codes "t") (codes "k" ∷ codes "x" ∷ []) ∷ []
+    ∷ Insert (codes "V") (codes "t") (codes "k" ∷ codes "x" ∷ []) ∷ []
 new_table = refl
 
 -- a table of two rows, and its relation, whose attributes stand in another order

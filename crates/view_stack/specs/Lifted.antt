@@ -11,19 +11,20 @@ use Rattle.schema_model.specs.declared.change.Change.{Change}
 use Rattle.schema_model.specs.declared.change.Change.TheVariants.{Insert, Delete, AddAttribute, DropAttribute, CreateRelation, DropRelation}
 use Rattle.view_stack.specs.Records.{record_of, front_cells, record_after}
 
--- the changes of a line with those behind it: the lines of cells in one row are made by one delete and one insert
+-- the changes of a line with those behind it: a row that comes is inserted with the cells of its key right behind it, and the lines of cells in another row are made by one delete and one insert
 abbrev pub lifted_line : Text → Row → TableValue → Row → TableLine → List TableLine → List Change
 lifted_line db constants t attributes (TableMinus label) later = DropRelation db label ∷ []
 lifted_line db constants t attributes (TablePlus label) later = CreateRelation db label constants ∷ []
 lifted_line db constants t attributes (ColumnMinus label column) later = DropAttribute db label column ∷ []
 lifted_line db constants t attributes (ColumnPlus label column) later = AddAttribute db label column [] ∷ []
 lifted_line db constants t attributes (RowMinus label key) later = Delete db label (record_of constants attributes t key) ∷ []
-lifted_line db constants t attributes (RowPlus label key) later = Insert db label (record_of constants attributes t key) ∷ []
+lifted_line db constants t attributes (RowPlus label key) later = Insert db label (record_after constants attributes t key (front_cells label key later)) ∷ []
 lifted_line db constants t attributes (Cell label column value key) later =
     Delete db label (record_of constants attributes t key) ∷ Insert db label (record_after constants attributes t key ((column, value) ∷ front_cells label key later)) ∷ []
 
--- the row of a line of a cell
+-- the row of a line that brings one, or is of a cell
 abbrev pub row_of : TableLine → Option (Text × Row)
+row_of (RowPlus label key) = Some (label, key)
 row_of (Cell label column value key) = Some (label, key)
 row_of line = None
 
@@ -50,7 +51,7 @@ abbrev pub names_of : CatalogueValue → Text → Option (Text × Row) → Text 
 names_of c db None label = attributes_of c db label
 names_of c db (Some left) label = if text_eq left.0 label then left.1 else attributes_of c db label
 
--- the changes of lines behind one that left these attributes of its label, and was of a cell in this row
+-- the changes of lines behind one that left these attributes of its label, and brought this row or was of a cell in it
 abbrev pub lifted_behind : Text → Row → TablesValue → CatalogueValue → Option (Text × Row) → Option (Text × Row) → List TableLine → List Change
 lifted_behind db constants ts c left row [] = []
 lifted_behind db constants ts c left row (line ∷ lines) =

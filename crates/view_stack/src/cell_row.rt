@@ -1,4 +1,4 @@
-//! The row of a line of a cell.
+//! The row that a line of a cell may go on with.
 ghost use Rattle.std.specs.Prelude.{◌≡◌, ◌∷◌, ◌++◌, [], Some, map, option_map, OnOk};
 ghost use Rattle.std.specs.Option.{option_to_list};
 ghost use Rattle.view_stack.specs.Lifted.{row_of, goes_on};
@@ -8,7 +8,7 @@ use flow_law::TableLine;
 use ss_text::{NoMemory, Row, Text};
 use std::marker::Model;
 
-/// The label and the key of a line of a cell.
+/// The label and the key of a line that brings a row, or is of a cell.
 #[derive(Drop)]
 pub(crate) struct CellRow<'a> {
     label: &'a Text,
@@ -24,18 +24,19 @@ impl<'a> Model for CellRow<'a> {
 }
 
 impl<'a> CellRow<'a> {
-    /// The row of a line, if it is of a cell.
+    /// The row of a line, if it brings one or is of a cell.
     pub(crate) fn of(line: &'a TableLine) -> Option<CellRow<'a>>
         ensures { result ≡ row_of line.now }
     {
         match line {
-            TableLine::Cell { label, key, .. } => Some(CellRow { label, key }),
+            TableLine::RowPlus { label, key } | TableLine::Cell { label, key, .. } => {
+                Some(CellRow { label, key })
+            }
             TableLine::TableMinus { .. }
             | TableLine::TablePlus { .. }
             | TableLine::RowMinus { .. }
             | TableLine::ColumnMinus { .. }
-            | TableLine::ColumnPlus { .. }
-            | TableLine::RowPlus { .. } => None,
+            | TableLine::ColumnPlus { .. } => None,
         }
     }
 

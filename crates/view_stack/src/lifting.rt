@@ -1,11 +1,10 @@
 //! Lines of tables as changes of the database that stands for them.
-ghost use Rattle.std.specs.Prelude.{◌≡◌, ◌≤◌, ◌++◌, [], Some, map, length, slice_get, if◌then◌else◌, List, IfOk, OnOk, IsTrue};
+ghost use Rattle.std.specs.Prelude.{◌≡◌, ◌≤◌, ◌++◌, [], Some, map, length, slice_get, if◌then◌else◌, IfOk, OnOk, IsTrue};
 ghost use Rattle.std.specs.List.{AllByRecursion};
 ghost use Rattle.flow_law.specs.Lines.{label_of};
-ghost use Rattle.flow_law.specs.declared.line.TableLine.{TableLine as Line};
 ghost use Rattle.schema_model.specs.Changes.{is_well_formed};
 ghost use Rattle.view_stack.specs.Lifted.{lifted, lifted_line, goes_on, table_at};
-ghost use Rattle.view_stack.specs.Records.{record_after};
+ghost use Rattle.view_stack.specs.Records.{front_cells, record_after};
 
 use crate::cell_row::{CellRow, goes_on, push_front};
 use crate::key_texts::KeyTexts;
@@ -25,7 +24,7 @@ pub struct Below<'a> {
 }
 
 /// The changes by which a catalogue that stands for tables comes to stand for those after lines, where these are the script
-/// to them. The lines of cells in one row that stand together are one delete and one insert.
+/// to them. The lines of one key that stand together are one insert where the row comes, and else one delete and one insert.
 ///
 /// What a row of the catalogue says is read in the tables, by its key, so no row is sought in the catalogue.
 pub fn lifted(
@@ -67,7 +66,7 @@ impl<'a> Below<'a> {
         if goes_on(row, line) {
             return Ok(());
         }
-        changes.push(self.first_change(alloc, names, line)?)?;
+        changes.push(self.first_change(alloc, names, line, later)?)?;
         match self.second_change(alloc, names, line, later)? {
             Some(change) => {
                 changes.push(change)?;
@@ -92,15 +91,32 @@ impl<'a> Below<'a> {
         texts.record(alloc, names, cells)
     }
 
-    // The first change of a line.
+    // The record of a key that comes, with the cells of its row at the front of the lines behind.
+    fn new_record(
+        &self,
+        alloc: Global,
+        names: &[Text],
+        label: &Text,
+        key: &Row,
+        later: &[TableLine],
+    ) -> Result<Row, NoMemory>
+        ensures { IfOk result (λ row. row ≡ record_after self.now.constants.now names.now (table_at self.now.tables.now.tables label.now) key.now (front_cells label.now key.now later.now)) }
+    {
+        let mut cells = Vec::new(alloc);
+        push_front(&mut cells, label, key, later)?;
+        self.record(alloc, names, label, key, &cells)
+    }
+
+    // The first change of a line with those behind it.
     fn first_change(
         &self,
         alloc: Global,
         names: &[Text],
         line: &TableLine,
+        later: &[TableLine],
     ) -> Result<Change, NoMemory>
-        ensures { IfOk result (λ change. (later : List Line) → Some change
-            ≡ slice_get (lifted_line self.now.db.now self.now.constants.now (table_at self.now.tables.now.tables (label_of line.now)) names.now line.now later) 0) }
+        ensures { IfOk result (λ change. Some change
+            ≡ slice_get (lifted_line self.now.db.now self.now.constants.now (table_at self.now.tables.now.tables (label_of line.now)) names.now line.now later.now) 0) }
     {
         let db = self.db.copy()?;
         let rel = line.label().copy()?;
@@ -129,7 +145,7 @@ impl<'a> Below<'a> {
                 })
             }
             TableLine::RowPlus { label, key } => {
-                let row = self.record(alloc, names, label, key, &[])?;
+                let row = self.new_record(alloc, names, label, key, later)?;
                 Ok(Change::Insert { db, rel, row })
             }
             TableLine::RowMinus { label, key } | TableLine::Cell { label, key, .. } => {
