@@ -1,0 +1,9 @@
+pub mod DidLemmas
+pub mod JournaledLemmas
+pub mod KeptLemmas
+pub mod LineLemmas
+pub mod MakeLemmas
+pub mod OpeningLemmas
+pub mod RefusedLemmas
+pub mod StopLemmas
+pub mod WithinLemmas

@@ -1,0 +1,33 @@
+-- A run of `journal` that was refused changed nothing.
+use Rattle.std.proofs.Common.{◌≡◌, ℕ, Bool, true, false, List, Some, refl, ap}
+use Rattle.std.specs.Prelude.{if◌then◌else◌}
+use Rattle.outside.specs.Tree.{Tree}
+use Rattle.effects.specs.Effects.{World, Contents}
+use Rattle.course.specs.declared.status.Verdict.TheVariants as verdict
+use Rattle.course.specs.Answering.{course}
+use Rattle.run_course.specs.declared.status.Status.{Status}
+use Rattle.run_course.specs.Course.{Finished, by_lines, verdict_status, is_refused_status}
+use Rattle.run_course.specs.Idle.{Unchanged}
+use Rattle.run_course.proofs.RefusedLemmas.{same_stored, not_so}
+use Rattle.view_stages.specs.Stages.{DefinitionOrRefusal}
+use Rattle.view_answers.specs.Answers.{end_view}
+use Rattle.journal_answers.specs.declared.view.JournalView.{JournalView}
+use Rattle.journal_answers.specs.Answers.{step, finish}
+use Rattle.journal_answers.specs.Opening.{opening}
+use Rattle.journal_answers.proofs.JournalLemmas.{course_verdict, only_full}
+use Rattle.journal_law.specs.Promises.{journal_at_first}
+use Rattle.journal_law.proofs.OpeningLemmas.{opening_case}
+
+end_unrefused : (b : Bool) → is_refused_status (verdict_status (if b then verdict.SomeRefused else verdict.Done)) ≡ false
+end_unrefused true = refl
+end_unrefused false = refl
+
+-- its lines and its end refuse nothing
+lines_unrefused : (lines : List (List ℕ)) (f : JournalView) → is_refused_status (verdict_status (course step finish f lines).status) ≡ false
+lines_unrefused lines f =
+    course_verdict step finish (λ v. is_refused_status (verdict_status v) ≡ false) (only_full (λ v. is_refused_status (verdict_status v) ≡ false) refl) (λ g. end_unrefused (end_view g.view).refused) f lines
+
+module _ (t : Tree) (old new : World) (told : old.store.tree ≡ Some t) (s : Status) (refused : is_refused_status s ≡ true) (lines : List (List ℕ)) where
+  pub journal_unchanged : (held : List ℕ) (d : DefinitionOrRefusal) → Finished ((by_lines step finish (opening t held d)).whole lines) old new s → Unchanged old new
+  journal_unchanged held d = opening_case t held d (λ x. Finished ((by_lines step finish x).whole lines) old new s → Unchanged old new)
+      (λ fields v halts e. same_stored t old new told s refused (ap (λ (x : Contents). x.stored) e.done)) (λ r e. not_so t old new told s refused _ e.status (lines_unrefused lines (journal_at_first r)))
