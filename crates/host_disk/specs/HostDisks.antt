@@ -1,7 +1,7 @@
 -- What is known of a disk that tells nothing.
 use Rattle.std.proofs.Common.{◌≡◌, ◌≤◌, ℕ, List, length, Option, None, Some, sym, subst}
 use Rattle.std.specs.Prelude.{⊤}
-use Rattle.disk.specs.Disk.{Content, DiskState, MayLeave}
+use Rattle.disk.specs.Disk.{Content, DiskState}
 
 abbrev pub untold : ℕ → DiskState
 untold faults = record { content = None; faults = faults; moment = 0 }

@@ -5,16 +5,20 @@ ghost use Rattle.outside.specs.Counts.{Rose};
 use disk::Disk;
 use outside::{Failed, StoreFault};
 use std::alloc::Global;
-use std::fs::{File, OpenOptions, TryLockError};
-use std::io::{Error, ErrorKind, Write};
+use std::fs::{self, File, TryLockError};
+use std::io::{Error, ErrorKind};
 use std::os::unix::fs::FileExt;
 use std::rt::Files;
 
 const PATH: &str = "schemasql.journal";
 
+// The file before it is whole.
+const NEW: &str = ".schemasql.journal.new";
+
 /// The file `schemasql.journal` as a disk. Its first call opens and locks it, and makes it of one byte 0 where it is
-/// missing; the file and its folder are then synced. A file that another program has locked, and one that is shorter than
-/// a read asks for, are failures. Where the file system knows no locks, or syncs no folders, it does without.
+/// missing, whole or not at all; the file and its folder are then synced. A file that another program has locked, one that
+/// nobody may write, what is no regular file, and a file that is shorter than a read asks for are failures. Where the file
+/// system knows no locks, or syncs no folders, it does without.
 #[derive(Drop)]
 pub struct HostDisk<R: Files<File = File> + Drop> {
     rt: R,
@@ -109,8 +113,9 @@ fn write<R: Files<File = File>>(
     opened(rt, file)?.write_all_at(bytes, at)
 }
 
+// What a read gives is on the disk, and how long the file is. The time of its last change need not be.
 fn sync<R: Files<File = File>>(rt: &R, file: &mut Option<File>) -> Result<(), Error> {
-    opened(rt, file)?.sync_all()
+    opened(rt, file)?.sync_data()
 }
 
 // The file, which is opened by the first call.
@@ -129,25 +134,65 @@ fn opened<'a, R: Files<File = File>>(
 
 // The file, open and locked, which is made where it is missing.
 fn open<R: Files<File = File>>(rt: &R) -> Result<File, Error> {
-    let mut options = OpenOptions::new();
-    options.read(true);
-    options.write(true);
-    match options.open(rt, PATH) {
-        Ok(file) => {
-            lock(&file)?;
-            Ok(file)
-        }
-        Err(error) if error.kind() == ErrorKind::NotFound => {
-            options.create_new(true);
-            let mut file = options.open(rt, PATH)?;
-            lock(&file)?;
-            file.write_all(&[0])?;
-            file.sync_all()?;
-            sync_folder(rt)?;
-            Ok(file)
-        }
-        Err(error) => Err(error),
+    match open_there(rt) {
+        Err(error) if error.kind() == ErrorKind::NotFound => make(rt),
+        opened => opened,
     }
+}
+
+// The file that is there, open and locked. What it holds is on the disk, also where a program was stopped before it had
+// synced it.
+fn open_there<R: Files<File = File>>(rt: &R) -> Result<File, Error> {
+    let file = File::options().read(true).write(true).open(rt, PATH)?;
+    check_writable(&file)?;
+    lock(&file)?;
+    file.sync_all()?;
+    sync_folder(rt)?;
+    Ok(file)
+}
+
+// Makes the file under another name, locked, and gives it its own when its byte is on the disk. Where something lies under
+// its own by then, as a link that leads nowhere, that is a failure, and nothing is left beside it.
+fn make<R: Files<File = File>>(rt: &R) -> Result<File, Error> {
+    check_left_over(rt)?;
+    let file = File::options()
+        .read(true)
+        .write(true)
+        .create(true)
+        .open(rt, NEW)?;
+    check_writable(&file)?;
+    lock(&file)?;
+    if fs::symlink_metadata(rt, PATH).is_ok() {
+        fs::remove_file(rt, NEW)?;
+        return Err(Error::from(ErrorKind::AlreadyExists));
+    }
+    file.set_len(0)?;
+    file.write_all_at(&[0], 0)?;
+    file.sync_all()?;
+    fs::rename(rt, NEW, PATH)?;
+    sync_folder(rt)?;
+    Ok(file)
+}
+
+// A file that a stopped program left beside is written over. What is no regular file there, as a link, is a failure.
+fn check_left_over<R: Files>(rt: &R) -> Result<(), Error> {
+    match fs::symlink_metadata(rt, NEW) {
+        Ok(metadata) if !metadata.is_file() => Err(Error::from(ErrorKind::InvalidInput)),
+        Err(error) if error.kind() != ErrorKind::NotFound => Err(error),
+        _ => Ok(()),
+    }
+}
+
+// What is no regular file, and a file whose mode lets nobody write, are failures.
+fn check_writable(file: &File) -> Result<(), Error> {
+    let metadata = file.metadata()?;
+    if !metadata.is_file() {
+        return Err(Error::from(ErrorKind::InvalidInput));
+    }
+    if metadata.permissions().readonly() {
+        return Err(Error::from(ErrorKind::PermissionDenied));
+    }
+    Ok(())
 }
 
 // Locks the file, where the file system knows locks. One that another program has locked is a failure.

@@ -4,10 +4,14 @@ use change_journal::JournalFault;
 use disk::Disk;
 use host_disk::HostDisk;
 use outside::Failed;
-use std::fs;
+use std::fs::{self, File, Permissions};
+use std::os::unix::fs::{PermissionsExt, symlink};
 use std::test::Fail;
 
 const FILE: &str = "schemasql.journal";
+
+// The file before it is whole.
+const NEW: &str = ".schemasql.journal.new";
 
 const LINES: Lines = ("drop-database\tz", None);
 
@@ -26,6 +30,53 @@ fn a_file_is_made_and_locked(rt: HostRuntime) -> Result<(), Fail> {
     let held = fs::read(&rt, FILE)?;
     assert!(rt; held.as_slice() == HELD);
     fs::remove_file(&rt, FILE)?;
+    Ok(())
+}
+
+// What a program left that was stopped while it made the file is written over.
+#[test]
+fn a_file_is_made_whole(rt: HostRuntime) -> Result<(), Fail> {
+    fs::write(&rt, NEW, b"left over")?;
+    assert_eq!(rt; HostDisk::of(rt).size(), Ok(1));
+    let held = fs::read(&rt, FILE)?;
+    assert!(rt; held.as_slice() == [0].as_slice());
+    assert!(rt; !fs::exists(&rt, NEW)?);
+    fs::remove_file(&rt, FILE)?;
+    Ok(())
+}
+
+// Nor is it made where another program makes it, or where something lies there that cannot be opened.
+#[test]
+fn a_file_is_not_made(rt: HostRuntime) -> Result<(), Fail> {
+    fs::write(&rt, NEW, b"")?;
+    let made = File::open(&rt, NEW)?;
+    assert!(rt; made.try_lock().is_ok());
+    assert_eq!(rt;
+        HostDisk::of(rt).size(),
+        Err(Failed),
+        "another program makes it"
+    );
+    drop(made);
+    symlink(&rt, "nowhere", FILE)?;
+    assert_eq!(rt;
+        HostDisk::of(rt).size(),
+        Err(Failed),
+        "a link leads nowhere"
+    );
+    assert!(rt; !fs::exists(&rt, NEW)?);
+    fs::remove_file(&rt, FILE)?;
+    Ok(())
+}
+
+#[test]
+fn a_file_that_nobody_may_write_is_not_opened(rt: HostRuntime) -> Result<(), Fail> {
+    fs::write(&rt, FILE, HELD)?;
+    fs::set_permissions(&rt, FILE, Permissions::from_mode(0o444))?;
+    assert_eq!(rt; HostDisk::of(rt).size(), Err(Failed));
+    fs::remove_file(&rt, FILE)?;
+    fs::create_dir(&rt, FILE)?;
+    assert_eq!(rt; HostDisk::of(rt).size(), Err(Failed), "it is a folder");
+    fs::remove_dir(&rt, FILE)?;
     Ok(())
 }
 

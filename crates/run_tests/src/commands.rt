@@ -362,7 +362,7 @@ const WORDS: [Row; 3] = [
         files: &[A],
         want: Want {
             status: 2,
-            printed: "usage: schemasql check|show|maintain|verify|apply NAME, or schemasql load N SEED, or schemasql stack NAME NAME .., or schemasql feed NAME\n",
+            printed: "usage: schemasql check|show|maintain|verify|apply NAME, or schemasql load N SEED, or schemasql stack NAME NAME .., or schemasql feed NAME, or schemasql journal NAME\n",
             folder: "views/AtoB",
             held: &[],
         },
@@ -372,7 +372,7 @@ const WORDS: [Row; 3] = [
         files: &[A],
         want: Want {
             status: 2,
-            printed: "usage: schemasql check|show|maintain|verify|apply NAME, or schemasql load N SEED, or schemasql stack NAME NAME .., or schemasql feed NAME\n",
+            printed: "usage: schemasql check|show|maintain|verify|apply NAME, or schemasql load N SEED, or schemasql stack NAME NAME .., or schemasql feed NAME, or schemasql journal NAME\n",
             folder: "views/AtoB",
             held: &[],
         },
@@ -416,7 +416,7 @@ const LOADED: [Row; 7] = [
         files: &[],
         want: Want {
             status: 2,
-            printed: "usage: schemasql check|show|maintain|verify|apply NAME, or schemasql load N SEED, or schemasql stack NAME NAME .., or schemasql feed NAME\n",
+            printed: "usage: schemasql check|show|maintain|verify|apply NAME, or schemasql load N SEED, or schemasql stack NAME NAME .., or schemasql feed NAME, or schemasql journal NAME\n",
             folder: "views/t",
             held: &[],
         },
@@ -426,7 +426,7 @@ const LOADED: [Row; 7] = [
         files: &[],
         want: Want {
             status: 2,
-            printed: "usage: schemasql check|show|maintain|verify|apply NAME, or schemasql load N SEED, or schemasql stack NAME NAME .., or schemasql feed NAME\n",
+            printed: "usage: schemasql check|show|maintain|verify|apply NAME, or schemasql load N SEED, or schemasql stack NAME NAME .., or schemasql feed NAME, or schemasql journal NAME\n",
             folder: "views/t",
             held: &[],
         },
@@ -436,7 +436,7 @@ const LOADED: [Row; 7] = [
         files: &[],
         want: Want {
             status: 2,
-            printed: "usage: schemasql check|show|maintain|verify|apply NAME, or schemasql load N SEED, or schemasql stack NAME NAME .., or schemasql feed NAME\n",
+            printed: "usage: schemasql check|show|maintain|verify|apply NAME, or schemasql load N SEED, or schemasql stack NAME NAME .., or schemasql feed NAME, or schemasql journal NAME\n",
             folder: "views/t",
             held: &[],
         },
@@ -446,7 +446,7 @@ const LOADED: [Row; 7] = [
         files: &[],
         want: Want {
             status: 2,
-            printed: "usage: schemasql check|show|maintain|verify|apply NAME, or schemasql load N SEED, or schemasql stack NAME NAME .., or schemasql feed NAME\n",
+            printed: "usage: schemasql check|show|maintain|verify|apply NAME, or schemasql load N SEED, or schemasql stack NAME NAME .., or schemasql feed NAME, or schemasql journal NAME\n",
             folder: "views/t",
             held: &[],
         },
@@ -456,7 +456,7 @@ const LOADED: [Row; 7] = [
         files: &[],
         want: Want {
             status: 2,
-            printed: "usage: schemasql check|show|maintain|verify|apply NAME, or schemasql load N SEED, or schemasql stack NAME NAME .., or schemasql feed NAME\n",
+            printed: "usage: schemasql check|show|maintain|verify|apply NAME, or schemasql load N SEED, or schemasql stack NAME NAME .., or schemasql feed NAME, or schemasql journal NAME\n",
             folder: "views/t",
             held: &[],
         },

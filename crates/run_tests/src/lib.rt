@@ -1,4 +1,4 @@
-//! Worked rows of the whole program, over folders and streams in memory, and runs of each command with
+//! Worked rows of the whole program, over folders, streams and a disk in memory, and runs of each command with
 //! each of their calls failing in turn.
 //!
 //! It has tests alone. What they want comes from outside, never from the program.
@@ -16,6 +16,10 @@ mod failing;
 mod fed;
 #[cfg(test)]
 mod grouped;
+#[cfg(test)]
+mod journaled;
+#[cfg(test)]
+mod journaled_failing;
 #[cfg(test)]
 mod long;
 #[cfg(test)]

@@ -1,15 +1,19 @@
-//! Folders in memory, and a run over them.
+//! Folders and a disk in memory, and a run over them.
 ghost use Rattle.std.specs.Prelude.{◌≡◌, ◌<◌, All};
 
+use disk::{Disk, MemDisk};
 use outside::{Folders, MemFolders, Sink, Source, StoreFault, SureFolders};
 use ss_text::{NoMemory, Steps, Text};
-use ss_top::{Status, run};
+use ss_top::{Status, run, run_with_disk};
 use std::alloc::Global;
 use std::marker::Brand;
 use std::sync::ledger::{Blank, Ledger};
 
 /// A file: its folder, its name and what it holds.
 pub type File = (&'static str, &'static str, &'static str);
+
+/// The files of a folder, in order: their names and what they hold.
+pub type Held = (&'static str, &'static [(&'static str, &'static str)]);
 
 /// This text.
 pub fn text(alloc: Global, part: &str) -> Result<Text, NoMemory> {
@@ -60,6 +64,13 @@ pub fn failing_folders(
     Ok(store)
 }
 
+/// A disk of these bytes, whose call with this number fails. Calls are counted from 1.
+pub fn disk_of(alloc: Global, bytes: &[u8], failing: u8) -> Result<MemDisk, NoMemory> {
+    let bytes = Text::of(alloc, bytes)?;
+    let fails = vec![in alloc; u64::from(failing)]?;
+    Ok(MemDisk::of(alloc, bytes, fails))
+}
+
 fn run_counting<L: Ledger, F: Folders, S: Source, K: Sink>(
     alloc: Global,
     words: &[Text],
@@ -85,6 +96,35 @@ pub fn run_over<F: Folders, S: Source, K: Sink>(
     output: &mut K,
 ) -> Status {
     run_counting::<Brand, F, S, K>(alloc, words, store, input, output, Blank::new(1))
+}
+
+fn run_counting_on<L: Ledger, F: Folders, S: Source, K: Sink, D: Disk>(
+    alloc: Global,
+    words: &[Text],
+    store: &mut F,
+    input: &mut S,
+    output: &mut K,
+    disk: &mut D,
+    blank: Blank,
+) -> Status
+    requires name { blank.name ≡ L.name }
+    requires parts { blank.parts ≡ L.parts }
+    requires some { 0 < L.parts }
+{
+    let mut steps = Steps::<L>::of(blank);
+    run_with_disk(alloc, words, store, input, output, disk, &mut steps)
+}
+
+/// Runs over a disk, and lets the count of steps go.
+pub fn run_over_disk<F: Folders, S: Source, K: Sink, D: Disk>(
+    alloc: Global,
+    words: &[Text],
+    store: &mut F,
+    input: &mut S,
+    output: &mut K,
+    disk: &mut D,
+) -> Status {
+    run_counting_on::<Brand, F, S, K, D>(alloc, words, store, input, output, disk, Blank::new(1))
 }
 
 // The names of the files of a folder. Of two calls at most one is to fail.
@@ -140,6 +180,20 @@ pub fn holds<F: Folders>(
     }
     for (name, (file, held)) in names.iter().zip(want) {
         if name.as_slice() != file.as_bytes() || !is_held(alloc, store, &folder, name, held)? {
+            return Ok(false);
+        }
+    }
+    Ok(true)
+}
+
+/// Whether each folder holds exactly these files.
+pub fn all_hold<F: Folders>(
+    alloc: Global,
+    store: &mut F,
+    want: &[Held],
+) -> Result<bool, StoreFault> {
+    for (folder, files) in want {
+        if !holds(alloc, store, folder, files)? {
             return Ok(false);
         }
     }

@@ -1,12 +1,9 @@
 //! Views over one another, which `stack` keeps.
 use crate::offices::{A, A_TO_B, BACK};
-use crate::place::{File, folders, holds, run_over, texts};
+use crate::place::{File, Held, all_hold, folders, run_over, texts};
 use outside::{Folders, StoreFault, SureSink, SureSource};
 use ss_top::Status;
 use std::alloc::Global;
-
-// The files of a folder, in order.
-type Held = (&'static str, &'static [(&'static str, &'static str)]);
 
 // A run, and what it leaves.
 struct Stacked {
@@ -171,16 +168,6 @@ const RUNS: [Stacked; 8] = [
     },
 ];
 
-// Whether each folder holds exactly these files.
-fn all_held<F: Folders>(alloc: Global, store: &mut F, want: &[Held]) -> Result<bool, StoreFault> {
-    for (folder, files) in want {
-        if !holds(alloc, store, folder, files)? {
-            return Ok(false);
-        }
-    }
-    Ok(true)
-}
-
 // What a run left that is not wanted.
 fn unwanted<F: Folders>(
     alloc: Global,
@@ -195,7 +182,7 @@ fn unwanted<F: Folders>(
     if printed != want.printed.as_bytes() {
         return Ok("the output");
     }
-    if all_held(alloc, store, want.held)? {
+    if all_hold(alloc, store, want.held)? {
         Ok("nothing")
     } else {
         Ok("the files")

@@ -1,7 +1,8 @@
 //! Folders, an input and an output in memory, of which one call fails.
 ghost use Rattle.std.specs.Prelude.{◌<◌, All, IfOk};
 
-use crate::place::{File, failing_folders, run_over, texts};
+use crate::place::{File, failing_folders, run_over, run_over_disk, texts};
+use disk::Disk;
 use outside::{MemFolders, MemSink, MemSource};
 use ss_text::NoMemory;
 use ss_top::Status;
@@ -82,6 +83,24 @@ impl World {
             &mut self.store,
             &mut self.input,
             &mut self.output,
+        ))
+    }
+
+    /// The status of a run with these words over a disk.
+    pub fn run_on<D: Disk>(
+        &mut self,
+        alloc: Global,
+        words: &[&str],
+        disk: &mut D,
+    ) -> Result<Status, NoMemory> {
+        let words = texts(alloc, words)?;
+        Ok(run_over_disk(
+            alloc,
+            &words,
+            &mut self.store,
+            &mut self.input,
+            &mut self.output,
+            disk,
         ))
     }
 }

@@ -1,7 +1,7 @@
-//! The program `schemasql`: its words, the current folder, standard input and standard output go to `run`,
-//! and its exit status is the number of the status that comes out.
+//! The program `schemasql`: its words, the current folder, standard input, standard output and the file of a journal go to
+//! `run_with_disk`, and its exit status is the number of the status that comes out.
 //!
-//! It is the trusted edge: its adapters tell nothing of what real folders and streams hold.
+//! It is the trusted edge: its adapters tell nothing of what real folders, streams and files hold.
 #![tactic(auto)]
 
 mod streams;
@@ -9,9 +9,10 @@ mod words;
 
 ghost use Rattle.std.specs.Prelude.{◌≡◌, ◌<◌};
 
+use host_disk::HostDisk;
 use host_folders::HostFolders;
 use ss_text::{Steps, Text};
-use ss_top::{Status, run};
+use ss_top::{Status, run_with_disk};
 use std::marker::Brand;
 use std::process::ExitCode;
 use std::sync::ledger::{Blank, Ledger};
@@ -37,13 +38,15 @@ fn run_here<L: Ledger>(rt: &HostRuntime, words: &[Text], blank: Blank) -> Status
     let mut store = HostFolders::of(*rt, writes_of(words));
     let mut input = HostSource::of(rt.stdin());
     let mut output = HostSink::of(rt.stdout());
+    let mut disk = HostDisk::of(*rt);
     let mut steps = Steps::<L>::of(blank);
-    run(
+    run_with_disk(
         rt.alloc(),
         words,
         &mut store,
         &mut input,
         &mut output,
+        &mut disk,
         &mut steps,
     )
 }

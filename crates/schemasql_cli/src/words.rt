@@ -38,7 +38,7 @@ pub(crate) fn writes_of(words: &[Text]) -> Writes {
     match words {
         [command, ..] => match command.as_slice() {
             b"maintain" | b"stack" | b"feed" => Writes::ViewsAndSources,
-            b"show" => Writes::View,
+            b"show" | b"journal" => Writes::View,
             b"apply" => Writes::OnlyView,
             _ => Writes::Nothing,
         },

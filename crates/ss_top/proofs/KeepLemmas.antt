@@ -3,7 +3,7 @@ use Rattle.std.proofs.Common.{◌≡◌, ℕ, List, [], ◌∷◌, ◌++◌, Opt
 use Rattle.std.specs.Prelude.{Result, Ok, Err}
 use Rattle.ss_text.specs.Texts.{Text}
 use Rattle.outside.specs.Tree.{Tree}
-use Rattle.effects.specs.Effects.{Effect, World, contents, Partly}
+use Rattle.effects.specs.Effects.{Effect, World, contents, performed}
 use Rattle.valuation_meaning.specs.Meaning.{shape_of}
 use Rattle.course.specs.declared.status.Verdict.{Verdict}
 use Rattle.course.specs.declared.status.Halt.{Halt}
@@ -13,13 +13,12 @@ use Rattle.tab_lines.specs.Lines.{lines_of, whole_lines}
 use Rattle.schema_model.proofs.ReadyLemmas.{same_some}
 use Rattle.view_folder.specs.Held.{held}
 use Rattle.run_course.specs.Course.{RanBy, RanSome, GaveOut, HeldUp, by_lines}
-use Rattle.run_course.proofs.ToldLemmas.{told_tree}
 use Rattle.run_course.proofs.TakenLemmas.{taken_lines}
 use Rattle.view_stages.specs.Stages.{DefinitionOrRefusal, loaded_or_refused}
 use Rattle.view_stages.specs.Opening.{opening, done_at_once}
 use Rattle.view_stages.specs.Places.{Exempt}
 use Rattle.view_stages.specs.Opened.{Keeps, folder_of, view_exempt}
-use Rattle.view_stages.proofs.PlaceLemmas.{AllWithin, StaysIn, at_first_stays, performed_stays, partly_stays}
+use Rattle.view_stages.proofs.PlaceLemmas.{AllWithin}
 use Rattle.view_apply.specs.Applying as applying
 use Rattle.plain_commands.specs.Checking.{checked}
 use Rattle.plain_commands.specs.Verifying.{verified}
@@ -40,6 +39,7 @@ use Rattle.feed_law.proofs.WithinLemmas.{feed_over, feed_so_far_over}
 use Rattle.ss_top.specs.Commands.{Asked, Check, Show, Maintain, Verify, Apply, Stack, Feed, Load, Other, HasViews}
 use Rattle.ss_top.specs.Runs.{Definitions, Request, course_by, course_of}
 use Rattle.ss_top.specs.Promises.{KeepsBut, views_exempt, exempt_by}
+use Rattle.ss_top.proofs.CourseLemmas.{keeps_done, keeps_ended}
 
 -- those of a command with one view
 module _ (t : Tree) where
@@ -140,51 +140,39 @@ module _ (q : Request) (old new : World) (told : old.store.tree ≡ Some q.tree)
   within_so_far : (lines : List (List ℕ)) (gs : List Effect) → (course_of q).so_far lines ≡ Some gs → AllWithin (exempt lines) gs
   within_so_far lines gs e = so_far_within q.asked q.tree q.definitions lines some gs e
 
-  kept : (lines : List (List ℕ)) → StaysIn (exempt lines) q.tree (contents new) → Keeps (exempt lines) q.tree new
-  unfolding contents
-  kept lines s = record { tree = s.store.tree; told = (told_tree new.store.tree new.store.writes s.store s.told).0; others = s.others }
+  abbrev KeepsOver : List (List ℕ) → Type 0
+  KeepsOver lines = Keeps (exempt lines) q.tree new
 
-  done_all : (lines : List (List ℕ)) (v : Verdict) → EndedOver ((course_of q).whole lines) old new (Ok v) → Keeps (exempt lines) q.tree new
-  done_all lines v ran =
-      kept lines (subst (StaysIn (exempt lines) q.tree) (sym ran.0) (performed_stays (exempt lines) q.tree ((course_of q).whole lines).effects (contents old) (within lines) (at_first_stays (exempt lines) q.tree old told)))
+  done : (lines : List (List ℕ)) (es : List Effect) → AllWithin (exempt lines) es → contents new ≡ performed es (contents old) → KeepsOver lines
+  done lines es h = keeps_done (exempt lines) q.tree old new told es h
 
-  done_partly : (lines : List (List ℕ)) → Partly ((course_of q).whole lines).effects (contents old) (contents new) → Keeps (exempt lines) q.tree new
-  done_partly lines ran = kept lines (partly_stays (exempt lines) q.tree ((course_of q).whole lines).effects (contents old) (contents new) (within lines) ran (at_first_stays (exempt lines) q.tree old told))
+  ended : (lines : List (List ℕ)) (r : Result Verdict Halt) → EndedOver ((course_of q).whole lines) old new r → KeepsOver lines
+  ended lines r h = keeps_ended (exempt lines) q.tree old new told ((course_of q).whole lines) r (within lines) h
 
   -- where its input is not told, some lines were answered
   did_some : (r : Result Verdict Halt) → RanSome (course_of q) old new r → KeepsBut q None new
-  did_some (Ok v) h = record { lines = h.lines; first = λ bytes none. absurd (cc none); kept = done_all h.lines v h.ran }
-  did_some (Err x) h = record { lines = h.lines; first = λ bytes none. absurd (cc none); kept = done_partly h.lines h.ran }
+  did_some r h = record { lines = h.lines; first = λ bytes none. absurd (cc none); kept = ended h.lines r h.ran }
 
   -- where it is, its first lines
   module _ (bytes : List ℕ) (rest : Option (List ℕ)) where
-    all_lines : Keeps (exempt (lines_of bytes)) q.tree new → KeepsBut q (Some bytes) new
-    all_lines k = record { lines = lines_of bytes; first = λ bs e. ([], ap lines_of (sym (same_some bytes bs e)) ∙ sym (append-nil (lines_of bytes))); kept = k }
+    all_lines : (r : Result Verdict Halt) → EndedOver ((course_of q).whole (lines_of bytes)) old new r → KeepsBut q (Some bytes) new
+    all_lines r h = record { lines = lines_of bytes; first = λ bs e. ([], ap lines_of (sym (same_some bytes bs e)) ∙ sym (append-nil (lines_of bytes))); kept = ended (lines_of bytes) r h }
 
     gave_out : GaveOut (course_of q) bytes rest old new → KeepsBut q (Some bytes) new
     gave_out g =
         let lines : List (List ℕ) = whole_lines g.taken in
         let front = taken_lines bytes g.taken g.left g.split in
-        record {
-          lines = lines;
-          first = λ bs e. (front.0, ap lines_of (sym (same_some bytes bs e)) ∙ front.1);
-          kept = kept lines (subst (StaysIn (exempt lines) q.tree) (sym g.done) (performed_stays (exempt lines) q.tree g.effects (contents old) (within_so_far lines g.effects g.meant) (at_first_stays (exempt lines) q.tree old told)));
-        }
+        record { lines = lines; first = λ bs e. (front.0, ap lines_of (sym (same_some bytes bs e)) ∙ front.1); kept = done lines g.effects (within_so_far lines g.effects g.meant) g.done }
 
     held_up : HeldUp (course_of q) bytes old new → KeepsBut q (Some bytes) new
-    held_up g =
-        record {
-          lines = g.answered;
-          first = λ bs e. (g.line ∷ g.more, ap lines_of (sym (same_some bytes bs e)) ∙ g.are);
-          kept = kept g.answered (subst (StaysIn (exempt g.answered) q.tree) (sym g.done) (performed_stays (exempt g.answered) q.tree g.effects (contents old) (within_so_far g.answered g.effects g.meant) (at_first_stays (exempt g.answered) q.tree old told)));
-        }
+    held_up g = record { lines = g.answered; first = λ bs e. (g.line ∷ g.more, ap lines_of (sym (same_some bytes bs e)) ∙ g.are); kept = done g.answered g.effects (within_so_far g.answered g.effects g.meant) g.done }
 
     did_told : (r : Result Verdict Halt) → RanBy (course_of q) bytes rest old new r → KeepsBut q (Some bytes) new
-    did_told (Ok v) h = all_lines (done_all (lines_of bytes) v h)
+    did_told (Ok v) h = all_lines (Ok v) h
     did_told (Err halt.InputFault) h = gave_out h
     did_told (Err halt.TooLong) h = gave_out h.0
     did_told (Err halt.DiskFault) h = held_up h
-    did_told (Err (halt.Stopped e)) h = all_lines (done_partly (lines_of bytes) h)
+    did_told (Err (halt.Stopped e)) h = all_lines (Err (halt.Stopped e)) h
 
 pub did_keep : (q : Request) (input rest : Option (List ℕ)) (old new : World) (r : Result Verdict Halt) → old.store.tree ≡ Some q.tree → HasViews q.asked → RanSome (course_of q) old new r
     → ((bytes : List ℕ) → input ≡ Some bytes → RanBy (course_of q) bytes rest old new r) → KeepsBut q input new

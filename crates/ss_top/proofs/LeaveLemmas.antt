@@ -1,21 +1,16 @@
 -- What a run left is between what is there before one of its stages and what is there behind it.
-use Rattle.std.proofs.Common.{◌≡◌, ℕ, List, [], ◌∷◌, ◌++◌, Option, None, Some, map, refl, ap, ◌∙◌, subst}
+use Rattle.std.proofs.Common.{◌≡◌, ℕ, List, [], ◌∷◌, ◌++◌, Option, Some, map, refl, subst}
 use Rattle.std.specs.Prelude.{Result, Ok, Err}
-use Rattle.tab_lines.specs.Lines.{lines_of, whole_lines}
 use Rattle.outside.specs.Tree.{Tree}
 use Rattle.effects.specs.Effects.{Effect, World, Stored, Contents, contents, Partly}
 use Rattle.valuation_meaning.specs.Meaning.{shape_of}
 use Rattle.view_folder.specs.Held.{held}
 use Rattle.course.specs.declared.status.Verdict.{Verdict}
 use Rattle.course.specs.declared.status.Halt.{Halt}
-use Rattle.course.specs.declared.status.Halt.TheVariants as halt
 use Rattle.course.specs.Answering.{ending}
-use Rattle.schema_model.proofs.ReadyLemmas.{same_some}
 use Rattle.view_apply.specs.Applying as applying
-use Rattle.run_course.specs.Course.{RanBy, RanSome, GaveOut, HeldUp, by_lines}
-use Rattle.run_course.proofs.ToldLemmas.{told_tree, contents_told}
-use Rattle.run_course.proofs.TakenLemmas.{taken_lines}
-use Rattle.run_course.proofs.FrontLemmas.{partly_whole, partly_front, lines_front}
+use Rattle.run_course.specs.Course.{RanBy, RanSome, by_lines}
+use Rattle.run_course.proofs.FrontLemmas.{lines_front}
 use Rattle.view_stages.specs.Stages.{DefinitionOrRefusal, loaded_or_refused}
 use Rattle.view_stages.specs.Opening.{opening, done_at_once}
 use Rattle.view_stages.specs.Opened.{folder_of, view_exempt}
@@ -38,6 +33,7 @@ use Rattle.feed_law.proofs.StopLemmas.{feed_over}
 use Rattle.ss_top.specs.Commands.{Asked, Check, Show, Maintain, Verify, Apply, Stack, Feed, Load, Other}
 use Rattle.ss_top.specs.Runs.{Definitions, Request, course_by, course_of}
 use Rattle.ss_top.specs.Between.{stages_by, file_by_file, IsLeftBetween}
+use Rattle.ss_top.proofs.CourseLemmas.{told_front, leaves}
 use Rattle.ss_top.proofs.KeepLemmas.{same_exempt}
 
 -- the run of each command
@@ -87,49 +83,9 @@ course_front (Feed name) t ds xs more fs e = lines_front feed.step feed.finish (
 course_front (Load changes seed) t ds xs more fs e = absurd (cc e)
 course_front Other t ds xs more fs e = absurd (cc e)
 
--- so each run did a front of its course, however it ended
-module _ (q : Request) (old new : World) where
-  abbrev Fronts : List (List ℕ) → Type 0
-  Fronts lines = Partly ((course_of q).whole lines).effects (contents old) (contents new)
-
-  some_front : (r : Result Verdict Halt) → (h : RanSome (course_of q) old new r) → Fronts h.lines
-  some_front (Ok v) h = partly_whole ((course_of q).whole h.lines).effects (contents old) (contents new) h.ran.0
-  some_front (Err x) h = h.ran
-
-  module _ (bytes : List ℕ) (rest : Option (List ℕ)) where
-    gave_out : GaveOut (course_of q) bytes rest old new → Fronts (lines_of bytes)
-    gave_out g =
-        let first = taken_lines bytes g.taken g.left g.split in
-        let front = course_front q.asked q.tree q.definitions (whole_lines g.taken) first.0 g.effects g.meant in
-        partly_front g.effects front.0 ((course_of q).whole (lines_of bytes)).effects (contents old) (contents new) (ap (λ (ls : List (List ℕ)). ((course_of q).whole ls).effects) first.1 ∙ front.1) g.done
-
-    held_up : HeldUp (course_of q) bytes old new → Fronts (lines_of bytes)
-    held_up g =
-        let front = course_front q.asked q.tree q.definitions g.answered (g.line ∷ g.more) g.effects g.meant in
-        partly_front g.effects front.0 ((course_of q).whole (lines_of bytes)).effects (contents old) (contents new) (ap (λ (ls : List (List ℕ)). ((course_of q).whole ls).effects) g.are ∙ front.1) g.done
-
-    told_front : (r : Result Verdict Halt) → RanBy (course_of q) bytes rest old new r → Fronts (lines_of bytes)
-    told_front (Ok v) h = partly_whole ((course_of q).whole (lines_of bytes)).effects (contents old) (contents new) h.0
-    told_front (Err halt.InputFault) h = gave_out h
-    told_front (Err halt.TooLong) h = gave_out h.0
-    told_front (Err halt.DiskFault) h = held_up h
-    told_front (Err (halt.Stopped e)) h = h
-
-  module _ (told : old.store.tree ≡ Some q.tree) where
-    abbrev at_first : Stored
-    at_first = record { tree = q.tree; writes = old.store.writes }
-
-    first_told : (contents old).stored ≡ Some at_first
-    first_told = ap (λ (c : Contents). c.stored) (contents_told old q.tree told)
-
-    left : (input : Option (List ℕ)) (lines : List (List ℕ)) → ((bytes : List ℕ) → input ≡ Some bytes → lines ≡ lines_of bytes) → Fronts lines → IsLeftBetween q input new
-    unfolding contents
-    left input lines all front =
-        let h = course_stops at_first (contents old) (contents new) first_told lines q.asked q.definitions front in
-        record { lines = lines; all = all; tree = h.stored.tree; told = (told_tree new.store.tree new.store.writes h.stored h.told).0; stops = h.stops }
-
 pub did_leave : (q : Request) (input rest : Option (List ℕ)) (old new : World) (r : Result Verdict Halt) → old.store.tree ≡ Some q.tree → RanSome (course_of q) old new r
     → ((bytes : List ℕ) → input ≡ Some bytes → RanBy (course_of q) bytes rest old new r) → IsLeftBetween q input new
-did_leave q None rest old new r told some ran = left q old new told None some.lines (λ bytes none. absurd (cc none)) (some_front q old new r some)
-did_leave q (Some bytes) rest old new r told some ran =
-    left q old new told (Some bytes) (lines_of bytes) (λ bs e. ap lines_of (same_some bytes bs e)) (told_front q old new bytes rest r (ran bytes refl))
+did_leave q input rest old new r told some ran =
+    leaves (course_of q) old new (file_by_file q.asked q.definitions) (stages_by q.asked q.tree q.definitions) q.tree told
+    (λ writes stored lines h. course_stops (record { tree = q.tree; writes = writes }) (contents old) (contents new) stored lines q.asked q.definitions h)
+    input r some (λ bytes given. told_front (course_of q) old new (course_front q.asked q.tree q.definitions) bytes rest r (ran bytes given))

@@ -1,4 +1,6 @@
+pub mod CourseLemmas
 pub mod DefinedLemmas
+pub mod JournalLemmas
 pub mod KeepLemmas
 pub mod LeaveLemmas
 pub mod RefusedLemmas

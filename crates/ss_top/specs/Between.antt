@@ -27,9 +27,12 @@ file_by_file (Apply name) ds = []
 file_by_file asked ds = views_exempt (names_of asked) ds
 
 -- the store tells what a run left, which stopped in one of its stages; the lines are those of the input, where it tells them
-pub record IsLeftBetween (r : Request) (input : Option (List ℕ)) (new : World) : Type 0 where
+pub record IsLeftIn (exempt : List Exempt) (stages : List (List ℕ) → List (List Effect)) (t : Tree) (input : Option (List ℕ)) (new : World) : Type 0 where
   pub lines : List (List ℕ)
   pub all : (bytes : List ℕ) → input ≡ Some bytes → lines ≡ lines_of bytes
   pub tree : Tree
   pub told : new.store.tree ≡ Some tree
-  pub stops : StopsIn (file_by_file r.asked r.definitions) (stages_by r.asked r.tree r.definitions lines) r.tree tree
+  pub stops : StopsIn exempt (stages lines) t tree
+
+abbrev pub IsLeftBetween : Request → Option (List ℕ) → World → Type 0
+IsLeftBetween r input new = IsLeftIn (file_by_file r.asked r.definitions) (stages_by r.asked r.tree r.definitions) r.tree input new

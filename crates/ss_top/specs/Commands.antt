@@ -58,6 +58,11 @@ asked_of (word ∷ name ∷ []) = if is_table_label name then command_named word
 asked_of (word ∷ changes ∷ seed ∷ []) = if text_eq word (codes "load") then command_counted changes seed else stack_of (word ∷ changes ∷ seed ∷ [])
 asked_of words = stack_of words
 
+-- the view that is to be kept with a journal, where the words are `journal` and a legal table label
+abbrev pub journal_of : List Text → Option Text
+journal_of (word ∷ name ∷ []) = if is_table_label name && text_eq word (codes "journal") then Some name else None
+journal_of words = None
+
 -- what a command asks for
 abbrev pub asked_by : Command → Asked
 asked_by (command.Check name) = Check name.now
@@ -135,7 +140,7 @@ can_end Other s = can_refuse s
 
 -- what is printed of words that are none of the forms: which words are asked for
 abbrev pub usage_line : Text
-usage_line = codes "usage: schemasql check|show|maintain|verify|apply NAME, or schemasql load N SEED, or schemasql stack NAME NAME .., or schemasql feed NAME"
+usage_line = codes "usage: schemasql check|show|maintain|verify|apply NAME, or schemasql load N SEED, or schemasql stack NAME NAME .., or schemasql feed NAME, or schemasql journal NAME"
 
 abbrev pub prints_usage : Effect
 prints_usage = Print (usage_line ++ 10 ∷ [])

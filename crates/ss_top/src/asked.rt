@@ -1,8 +1,8 @@
 //! What the words ask for.
-ghost use Rattle.std.specs.Prelude.{◌≡◌};
+ghost use Rattle.std.specs.Prelude.{◌≡◌, option_copied};
 ghost use Rattle.std.specs.List.{list_all};
 ghost use Rattle.ss_text.specs.Label.{is_table_label};
-ghost use Rattle.ss_top.specs.Commands.{asked_of, asked_by, command_named, command_counted, are_some_levels, are_levels, stack_of};
+ghost use Rattle.ss_top.specs.Commands.{asked_of, asked_by, command_named, command_counted, are_some_levels, are_levels, stack_of, journal_of};
 
 use load_run::{changes_of, seed_of};
 use ss_text::{Text, table_label_legal};
@@ -93,4 +93,16 @@ fn all_legal(names: &[Text]) -> bool
     ensures { result ≡ list_all is_table_label names.now }
 {
     names.iter().all(|name| table_label_legal(name))
+}
+
+// The name of the view that is to be kept with a journal.
+pub(crate) fn journal_name(words: &[Text]) -> Option<&Text>
+    ensures { option_copied result ≡ journal_of words.now }
+{
+    match words {
+        [word, name] if table_label_legal(name) && word.as_slice() == b"journal".as_slice() => {
+            Some(name)
+        }
+        _ => None,
+    }
 }

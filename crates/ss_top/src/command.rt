@@ -22,7 +22,7 @@ use std::sync::ledger::Ledger;
 use view_answers::maintain;
 
 // Does what a command asks for.
-#[tactic(auto, using(run_course::proofs::RunLemmas::ran_some, run_course::proofs::RunLemmas::stopped_some, run_course::proofs::RunLemmas::stop_can_check, run_course::proofs::RunLemmas::stop_can_show, run_course::proofs::RunLemmas::stop_can_load, run_course::proofs::RunLemmas::stop_can_refuse, run_course::proofs::RunLemmas::idle_other))]
+#[tactic(auto, using(run_course::proofs::RunLemmas::ran_some, run_course::proofs::RunLemmas::stopped_some, run_course::proofs::RunLemmas::stop_can_check, run_course::proofs::RunLemmas::stop_can_show, run_course::proofs::RunLemmas::stop_can_load, run_course::proofs::RunLemmas::stop_can_refuse, run_course::proofs::RunLemmas::idle_other, crate::proofs::DefinedLemmas::in_order))]
 pub(crate) fn run_command<F: Folders, S: Source, K: Sink, L: Ledger>(
     alloc: Global,
     command: Command,

@@ -6,8 +6,10 @@
 
 mod asked;
 mod command;
+mod journals;
 mod top;
 mod usage;
 
+pub use journals::run_with_disk;
 pub use run_course::Status;
 pub use top::run;

@@ -19,7 +19,7 @@ fn print_usage<K: Sink>(alloc: Global, output: &mut K) -> Result<(), Stop>
     print(
         alloc,
         output,
-        b"usage: schemasql check|show|maintain|verify|apply NAME, or schemasql load N SEED, or schemasql stack NAME NAME .., or schemasql feed NAME\n",
+        b"usage: schemasql check|show|maintain|verify|apply NAME, or schemasql load N SEED, or schemasql stack NAME NAME .., or schemasql feed NAME, or schemasql journal NAME\n",
     )
 }
 
