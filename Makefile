@@ -35,12 +35,13 @@ try: $(UNPROVED)
 	@echo "\`make\` proves the program."
 
 # The same by the proved program, over changes too; the sales of some months in one table; two shops whose lines are lost,
-# repeated and out of order; and a view over a view.
+# repeated and out of order; a view over a view; and orders that are kept where the program is killed.
 demo: $(PROGRAM)
 	examples/offices/run $(PROGRAM)
 	examples/months/run $(PROGRAM)
 	examples/feed/run $(PROGRAM)
 	examples/stack/run $(PROGRAM)
+	examples/journal/run $(PROGRAM)
 
 # The one test command: the gate.
 test:
@@ -57,6 +58,7 @@ cases: $(PROGRAM)
 	cases/tour $(PROGRAM)
 	cases/killed $(PROGRAM)
 	cases/together $(PROGRAM)
+	cases/capitals $(PROGRAM)
 	cases/run $(PROGRAM)
 
 # How long the program takes.
