@@ -2,10 +2,10 @@
 use Rattle.std.proofs.Common.{◌≡◌, ◌<◌, ◌≤◌, ◌+◌, ◌-◌, ◌⊎◌, ◌==◌, ◌||◌, ℕ, Bool, true, false, List, [], ◌∷◌, ◌++◌, length, Option, None, Some, inl, inr, refl, sym, ap, ◌∙◌, subst, append_assoc, arith, length-append, append-nil}
 use Rattle.std.specs.Prelude.{Result, Ok, Err}
 use Rattle.outside.specs.Streams.{before, CameLast}
-use Rattle.effects.specs.Effects.{Effect, World, Contents, contents, performed, Partly}
-use Rattle.effects.specs.declared.stop.Stop.{Stop}
-use Rattle.effects.specs.declared.stop.Stop.TheVariants as stop
-use Rattle.effects.proofs.EffectLemmas.{performed_append, nothing_yet, partly_more}
+use Rattle.outside.specs.Effects.{Effect, World, Contents, contents, performed, Partly}
+use Rattle.outside.specs.declared.stop.Stop.{Stop}
+use Rattle.outside.specs.declared.stop.Stop.TheVariants as stop
+use Rattle.outside.proofs.EffectLemmas.{performed_append, nothing_yet, partly_more}
 use Rattle.tab_lines.specs.Lines.{has_feed, lines_of, whole_lines}
 use Rattle.tab_lines.specs.Taking.{LinesState, ahead, Unfinished, most_taken, IsWithinLimit, IsTakenLine, Answers, Reads, IsNextOf}
 use Rattle.tab_lines.specs.declared.lines.Next.{Next}

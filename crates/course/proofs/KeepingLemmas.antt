@@ -2,10 +2,10 @@
 use Rattle.std.proofs.Common.{◌≡◌, ◌≢◌, ◌≤◌, ◌⊎◌, ℕ, true, false, List, [], ◌∷◌, ◌++◌, Option, None, Some, inl, inr, refl, sym, ap, ◌∙◌, subst, append_assoc, append-nil, arith}
 use Rattle.std.specs.Prelude.{Result, Ok, Err}
 use Rattle.outside.specs.Counts.{Rose}
-use Rattle.effects.specs.Effects.{Effect, World, Contents, contents, performed}
-use Rattle.effects.specs.declared.stop.Stop.{Stop}
-use Rattle.effects.specs.declared.stop.Stop.TheVariants as stop
-use Rattle.effects.proofs.EffectLemmas.{performed_append}
+use Rattle.outside.specs.Effects.{Effect, World, Contents, contents, performed}
+use Rattle.outside.specs.declared.stop.Stop.{Stop}
+use Rattle.outside.specs.declared.stop.Stop.TheVariants as stop
+use Rattle.outside.proofs.EffectLemmas.{performed_append}
 use Rattle.tab_lines.specs.Lines.{has_feed, lines_of, whole_lines}
 use Rattle.tab_lines.specs.Taking.{LinesState, ahead, Unfinished, Answers, Reads}
 use Rattle.tab_lines.specs.declared.lines.Next.TheVariants.{Line, End}

@@ -1,7 +1,7 @@
 -- What a run keeps of what it accepts before it answers, and what a crash leaves of that.
 use Rattle.std.specs.Prelude.{◌≡◌, ◌≤◌, ◌⊎◌, ℕ, List, [], ◌∷◌, ◌++◌, length, Option, Some, None, Result, Ok, Err}
 use Rattle.outside.specs.Counts.{Rose}
-use Rattle.effects.specs.Effects.{Effect, World, contents, performed}
+use Rattle.outside.specs.Effects.{Effect, World, contents, performed}
 use Rattle.tab_lines.specs.Lines.{lines_of, whole_lines}
 use Rattle.course.specs.declared.status.Verdict.{Verdict}
 use Rattle.course.specs.declared.status.LineStop.{LineStop}

@@ -25,8 +25,8 @@ use Rattle.outside.specs.Stored.{Stored, stored_of, writing, removing, making_fo
 use Rattle.outside.specs.Edits.{edited, all_edited}
 use Rattle.outside.specs.declared.edit.Edit.{Edit}
 use Rattle.outside.specs.declared.edit.Edit.TheVariants as edit
-use Rattle.effects.specs.Effects.{Replace, Contents, contents, after, world_of}
-use Rattle.effects.proofs.EffectLemmas.{told_tree}
+use Rattle.outside.specs.Effects.{Replace, Contents, contents, after, world_of}
+use Rattle.outside.proofs.EffectLemmas.{told_tree}
 use Rattle.schema_model.specs.declared.pair.Pair.{Pair}
 use Rattle.schema_model.specs.Catalogue.{RelationValue, CatalogueValue, relation_of}
 use Rattle.csv_catalog.specs.Loaded.{database_folder}

@@ -1,8 +1,8 @@
 //! The saving of what has changed.
 ghost use Rattle.std.specs.Prelude.{◌≡◌, [], ◌∷◌, Some, true, ◌++◌, IfOk, option_map};
 ghost use Rattle.std.specs.Option.{option_copied};
-ghost use Rattle.effects.specs.Effects.{Replace};
-ghost use Rattle.effects.specs.Performing.{Performs};
+ghost use Rattle.outside.specs.Effects.{Replace};
+ghost use Rattle.outside.specs.Performing.{Performs};
 ghost use Rattle.schema_model.specs.Catalogue.{relation_of};
 ghost use Rattle.schema_model.specs.States.{plain_relation};
 ghost use Rattle.std.specs.List.{list_all};
@@ -13,8 +13,7 @@ ghost use Rattle.csv_catalog.specs.Saved.{relation_file, is_there, those_there, 
 
 use crate::database::database_folder;
 use crate::write::relation_text;
-use effects::{Stop, replace};
-use outside::{Edit, Folders};
+use outside::{Edit, Folders, Stop, replace};
 use schema_model::{Catalogue, Pair, Relation};
 use ss_text::{NoMemory, Text};
 use std::alloc::Global;
@@ -40,7 +39,7 @@ pub fn save_changed<F: Folders>(
 }
 
 // All that is to be done, or nothing.
-#[tactic(auto, using(effects::proofs::EffectLemmas::nothing_yet))]
+#[tactic(auto, using(outside::proofs::EffectLemmas::nothing_yet))]
 fn save_at_once<F: Folders>(
     alloc: Global,
     store: &mut F,

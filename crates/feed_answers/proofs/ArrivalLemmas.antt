@@ -2,8 +2,8 @@
 use Rattle.std.proofs.Common.{◌≡◌, ◌∷◌, ◌++◌, ◌∙◌, suc, Bool, true, false, cond, [], List, Option, None, Some, Ok, Err, refl, sym, ap, subst}
 use Rattle.std.specs.Prelude.{Result, OnOk}
 use Rattle.ss_text.specs.Texts.{Text}
-use Rattle.effects.specs.Effects.{Effect, World, Does}
-use Rattle.effects.specs.declared.stop.Stop.{Stop}
+use Rattle.outside.specs.Effects.{Effect, World, Does}
+use Rattle.outside.specs.declared.stop.Stop.{Stop}
 use Rattle.schema_model.specs.declared.change.Change.{Change}
 use Rattle.view_session.specs.Session.{SessionState, proposing, accepted}
 use Rattle.view_session.specs.Verdicts.{standing_of}
@@ -16,7 +16,7 @@ use Rattle.feed_core.specs.declared.arrival.Arrival.{Arrival}
 use Rattle.feed_core.specs.Handled.{Handled}
 use Rattle.feed_core.specs.declared.answer.Answer as core
 use Rattle.feed_core.specs.declared.answer.Answer.TheVariants.{Fresh, Kept, OtherChange}
-use Rattle.feed_lines.specs.declared.line.FeedLine.TheVariants.{Arrives}
+use Rattle.feed_answers.specs.declared.line.FeedLine.TheVariants.{Arrives}
 use Rattle.feed_answers.specs.declared.view.FeedView.{FeedView}
 use Rattle.feed_answers.specs.Answers.{handling, telling, repeating, by_turn, by_line, fed_by}
 use Rattle.feed_answers.specs.Steps.{Takes, told_by}

@@ -1,16 +1,16 @@
 -- From the opening of a view and the answers behind it to a run of `feed`.
 use Rattle.std.proofs.Common.{◌≡◌, ◌≢◌, ℕ, Bool, true, false, List, [], Option, Some, refl, sym, subst}
 use Rattle.std.specs.Prelude.{Result, Ok, Err, IfOk, IfErr, if◌then◌else◌}
-use Rattle.effects.specs.Effects.{Effect, World}
-use Rattle.effects.specs.declared.stop.Stop.{Stop}
+use Rattle.outside.specs.Effects.{Effect, World}
+use Rattle.outside.specs.declared.stop.Stop.{Stop}
 use Rattle.course.specs.declared.status.Verdict.{Verdict}
 use Rattle.course.specs.declared.status.Verdict.TheVariants as verdict
 use Rattle.course.specs.declared.status.Halt.{Halt}
 use Rattle.course.specs.declared.status.Halt.TheVariants as halt
 use Rattle.course.specs.Answering.{Reply, Continues, Ran, AnsweredSome, IsReadOut, is_too_long}
 use Rattle.course.specs.Answering as lines
-use Rattle.run_course.specs.Statuses.{can_maintain}
-use Rattle.run_course.specs.Course.{RanBy, RanSome, Took, TookEnough, by_lines, verdict_status, status_of}
+use Rattle.course.specs.Statuses.{can_maintain}
+use Rattle.course.specs.Course.{RanBy, RanSome, Took, TookEnough, by_lines, verdict_status, status_of}
 use Rattle.view_stages.specs.Open.{OpenValue}
 use Rattle.view_answers.specs.declared.opening.Opened.TheVariants as opened_as
 use Rattle.view_answers.specs.Steps.{Begins, Opens, starting}

@@ -2,9 +2,9 @@
 use Rattle.std.proofs.Common.{◌≡◌, ◌≢◌, ◌∷◌, ◌∙◌, ℕ, [], List, Option, None, Some, refl, sym, ap, subst}
 use Rattle.std.specs.Prelude.{Result, Ok, Err, OnOk, is_some, if◌then◌else◌}
 use Rattle.ss_text.specs.Texts.{Text, Row}
-use Rattle.effects.specs.Effects.{Effect, World, contents, performed, Does}
-use Rattle.effects.specs.declared.stop.Stop.{Stop}
-use Rattle.effects.proofs.EffectLemmas.{performed_append, partly_later}
+use Rattle.outside.specs.Effects.{Effect, World, contents, performed, Does}
+use Rattle.outside.specs.declared.stop.Stop.{Stop}
+use Rattle.outside.proofs.EffectLemmas.{performed_append, partly_later}
 use Rattle.schema_model.specs.Changes.{after}
 use Rattle.schema_model.specs.Refusals.{fault}
 use Rattle.schema_model.specs.declared.change.Change.{Change}
@@ -23,11 +23,11 @@ use Rattle.feed_core.specs.declared.arrival.Arrival.{Arrival}
 use Rattle.feed_core.specs.Handled.{Handled}
 use Rattle.feed_core.specs.declared.answer.Answer as core
 use Rattle.feed_core.specs.declared.answer.Answer.TheVariants.{Fresh, Kept, Early, OtherChange}
-use Rattle.feed_lines.specs.Lines.{Said, IsAnswer}
-use Rattle.feed_lines.specs.declared.fault.FeedFault.{FeedFault}
-use Rattle.feed_lines.specs.declared.fault.FeedFault.TheVariants as line
-use Rattle.feed_lines.specs.declared.line.FeedLine.{FeedLine}
-use Rattle.feed_lines.specs.declared.line.FeedLine.TheVariants.{Arrives}
+use Rattle.feed_answers.specs.Lines.{Said, IsAnswer}
+use Rattle.feed_answers.specs.declared.fault.FeedFault.{FeedFault}
+use Rattle.feed_answers.specs.declared.fault.FeedFault.TheVariants as line
+use Rattle.feed_answers.specs.declared.line.FeedLine.{FeedLine}
+use Rattle.feed_answers.specs.declared.line.FeedLine.TheVariants.{Arrives}
 use Rattle.feed_answers.specs.declared.view.FeedView.{FeedView}
 use Rattle.feed_answers.specs.Answers.{telling, repeating, by_turn, by_line, fed_by}
 use Rattle.feed_answers.specs.Fields.{fault_fields, refused_fields}

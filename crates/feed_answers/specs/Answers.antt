@@ -1,6 +1,6 @@
 -- How an opened view answers the lines of its feeds.
 use Rattle.std.specs.Prelude.{ℕ, List, [], ◌∷◌, Option, None, Some, Ok, Err, if◌then◌else◌}
-use Rattle.effects.specs.Effects.{Effect}
+use Rattle.outside.specs.Effects.{Effect}
 use Rattle.schema_model.specs.Refusals.{fault}
 use Rattle.schema_model.specs.declared.change.Change.{Change}
 use Rattle.view_session.specs.Session.{working}
@@ -18,8 +18,8 @@ use Rattle.feed_core.specs.declared.arrival.Arrival.{Arrival}
 use Rattle.feed_core.specs.Handled.{Handled}
 use Rattle.feed_core.specs.declared.answer.Answer as core
 use Rattle.feed_core.specs.declared.answer.Answer.TheVariants.{Fresh, Kept, Early, OtherChange}
-use Rattle.feed_lines.specs.Lines.{Said, said_by_line}
-use Rattle.feed_lines.specs.declared.line.FeedLine.TheVariants.{Sync, Arrives}
+use Rattle.feed_answers.specs.Lines.{Said, said_by_line}
+use Rattle.feed_answers.specs.declared.line.FeedLine.TheVariants.{Sync, Arrives}
 use Rattle.feed_answers.specs.declared.view.FeedView.{FeedView}
 use Rattle.feed_answers.specs.Fields.{fault_fields, refused_fields}
 

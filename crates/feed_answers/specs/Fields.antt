@@ -5,8 +5,8 @@ use Rattle.schema_model.specs.declared.change.Change.{Change}
 use Rattle.apply_law.specs.declared.refused.GroupRefused.{GroupRefused}
 use Rattle.apply_law.specs.declared.refused.GroupRefused.TheVariants as refused
 use Rattle.ss_print.specs.Fields.{escape_fields, verb_fields, count_fields, number_fields, refusal_fields, illegal_fields, clash_fields}
-use Rattle.feed_lines.specs.declared.fault.FeedFault.{FeedFault}
-use Rattle.feed_lines.specs.declared.fault.FeedFault.TheVariants as line
+use Rattle.feed_answers.specs.declared.fault.FeedFault.{FeedFault}
+use Rattle.feed_answers.specs.declared.fault.FeedFault.TheVariants as line
 
 -- a line that says nothing; want of memory is no refusal
 abbrev pub fault_fields : FeedFault → Row

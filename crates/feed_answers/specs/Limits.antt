@@ -3,8 +3,8 @@ use Rattle.std.specs.Prelude.{ℕ, List, Option, Some, Ok, if◌then◌else◌}
 use Rattle.view_session.specs.Limits.{limit_of}
 use Rattle.feed_core.specs.Arrivals.{arrivals_of, is_fresh}
 use Rattle.feed_core.specs.declared.arrival.Arrival.{Arrival}
-use Rattle.feed_lines.specs.Lines.{Said, said_by_line}
-use Rattle.feed_lines.specs.declared.line.FeedLine.TheVariants.{Arrives}
+use Rattle.feed_answers.specs.Lines.{Said, said_by_line}
+use Rattle.feed_answers.specs.declared.line.FeedLine.TheVariants.{Arrives}
 use Rattle.feed_answers.specs.declared.view.FeedView.{FeedView}
 
 -- of the arrivals only the next of a source takes steps, as its change does

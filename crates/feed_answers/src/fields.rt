@@ -1,10 +1,10 @@
 //! The fields of refusals.
 ghost use Rattle.std.specs.Prelude.{◌≡◌, ◌≢◌, IfOk, OnOk};
-ghost use Rattle.feed_lines.specs.declared.fault.FeedFault.TheVariants.{NoMemory as LacksMemory};
+ghost use Rattle.feed_answers.specs.declared.fault.FeedFault.TheVariants.{NoMemory as LacksMemory};
 ghost use Rattle.feed_answers.specs.Fields.{fault_fields, refused_fields};
 
+use crate::FeedFault;
 use apply_law::GroupRefused;
-use feed_lines::FeedFault;
 use schema_model::Change;
 use ss_print::{
     clash_fields, count_fields, escape_fields, illegal_fields, number_fields, refusal_fields,

@@ -1,26 +1,25 @@
 //! An opened view with feeds, and its answers.
 ghost use Rattle.std.specs.Prelude.{◌≡◌, ◌≢◌, ◌≤◌, [], false, Ok, Err, IfOk, IfErr, OnOk, IsTrue, None, Some};
-ghost use Rattle.effects.specs.Effects.{Does, world_of};
-ghost use Rattle.effects.specs.Blame.{Blames, SinkBlames};
+ghost use Rattle.outside.specs.Effects.{Does, world_of};
+ghost use Rattle.outside.specs.Blame.{Blames, SinkBlames};
 ghost use Rattle.tab_lines.specs.Lines.{has_feed};
 ghost use Rattle.schema_model.specs.Changes.{is_well_formed};
 ghost use Rattle.apply_law.specs.Standing.{tables_of};
 ghost use Rattle.apply_law.specs.Verdicts.{Makes};
 ghost use Rattle.view_answers.specs.Limits.{IsWithin};
 ghost use Rattle.feed_core.specs.Arrivals.{handled_at};
-ghost use Rattle.feed_lines.specs.Lines.{said_by_line};
-ghost use Rattle.feed_lines.specs.declared.line.FeedLine.TheVariants.{Arrives};
+ghost use Rattle.feed_answers.specs.Lines.{said_by_line};
+ghost use Rattle.feed_answers.specs.declared.line.FeedLine.TheVariants.{Arrives};
 ghost use Rattle.feed_answers.specs.Answers.{answer, by_line, fed, fed_by, repeating};
 ghost use Rattle.feed_answers.specs.Steps.{Takes, told_by};
 ghost use Rattle.feed_answers.specs.Limits as limits;
 
 use crate::fields::{fault_fields, refused_fields};
+use crate::{FeedFault, FeedLine, read_feed_line};
 use apply_law::Applies;
 use course::{LineHandler, LineStop, NoDisk, Verdict};
-use effects::Stop;
 use feed_core::{Answer, Arrival, Feeds, Handled};
-use feed_lines::{FeedFault, FeedLine, read_feed_line};
-use outside::{Folders, Sink};
+use outside::{Folders, Sink, Stop};
 use ss_print::{early_fields, other_change_fields, print_reply, print_script};
 use ss_text::{NoMemory, Steps, Text};
 use std::alloc::Global;
@@ -53,7 +52,7 @@ impl FeedView {
     }
 
     // Tells the reply that is kept under a number of a source, if one is.
-    #[tactic(auto, using(effects::proofs::Following::following))]
+    #[tactic(auto, using(outside::proofs::Following::following))]
     fn repeat<K: Sink>(
         &mut self,
         alloc: Global,
@@ -74,7 +73,7 @@ impl FeedView {
     }
 
     // Tells the answer to an arrival of this source and number.
-    #[tactic(auto, using(effects::proofs::Following::following))]
+    #[tactic(auto, using(outside::proofs::Following::following))]
     fn tell<K: Sink>(
         &mut self,
         alloc: Global,
@@ -123,7 +122,7 @@ impl FeedView {
     }
 
     // Answers an arrival.
-    #[tactic(auto, using(effects::proofs::Following::following))]
+    #[tactic(auto, using(outside::proofs::Following::following))]
     fn arrive<K: Sink, L: Ledger>(
         &mut self,
         alloc: Global,
@@ -147,7 +146,7 @@ impl FeedView {
     }
 
     // Answers a line.
-    #[tactic(auto, using(effects::proofs::Following::following))]
+    #[tactic(auto, using(outside::proofs::Following::following))]
     fn answer<F: Folders, K: Sink, L: Ledger>(
         &mut self,
         alloc: Global,
@@ -185,7 +184,7 @@ fn stands<A: Applies>(to: &A)
 }
 
 // Tells the reply to a change that was handled.
-#[tactic(auto, using(effects::proofs::Following::following))]
+#[tactic(auto, using(outside::proofs::Following::following))]
 fn tell_again<K: Sink>(
     alloc: Global,
     view: &mut OpenView,

@@ -3,7 +3,7 @@ use Rattle.std.proofs.Common.{◌≡◌, ◌∷◌, ◌∙◌, [], List, Some, N
 use Rattle.std.specs.Prelude.{IsTrue, IfOk}
 use Rattle.std.specs.Global.{Box}
 use Rattle.ss_text.specs.Texts.{Row, row_eq}
-use Rattle.packed_rows.specs.Packed.{is_first}
+use Rattle.feed_core.specs.Packed.{is_first}
 use Rattle.schema_model.specs.Changes.{is_well_formed}
 use Rattle.schema_model.specs.Reading.{change_of, line_of}
 use Rattle.schema_model.specs.declared.change.Change.{Change}

@@ -1,3 +1,4 @@
 pub mod KeptLemmas
 pub mod HandledLemmas
 pub mod TurnLemmas
+pub mod PackedLemmas

@@ -4,3 +4,4 @@ pub mod Kept
 pub mod Numbered
 pub mod Replies
 pub mod Turns
+pub mod Packed

@@ -7,10 +7,9 @@ ghost use Rattle.feed_core.specs.Handled.{first_row, lines_in, handled_by};
 
 use crate::line::{is_line, line_in};
 use crate::refusal::{KeptRefusal, kept_refusal, refusal_of};
-use crate::{Arrival, Reply};
+use crate::{Arrival, PackedRows, Reply};
 use apply_law::GroupRefused;
 use change_script::{Script, script_lines};
-use packed_rows::PackedRows;
 use schema_model::Change;
 use ss_text::{NoMemory, Row, Text};
 use std::alloc::Global;

@@ -1,11 +1,11 @@
 //! The lines of changes and of scripts, by their rows.
 ghost use Rattle.std.specs.Prelude.{◌≡◌, IfOk};
 ghost use Rattle.schema_model.specs.Reading.{line_of};
-ghost use Rattle.packed_rows.specs.Packed.{is_first};
+ghost use Rattle.feed_core.specs.Packed.{is_first};
 ghost use Rattle.feed_core.specs.Handled.{table_line, row_line, column_line, cell_line, line_in};
 
+use crate::PackedRows;
 use flow_law::TableLine;
-use packed_rows::PackedRows;
 use schema_model::Change;
 use ss_text::{NoMemory, Row, Text};
 use std::alloc::Global;

@@ -4,7 +4,7 @@ use Rattle.std.specs.Prelude.{Result, Ok, Err, IsTrue, is_some, unwrap_or, if◌
 use Rattle.std.specs.Option.{option_or}
 use Rattle.ss_text.specs.Texts.{Text, Row, text_eq}
 use Rattle.tab_lines.specs.Spelling.{unspell}
-use Rattle.effects.specs.Effects.{Effect}
+use Rattle.outside.specs.Effects.{Effect}
 use Rattle.schema_model.specs.Catalogue.{CatalogueValue}
 use Rattle.schema_model.specs.Changes.{after, after_all, is_well_formed}
 use Rattle.schema_model.specs.Reading.{Read, change_of}
@@ -30,9 +30,9 @@ use Rattle.feed_core.specs.declared.arrival.Arrival.{Arrival}
 use Rattle.feed_core.specs.Handled.{Handled}
 use Rattle.feed_core.specs.declared.answer.Answer as core
 use Rattle.feed_core.specs.declared.answer.Answer.TheVariants.{Fresh, Kept, Early, OtherChange}
-use Rattle.feed_lines.specs.Lines.{Said, sync_of, feed_of, by_number, by_read, said_by_row, by_spelling, said_by_line}
-use Rattle.feed_lines.specs.declared.fault.FeedFault.TheVariants as line
-use Rattle.feed_lines.specs.declared.line.FeedLine.TheVariants.{Sync, Arrives}
+use Rattle.feed_answers.specs.Lines.{Said, sync_of, feed_of, by_number, by_read, said_by_row, by_spelling, said_by_line}
+use Rattle.feed_answers.specs.declared.fault.FeedFault.TheVariants as line
+use Rattle.feed_answers.specs.declared.line.FeedLine.TheVariants.{Sync, Arrives}
 use Rattle.feed_answers.specs.declared.view.FeedView.{FeedView}
 use Rattle.feed_answers.specs.Answers.{replying, telling, repeating, by_turn, by_line, answer, fed, answers_to, step, finish}
 use Rattle.feed_answers.specs.Fields.{fault_fields, refused_fields}

@@ -3,14 +3,14 @@ use Rattle.std.proofs.Common.{◌≡◌, ℕ, true, List, [], ◌∷◌, ◌++�
 use Rattle.std.specs.Prelude.{Result, Ok, Err}
 use Rattle.ss_text.specs.Texts.{Row}
 use Rattle.outside.specs.Tree.{Tree, files_of}
-use Rattle.effects.specs.Effects.{Effect, Stored, Contents, performed, Partly}
+use Rattle.outside.specs.Effects.{Effect, Stored, Contents, performed, Partly}
 use Rattle.schema_model.specs.Catalogue.{CatalogueValue}
 use Rattle.schema_model.specs.Sound.{IsSound}
 use Rattle.source_law.proofs.AfterLemmas.{stored_by, stored_after}
 use Rattle.source_law.proofs.LoadedLemmas.{sound_loaded}
 use Rattle.course.specs.Answering.{Ending}
-use Rattle.run_course.specs.Course.{by_lines}
-use Rattle.run_course.proofs.FrontLemmas.{partly_split}
+use Rattle.course.specs.Course.{by_lines}
+use Rattle.course.proofs.FrontLemmas.{partly_split}
 use Rattle.view_def.specs.Query.{Query}
 use Rattle.view_folder.specs.Files.{view_folder}
 use Rattle.view_stages.specs.Open.{OpenValue, just_opened}

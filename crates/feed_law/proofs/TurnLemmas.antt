@@ -5,7 +5,7 @@ use Rattle.std.proofs.lemmas.Bool.{eqb-true}
 use Rattle.std.proofs.lemmas.List.{map-append}
 use Rattle.ss_text.specs.Texts.{Text}
 use Rattle.ss_text.proofs.KeyLemmas.{row_order, equal_itself}
-use Rattle.effects.specs.Effects.{Effect}
+use Rattle.outside.specs.Effects.{Effect}
 use Rattle.schema_model.specs.Catalogue.{CatalogueValue}
 use Rattle.schema_model.specs.Changes.{after_all}
 use Rattle.schema_model.specs.Refusals.{fault}
@@ -37,8 +37,8 @@ use Rattle.feed_core.specs.declared.answer.Answer as core
 use Rattle.feed_core.specs.declared.answer.Answer.TheVariants.{Fresh, Kept, OtherChange}
 use Rattle.feed_core.proofs.KeptLemmas.{numbered_more, handled_more, handled_last}
 use Rattle.feed_core.proofs.TurnLemmas.{all_handled}
-use Rattle.feed_lines.specs.Lines.{Said, said_by_line}
-use Rattle.feed_lines.specs.declared.line.FeedLine.TheVariants.{Sync, Arrives}
+use Rattle.feed_answers.specs.Lines.{Said, said_by_line}
+use Rattle.feed_answers.specs.declared.line.FeedLine.TheVariants.{Sync, Arrives}
 use Rattle.feed_answers.specs.declared.view.FeedView.{FeedView}
 use Rattle.feed_answers.specs.Answers.{handling, telling, repeating, by_turn, by_line, answer, fed_by, fed}
 use Rattle.feed_answers.proofs.ReplyLemmas.{replied, fresh_is}

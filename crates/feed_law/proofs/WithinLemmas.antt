@@ -3,11 +3,11 @@ use Rattle.std.proofs.Common.{◌≡◌, ℕ, true, List, ◌∷◌, ◌++◌, O
 use Rattle.std.specs.Prelude.{Result, Ok, Err}
 use Rattle.ss_text.specs.Texts.{Row}
 use Rattle.outside.specs.Tree.{Tree, files_of}
-use Rattle.effects.specs.Effects.{Effect}
+use Rattle.outside.specs.Effects.{Effect}
 use Rattle.schema_model.specs.Catalogue.{CatalogueValue}
 use Rattle.source_law.specs.Synced.{Synced, unsaved}
 use Rattle.course.specs.Answering.{Reply, Continues, course}
-use Rattle.run_course.specs.Course.{by_lines, goes_so_far}
+use Rattle.course.specs.Course.{by_lines, goes_so_far}
 use Rattle.view_stages.specs.Open.{OpenValue, just_opened}
 use Rattle.view_stages.specs.Opened.{folder_of}
 use Rattle.view_stages.specs.Opening.{with_catalogue, with_view, opening_effects}

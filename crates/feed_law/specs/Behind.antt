@@ -1,6 +1,6 @@
 -- The stages of a view with feeds behind its opening.
 use Rattle.std.specs.Prelude.{ℕ, List, [], ◌∷◌}
-use Rattle.effects.specs.Effects.{Effect}
+use Rattle.outside.specs.Effects.{Effect}
 use Rattle.course.specs.Answering.{Reply, Continues, Finishes}
 use Rattle.view_stages.specs.Open.{OpenValue}
 use Rattle.view_stages.specs.Syncs.{sync_effects}

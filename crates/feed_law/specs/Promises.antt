@@ -2,7 +2,7 @@
 use Rattle.std.specs.Prelude.{◌≡◌, ℕ, true, List, [], ◌∷◌, ◌++◌, map, flat_map, Option, Some, Ok, Err}
 use Rattle.tab_lines.specs.Lines.{whole_lines}
 use Rattle.outside.specs.Tree.{Tree}
-use Rattle.effects.specs.Effects.{Effect, World}
+use Rattle.outside.specs.Effects.{Effect, World}
 use Rattle.schema_model.specs.Changes.{after_all}
 use Rattle.schema_model.specs.declared.change.Change.{Change}
 use Rattle.source_law.specs.Synced.{Synced, unsaved, synced}
@@ -10,8 +10,8 @@ use Rattle.view_session.specs.Verdicts.{standing_of}
 use Rattle.course.specs.Answering.{Reply, Continues, Finishes, follow}
 use Rattle.ss_print.specs.Fields.{early_fields, other_change_fields}
 use Rattle.ss_print.specs.Printing.{refuses, prints_reply, prints_script}
-use Rattle.run_course.specs.declared.status.Status.{Status}
-use Rattle.run_course.specs.Course.{verdict_status}
+use Rattle.course.specs.declared.exit.Status.{Status}
+use Rattle.course.specs.Course.{verdict_status}
 use Rattle.view_stages.specs.Open.{OpenValue}
 use Rattle.view_stages.specs.Places.{Exempt, sources_of}
 use Rattle.view_stages.specs.Stages.{DefinitionOrRefusal}
@@ -27,8 +27,8 @@ use Rattle.feed_core.specs.declared.arrival.Arrival.{Arrival}
 use Rattle.feed_core.specs.Handled.{Handled}
 use Rattle.feed_core.specs.declared.answer.Answer as core
 use Rattle.feed_core.specs.declared.answer.Answer.TheVariants.{Fresh, Kept, Early, OtherChange}
-use Rattle.feed_lines.specs.Lines.{Said, said_by_line}
-use Rattle.feed_lines.specs.declared.line.FeedLine.TheVariants.{Arrives}
+use Rattle.feed_answers.specs.Lines.{Said, said_by_line}
+use Rattle.feed_answers.specs.declared.line.FeedLine.TheVariants.{Arrives}
 use Rattle.feed_answers.specs.declared.view.FeedView.{FeedView}
 use Rattle.feed_answers.specs.Answers.{step, finish, at_first, answer, fed, answers_to}
 use Rattle.feed_answers.specs.Fields.{refused_fields}

@@ -5,12 +5,12 @@ use Rattle.ss_text.specs.Texts.{Row}
 use Rattle.tab_lines.specs.Spelling.{unspell}
 use Rattle.disk.specs.Disk.{DiskState}
 use Rattle.outside.specs.States.{StoreState, SinkState}
-use Rattle.effects.specs.Effects.{Effect, World, world_of, contents, performed, Does}
-use Rattle.effects.specs.Blame.{Blames, SinkBlames}
-use Rattle.effects.specs.declared.stop.Stop.{Stop}
-use Rattle.effects.specs.declared.stop.Stop.TheVariants as stop
-use Rattle.effects.proofs.BlameLemmas.{steady_none, steady_sheet, sheet_blamed, sink_no_read}
-use Rattle.effects.proofs.EffectLemmas.{nothing_yet}
+use Rattle.outside.specs.Effects.{Effect, World, world_of, contents, performed, Does}
+use Rattle.outside.specs.Blame.{Blames, SinkBlames}
+use Rattle.outside.specs.declared.stop.Stop.{Stop}
+use Rattle.outside.specs.declared.stop.Stop.TheVariants as stop
+use Rattle.outside.proofs.BlameLemmas.{steady_none, steady_sheet, sheet_blamed, sink_no_read}
+use Rattle.outside.proofs.EffectLemmas.{nothing_yet}
 use Rattle.course.specs.declared.status.Verdict.{Verdict}
 use Rattle.course.specs.declared.status.Verdict.TheVariants as verdict
 use Rattle.course.specs.declared.status.LineStop.{LineStop}

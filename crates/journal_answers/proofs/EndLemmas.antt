@@ -1,9 +1,9 @@
 -- What is done at the end of the input.
 use Rattle.std.proofs.Common.{◌≡◌, ◌++◌, ◌∙◌, List, Ok, Err, sym, ap, subst}
 use Rattle.std.specs.Prelude.{Result}
-use Rattle.effects.specs.Effects.{World, Effect, contents, performed, Does}
-use Rattle.effects.specs.declared.stop.Stop.{Stop}
-use Rattle.effects.proofs.EffectLemmas.{performed_append, partly_later}
+use Rattle.outside.specs.Effects.{World, Effect, contents, performed, Does}
+use Rattle.outside.specs.declared.stop.Stop.{Stop}
+use Rattle.outside.proofs.EffectLemmas.{performed_append, partly_later}
 use Rattle.view_stages.specs.Open.{OpenValue}
 use Rattle.view_stages.specs.Syncs.{view_effects}
 use Rattle.view_answers.specs.Answers.{end_effects, end_view}

@@ -3,10 +3,10 @@ use Rattle.std.proofs.Common.{◌≡◌, ◌≤◌, ◌⊎◌, inl, inr, ℕ, Bo
 use Rattle.std.specs.Prelude.{Result, Ok, Err, IfOk, if◌then◌else◌}
 use Rattle.disk.specs.Disk.{Content, DiskState, MayLeave}
 use Rattle.disk.specs.Moments.{Elapses}
-use Rattle.effects.specs.Effects.{Effect, World, contents, performed}
-use Rattle.effects.specs.declared.stop.Stop.{Stop}
-use Rattle.effects.specs.declared.stop.Stop.TheVariants as stop
-use Rattle.effects.proofs.EffectLemmas.{performed_append, nothing_yet}
+use Rattle.outside.specs.Effects.{Effect, World, contents, performed}
+use Rattle.outside.specs.declared.stop.Stop.{Stop}
+use Rattle.outside.specs.declared.stop.Stop.TheVariants as stop
+use Rattle.outside.proofs.EffectLemmas.{performed_append, nothing_yet}
 use Rattle.tab_lines.specs.Lines.{lines_of}
 use Rattle.course.specs.declared.status.Verdict.{Verdict}
 use Rattle.course.specs.declared.status.Verdict.TheVariants as verdict
@@ -16,7 +16,7 @@ use Rattle.course.specs.Answering.{Reply, Continues, Finishes, Ending, prefixed,
 use Rattle.course.specs.Keeping.{Entry, Log, LeavesNow, LeavesFrontNow, LeavesFronts, KeptAtEnd, KeptOver, BlamesDisk, noted}
 use Rattle.course.proofs.KeepingLemmas.{front_none, fronts_then}
 use Rattle.journal_log.specs.Logs.{log_of}
-use Rattle.run_course.specs.Course.{Course, RanBy, RanSome, Took, IsWholeInput, verdict_status, status_of, is_done, is_refused_status}
+use Rattle.course.specs.Course.{Course, RanBy, RanSome, Took, IsWholeInput, verdict_status, status_of, is_done, is_refused_status}
 use Rattle.view_answers.specs.Steps.{Begins, EndsRun}
 use Rattle.journal_answers.specs.declared.view.JournalView.{JournalView}
 use Rattle.journal_answers.specs.Answers.{step, finish, made, answer, by_room}

@@ -3,9 +3,9 @@ use Rattle.std.proofs.Common.{◌≡◌, ◌∙◌, ℕ, Bool, false, List, [], 
 use Rattle.std.specs.Prelude.{IfOk}
 use Rattle.ss_text.specs.Texts.{Row}
 use Rattle.outside.specs.Tree.{Tree, files_of}
-use Rattle.effects.specs.Effects.{Effect, World, Contents, contents, performed, Partly}
-use Rattle.effects.specs.declared.stop.Stop.{Stop}
-use Rattle.effects.proofs.EffectLemmas.{partly_more}
+use Rattle.outside.specs.Effects.{Effect, World, Contents, contents, performed, Partly}
+use Rattle.outside.specs.declared.stop.Stop.{Stop}
+use Rattle.outside.proofs.EffectLemmas.{partly_more}
 use Rattle.disk.specs.Disk.{DiskState}
 use Rattle.course.specs.Answering.{Reply, Continues, Finishes}
 use Rattle.schema_model.specs.Catalogue.{CatalogueValue}

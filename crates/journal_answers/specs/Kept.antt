@@ -1,12 +1,12 @@
 -- What a whole run of a machine does and keeps behind its opening, and what a disk that fails leaves.
 use Rattle.std.specs.Prelude.{◌≡◌, ◌≤◌, ◌⊎◌, ℕ, List, [], ◌++◌, length, Option, Result, Err}
-use Rattle.effects.specs.Effects.{Effect, World, contents}
+use Rattle.outside.specs.Effects.{Effect, World, contents}
 use Rattle.course.specs.declared.status.Verdict.{Verdict}
 use Rattle.course.specs.declared.status.Halt.{Halt}
 use Rattle.course.specs.declared.status.Halt.TheVariants as halt
 use Rattle.course.specs.Answering.{Reply, Continues, Finishes, follow}
 use Rattle.course.specs.Keeping.{Entry, Log, LeavesNow, LeavesFronts, AreFirst, KeptAtEnd, noted}
-use Rattle.run_course.specs.Course.{Course, HeldUp, RanBy}
+use Rattle.course.specs.Course.{Course, HeldUp, RanBy}
 
 -- what a run did; the disk may have failed before its opening did anything
 abbrev pub RanOver : Course → List ℕ → Option (List ℕ) → World → World → Result Verdict Halt → Type 0

@@ -1,8 +1,8 @@
 -- The statuses that `journal` can give.
 use Rattle.std.specs.Prelude.{Bool, true}
-use Rattle.run_course.specs.declared.status.Status.{Status}
-use Rattle.run_course.specs.declared.status.Status.TheVariants as status
-use Rattle.run_course.specs.Statuses.{can_maintain}
+use Rattle.course.specs.declared.exit.Status.{Status}
+use Rattle.course.specs.declared.exit.Status.TheVariants as status
+use Rattle.course.specs.Statuses.{can_maintain}
 
 -- those of `maintain`, and those of its disk
 abbrev pub can_journal : Status → Bool

@@ -2,9 +2,9 @@
 use Rattle.std.specs.Prelude.{◌≡◌, ◌≢◌, ℕ, Bool, true, false, List, [], ◌∷◌, Option, None, is_some, Result, Ok, Err, IfErr, IsTrue}
 use Rattle.ss_text.specs.Texts.{Row}
 use Rattle.disk.specs.Disk.{DiskState}
-use Rattle.effects.specs.Effects.{World, contents, Partly}
-use Rattle.effects.specs.declared.stop.Stop.{Stop}
-use Rattle.effects.specs.declared.stop.Stop.TheVariants as stop
+use Rattle.outside.specs.Effects.{World, contents, Partly}
+use Rattle.outside.specs.declared.stop.Stop.{Stop}
+use Rattle.outside.specs.declared.stop.Stop.TheVariants as stop
 use Rattle.schema_model.specs.Changes.{is_well_formed}
 use Rattle.schema_model.specs.Refusals.{fault}
 use Rattle.schema_model.specs.declared.change.Change.{Change}
@@ -21,7 +21,7 @@ use Rattle.journal_log.specs.Logs.{log_of, IsReady}
 use Rattle.journal_log.specs.Room.{lacks_room, grown, appended_to}
 use Rattle.view_session.specs.Session.{working}
 use Rattle.view_session.specs.Limits.{limit_of}
-use Rattle.run_course.specs.Course.{verdict_status, is_refused_status}
+use Rattle.course.specs.Course.{verdict_status, is_refused_status}
 use Rattle.ss_print.specs.Printing.{prints_script}
 use Rattle.view_stages.specs.Open.{OpenValue}
 use Rattle.view_stages.specs.Stages.{refusal_of}

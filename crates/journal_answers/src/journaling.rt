@@ -1,6 +1,6 @@
 //! The command `journal`.
 ghost use Rattle.std.specs.Prelude.{◌≡◌, ◌≤◌, true, false, List, ℕ, Some, IfOk, IfErr};
-ghost use Rattle.effects.specs.Effects.{world_of};
+ghost use Rattle.outside.specs.Effects.{world_of};
 ghost use Rattle.outside.specs.Tree.{Tree};
 ghost use Rattle.disk.specs.Disk.{Content};
 ghost use Rattle.tab_lines.specs.Lines.{lines_of};
@@ -10,8 +10,8 @@ ghost use Rattle.journal_log.specs.Logs.{log_of};
 ghost use Rattle.view_stages.specs.Stages.{DefinitionOrRefusal};
 ghost use Rattle.view_stages.specs.Opening.{IsDefinition, definition_bytes};
 ghost use Rattle.view_answers.specs.Limits.{StepsBy};
-ghost use Rattle.run_course.specs.Idle.{IdleRun};
-ghost use Rattle.run_course.specs.Course.{RanSome, Took, TookEnough, by_lines, status_of, IsWholeInput};
+ghost use Rattle.course.specs.Idle.{IdleRun};
+ghost use Rattle.course.specs.Course.{RanSome, Took, TookEnough, by_lines, status_of, IsWholeInput};
 ghost use Rattle.journal_answers.specs.Answers.{step, note, finish};
 ghost use Rattle.journal_answers.specs.Kept.{RanOver, KeptOpened};
 ghost use Rattle.journal_answers.specs.Limits.{limit};
@@ -29,7 +29,7 @@ use std::sync::ledger::Ledger;
 /// Opens the view of this name over its sources and the changes of the journal on the disk, and answers the lines of the input
 /// in turn. Where a call fails or memory runs out, a front of the answers is there, and what was under way may have broken off;
 /// where the disk fails or the journal is full, just the lines before were answered.
-#[tactic(auto, using(run_course::proofs::DriveLemmas::blamed_later, run_course::proofs::DriveLemmas::took_nothing, run_course::proofs::IdleLemmas::idle_drove))]
+#[tactic(auto, using(course::proofs::DriveLemmas::blamed_later, course::proofs::DriveLemmas::took_nothing, course::proofs::IdleLemmas::idle_drove))]
 pub fn journal<F: Folders, S: Source, K: Sink, D: Disk, L: Ledger>(
     alloc: Global,
     store: &mut F,

@@ -2,13 +2,13 @@
 ghost use Rattle.std.specs.Prelude.{◌≡◌, ◌≤◌, false, Some, Ok, IfOk};
 ghost use Rattle.outside.specs.Counts.{Rose};
 ghost use Rattle.outside.specs.Tree.{Tree};
-ghost use Rattle.effects.specs.Effects.{world_of};
-ghost use Rattle.effects.specs.Blame.{Blames};
+ghost use Rattle.outside.specs.Effects.{world_of};
+ghost use Rattle.outside.specs.Blame.{Blames};
 ghost use Rattle.disk.specs.Disk.{Content};
 ghost use Rattle.disk.specs.Moments.{Elapses};
 ghost use Rattle.view_def.specs.Query.{query_of};
 ghost use Rattle.journal_log.specs.Replay.{replayed};
-ghost use Rattle.run_course.specs.Idle.{IdleUnread};
+ghost use Rattle.course.specs.Idle.{IdleUnread};
 ghost use Rattle.view_stages.specs.Stages.{DefinitionOrRefusal, loaded_or_refused};
 ghost use Rattle.view_stages.specs.Opening.{IsDefinition, definition_bytes};
 ghost use Rattle.journal_answers.specs.Opening.{opening, with_catalogue, with_journal, with_replay};
@@ -19,9 +19,8 @@ use crate::view::JournalView;
 use change_journal::Journal;
 use course::Verdict;
 use disk::Disk;
-use effects::Stop;
 use journal_log::{ReplayFault, replay};
-use outside::{Folders, Sink};
+use outside::{Folders, Sink, Stop};
 use schema_model::Catalogue;
 use ss_print::refuse;
 use ss_text::{Steps, Text};
@@ -41,7 +40,7 @@ pub(crate) enum Opened {
 /// Opens the view of this name: reads what it stands on and the journal, makes the changes of the journal, writes the view's
 /// folder and prints that it did. Nothing is written or printed before the journal was read to its end, and nothing is written
 /// on the disk.
-#[tactic(auto, using(effects::proofs::Following::following, crate::proofs::OpeningLemmas::nothing_opened, outside::proofs::ReadingLemmas::only_read_then, outside::proofs::ReadingLemmas::only_read_nothing, run_course::proofs::IdleLemmas::idle_read, run_course::proofs::IdleLemmas::idle_print, run_course::proofs::IdleLemmas::idle_later))]
+#[tactic(auto, using(outside::proofs::Following::following, crate::proofs::OpeningLemmas::nothing_opened, outside::proofs::ReadingLemmas::only_read_then, outside::proofs::ReadingLemmas::only_read_nothing, course::proofs::IdleLemmas::idle_read, course::proofs::IdleLemmas::idle_print, course::proofs::IdleLemmas::idle_later))]
 pub(crate) fn open<F: Folders, K: Sink, D: Disk, L: Ledger>(
     alloc: Global,
     store: &mut F,
@@ -77,7 +76,7 @@ pub(crate) fn open<F: Folders, K: Sink, D: Disk, L: Ledger>(
 }
 
 // Opens a view over the source relations and the changes of the journal.
-#[tactic(auto, using(effects::proofs::Following::following, crate::proofs::OpeningLemmas::nothing_opened, outside::proofs::ReadingLemmas::only_read_then, outside::proofs::ReadingLemmas::only_read_nothing, run_course::proofs::IdleLemmas::idle_read, run_course::proofs::IdleLemmas::idle_print, run_course::proofs::IdleLemmas::idle_later))]
+#[tactic(auto, using(outside::proofs::Following::following, crate::proofs::OpeningLemmas::nothing_opened, outside::proofs::ReadingLemmas::only_read_then, outside::proofs::ReadingLemmas::only_read_nothing, course::proofs::IdleLemmas::idle_read, course::proofs::IdleLemmas::idle_print, course::proofs::IdleLemmas::idle_later))]
 fn open_defined<F: Folders, K: Sink, D: Disk, L: Ledger>(
     alloc: Global,
     store: &mut F,
@@ -113,7 +112,7 @@ fn open_defined<F: Folders, K: Sink, D: Disk, L: Ledger>(
 }
 
 // Opens a view over a catalogue and the changes of the journal.
-#[tactic(auto, using(effects::proofs::Following::following, crate::proofs::OpeningLemmas::nothing_opened, outside::proofs::ReadingLemmas::only_read_then, outside::proofs::ReadingLemmas::only_read_nothing, run_course::proofs::IdleLemmas::idle_read, run_course::proofs::IdleLemmas::idle_print, run_course::proofs::IdleLemmas::idle_later, crate::proofs::OpeningLemmas::is_ready_on))]
+#[tactic(auto, using(outside::proofs::Following::following, crate::proofs::OpeningLemmas::nothing_opened, outside::proofs::ReadingLemmas::only_read_then, outside::proofs::ReadingLemmas::only_read_nothing, course::proofs::IdleLemmas::idle_read, course::proofs::IdleLemmas::idle_print, course::proofs::IdleLemmas::idle_later, crate::proofs::OpeningLemmas::is_ready_on))]
 fn open_loaded<F: Folders, K: Sink, D: Disk, L: Ledger>(
     alloc: Global,
     store: &mut F,
@@ -150,7 +149,7 @@ fn open_loaded<F: Folders, K: Sink, D: Disk, L: Ledger>(
 }
 
 // Opens a view over the catalogue after a journal.
-#[tactic(auto, using(effects::proofs::Following::following, crate::proofs::OpeningLemmas::nothing_opened, outside::proofs::ReadingLemmas::only_read_then, outside::proofs::ReadingLemmas::only_read_nothing, run_course::proofs::IdleLemmas::idle_read, run_course::proofs::IdleLemmas::idle_print, run_course::proofs::IdleLemmas::idle_later))]
+#[tactic(auto, using(outside::proofs::Following::following, crate::proofs::OpeningLemmas::nothing_opened, outside::proofs::ReadingLemmas::only_read_then, outside::proofs::ReadingLemmas::only_read_nothing, course::proofs::IdleLemmas::idle_read, course::proofs::IdleLemmas::idle_print, course::proofs::IdleLemmas::idle_later))]
 fn open_replayed<F: Folders, K: Sink, L: Ledger>(
     alloc: Global,
     store: &mut F,

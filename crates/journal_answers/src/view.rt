@@ -1,7 +1,7 @@
 //! An opened view with a journal, and its answers.
 ghost use Rattle.std.specs.Prelude.{◌≡◌, ◌≢◌, ◌⊎◌, ◌≤◌, ◌∷◌, [], List, true, false, Ok, None, is_some, unwrap_or, IfOk, IfErr, OnOk, IsTrue};
-ghost use Rattle.effects.specs.Effects.{Does, world_of};
-ghost use Rattle.effects.specs.Blame.{Blames};
+ghost use Rattle.outside.specs.Effects.{Does, world_of};
+ghost use Rattle.outside.specs.Blame.{Blames};
 ghost use Rattle.tab_lines.specs.Lines.{has_feed};
 ghost use Rattle.schema_model.specs.Changes.{is_well_formed};
 ghost use Rattle.course.specs.Keeping.{Entry, LeavesNow, LineBlamesDisk};
@@ -21,8 +21,7 @@ use crate::taking::{Taken, copies, settle};
 use change_journal::Journal;
 use course::{LineHandler, LineStop, Verdict};
 use disk::Disk;
-use effects::Stop;
-use outside::{Folders, Sink};
+use outside::{Folders, Sink, Stop};
 use schema_model::Change;
 use ss_print::{escape_fields, print_script};
 use ss_text::{NoMemory, Row, Steps};
@@ -240,7 +239,7 @@ impl JournalView {
     }
 
     // Refuses an open group at the end of the input, and syncs the view's files.
-    #[tactic(auto, using(effects::proofs::Following::following))]
+    #[tactic(auto, using(outside::proofs::Following::following))]
     fn end_input<F: Folders, K: Sink>(
         &mut self,
         alloc: Global,

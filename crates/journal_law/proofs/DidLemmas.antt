@@ -2,18 +2,18 @@
 use Rattle.std.proofs.Common.{◌≡◌, ℕ, true, List, Option, inl, inr}
 use Rattle.std.specs.Prelude.{Result, Ok, Err}
 use Rattle.tab_lines.specs.Lines.{lines_of}
-use Rattle.effects.specs.Effects.{World}
-use Rattle.effects.specs.declared.stop.Stop.TheVariants as stop
+use Rattle.outside.specs.Effects.{World}
+use Rattle.outside.specs.declared.stop.Stop.TheVariants as stop
 use Rattle.course.specs.declared.status.Verdict.{Verdict}
 use Rattle.course.specs.declared.status.Verdict.TheVariants as verdict
 use Rattle.course.specs.declared.status.Halt.{Halt}
 use Rattle.course.specs.declared.status.Halt.TheVariants as halt
 use Rattle.course.specs.Answering.{BlamesRun}
-use Rattle.run_course.specs.declared.status.Status.{Status}
-use Rattle.run_course.specs.declared.status.Status.TheVariants as status
-use Rattle.run_course.specs.Course.{Course, GaveOut, GaveOutStatus, Finished, is_done_status, status_of}
-use Rattle.run_course.specs.Idle.{IdleRun}
-use Rattle.run_course.proofs.RunLemmas.{by_status}
+use Rattle.course.specs.declared.exit.Status.{Status}
+use Rattle.course.specs.declared.exit.Status.TheVariants as status
+use Rattle.course.specs.Course.{Course, GaveOut, GaveOutStatus, Finished, is_done_status, status_of}
+use Rattle.course.specs.Idle.{IdleRun}
+use Rattle.course.proofs.RunLemmas.{by_status}
 use Rattle.journal_answers.specs.Kept.{RanOver}
 use Rattle.journal_law.specs.Law.{JournalDid}
 

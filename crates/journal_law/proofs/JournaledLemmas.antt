@@ -5,7 +5,7 @@ use Rattle.std.proofs.lemmas.Bool.{false≢true}
 use Rattle.ss_text.specs.Texts.{Text}
 use Rattle.outside.specs.Tree.{Tree}
 use Rattle.outside.specs.Whole.{IsWhole}
-use Rattle.effects.specs.Effects.{Effect, World, contents, performed}
+use Rattle.outside.specs.Effects.{Effect, World, contents, performed}
 use Rattle.schema_model.specs.Catalogue.{CatalogueValue}
 use Rattle.schema_model.proofs.ReadyLemmas.{same_some}
 use Rattle.source_law.specs.Synced.{Synced, unsaved, SourcesHold}
@@ -16,9 +16,9 @@ use Rattle.view_session.specs.Session.{opened}
 use Rattle.course.specs.declared.status.Verdict.{Verdict}
 use Rattle.course.specs.declared.status.Verdict.TheVariants as verdict
 use Rattle.course.specs.Answering.{Reply, Ending, Continues, Finishes, course, follow}
-use Rattle.run_course.specs.declared.status.Status.{Status}
-use Rattle.run_course.specs.declared.status.Status.TheVariants as status
-use Rattle.run_course.specs.Course.{Finished, GaveOut, HeldUp, by_lines, first as first_course, goes_so_far, verdict_status, is_done_status, is_refused_status}
+use Rattle.course.specs.declared.exit.Status.{Status}
+use Rattle.course.specs.declared.exit.Status.TheVariants as status
+use Rattle.course.specs.Course.{Finished, GaveOut, HeldUp, by_lines, first as first_course, goes_so_far, verdict_status, is_done_status, is_refused_status}
 use Rattle.view_stages.specs.Open.{OpenValue}
 use Rattle.view_stages.specs.Stages.{DefinitionOrRefusal, Accepted, by_loading, loaded_or_refused}
 use Rattle.view_stages.specs.Opening.{IsDefinition, definition_bytes}

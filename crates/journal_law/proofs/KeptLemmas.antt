@@ -5,7 +5,7 @@ use Rattle.std.specs.List.{AllByRecursion}
 use Rattle.tab_lines.specs.Parts.{parts_at}
 use Rattle.outside.specs.Tree.{Tree}
 use Rattle.disk.specs.Disk.{Content, DiskState, MayLeave}
-use Rattle.effects.specs.Effects.{Effect}
+use Rattle.outside.specs.Effects.{Effect}
 use Rattle.schema_model.specs.Catalogue.{CatalogueValue}
 use Rattle.schema_model.specs.Changes.{after_all, is_well_formed}
 use Rattle.schema_model.specs.Refusals.{group_fault}

@@ -2,7 +2,7 @@
 use Rattle.std.proofs.Common.{◌≡◌, ◌⊎◌, inl, inr, ℕ, Bool, true, false, List, [], ◌∷◌, ◌++◌, length, None, Some, refl, sym, ap, ◌∙◌, append_assoc, append-nil}
 use Rattle.std.specs.Option.{option_map_or}
 use Rattle.ss_text.specs.Texts.{Row}
-use Rattle.effects.specs.Effects.{Effect}
+use Rattle.outside.specs.Effects.{Effect}
 use Rattle.schema_model.specs.Catalogue.{CatalogueValue}
 use Rattle.schema_model.specs.Changes.{after_all}
 use Rattle.source_law.specs.Synced.{Synced}

@@ -14,7 +14,7 @@ use Rattle.change_journal.specs.Entries.{Reading, read_journal, only_groups, ent
 use Rattle.change_journal.proofs.Readings.{read_is}
 use Rattle.journal_log.specs.declared.fault.JournalRefusal.{JournalRefusal}
 use Rattle.journal_log.specs.Replay.{Replay, replayed_from, by_groups, by_reading, replayed}
-use Rattle.run_course.specs.Course.{verdict_status, is_refused_status}
+use Rattle.course.specs.Course.{verdict_status, is_refused_status}
 use Rattle.view_stages.specs.Opening.{with_view}
 use Rattle.view_stages.specs.Stages.{Accepted, DefinitionOrRefusal, loaded_or_refused, refusal_of}
 use Rattle.view_answers.specs.Steps.{starting}

@@ -2,13 +2,13 @@
 use Rattle.std.proofs.Common.{◌≡◌, ℕ, Bool, true, false, List, Some, refl, ap}
 use Rattle.std.specs.Prelude.{if◌then◌else◌}
 use Rattle.outside.specs.Tree.{Tree}
-use Rattle.effects.specs.Effects.{World, Contents}
+use Rattle.outside.specs.Effects.{World, Contents}
 use Rattle.course.specs.declared.status.Verdict.TheVariants as verdict
 use Rattle.course.specs.Answering.{course}
-use Rattle.run_course.specs.declared.status.Status.{Status}
-use Rattle.run_course.specs.Course.{Finished, by_lines, verdict_status, is_refused_status}
-use Rattle.run_course.specs.Idle.{Unchanged}
-use Rattle.run_course.proofs.RefusedLemmas.{same_stored, not_so}
+use Rattle.course.specs.declared.exit.Status.{Status}
+use Rattle.course.specs.Course.{Finished, by_lines, verdict_status, is_refused_status}
+use Rattle.course.specs.Idle.{Unchanged}
+use Rattle.course.proofs.RefusedLemmas.{same_stored, not_so}
 use Rattle.view_stages.specs.Stages.{DefinitionOrRefusal}
 use Rattle.view_answers.specs.Answers.{end_view}
 use Rattle.journal_answers.specs.declared.view.JournalView.{JournalView}

@@ -4,7 +4,7 @@ use Rattle.std.specs.Prelude.{option_map}
 use Rattle.std.specs.Option.{option_map_or}
 use Rattle.ss_text.specs.Texts.{Text}
 use Rattle.outside.specs.Tree.{Tree, Place}
-use Rattle.effects.specs.Effects.{Effect, Write, Remove, Stored, Contents, performed, Partly}
+use Rattle.outside.specs.Effects.{Effect, Write, Remove, Stored, Contents, performed, Partly}
 use Rattle.csv_catalog.specs.Loaded.{label_of}
 use Rattle.source_law.proofs.AfterLemmas.{stored_by, stored_after}
 use Rattle.source_law.proofs.FileLemmas.{label_of_file}
@@ -19,8 +19,8 @@ use Rattle.view_session.specs.Session.{tables_of, opened}
 use Rattle.course.specs.declared.status.Verdict.TheVariants as verdict
 use Rattle.course.specs.Answering.{Reply, Continues, prefixed, follow, ending, course}
 use Rattle.course.proofs.AnsweringLemmas.{halted}
-use Rattle.run_course.specs.Course.{by_lines}
-use Rattle.run_course.proofs.FrontLemmas.{partly_split}
+use Rattle.course.specs.Course.{by_lines}
+use Rattle.course.proofs.FrontLemmas.{partly_split}
 use Rattle.view_stages.specs.Open.{OpenValue}
 use Rattle.view_stages.specs.Opened.{folder_of, view_exempt}
 use Rattle.view_stages.specs.Places.{Exempt, CsvFiles}

@@ -1,11 +1,11 @@
 -- A view with a journal changes its own files, and no others.
 use Rattle.std.proofs.Common.{inl, inr, ℕ, false, List, [], ◌∷◌, ◌++◌, refl, sym, subst}
 use Rattle.outside.specs.Tree.{Tree}
-use Rattle.effects.specs.Effects.{Effect}
+use Rattle.outside.specs.Effects.{Effect}
 use Rattle.source_law.specs.Synced.{Synced, unsaved}
 use Rattle.view_session.specs.Session.{opened}
 use Rattle.course.specs.Answering.{Continues, Ending, course}
-use Rattle.run_course.specs.Course.{by_lines}
+use Rattle.course.specs.Course.{by_lines}
 use Rattle.view_stages.specs.Open.{OpenValue}
 use Rattle.view_stages.specs.Opened.{folder_of, view_exempt}
 use Rattle.view_stages.specs.Places.{Exempt, CsvFiles}

@@ -4,14 +4,14 @@ use Rattle.ss_text.specs.Texts.{Text}
 use Rattle.tab_lines.specs.Lines.{lines_of}
 use Rattle.outside.specs.Tree.{Tree}
 use Rattle.outside.specs.Whole.{IsWhole}
-use Rattle.effects.specs.Effects.{World, contents}
+use Rattle.outside.specs.Effects.{World, contents}
 use Rattle.course.specs.Answering.{Continues}
 use Rattle.course.specs.Keeping.{Entry, HasFront, noted}
 use Rattle.change_journal.specs.Entries.{entries}
 use Rattle.change_journal.specs.Lines.{read_lines}
-use Rattle.run_course.specs.declared.status.Status.{Status}
-use Rattle.run_course.specs.declared.status.Status.TheVariants as status
-use Rattle.run_course.specs.Course.{Course, Did, HeldUp, GaveOutStatus, by_lines, is_done_status}
+use Rattle.course.specs.declared.exit.Status.{Status}
+use Rattle.course.specs.declared.exit.Status.TheVariants as status
+use Rattle.course.specs.Course.{Course, Did, HeldUp, GaveOutStatus, by_lines, is_done_status}
 use Rattle.view_stages.specs.Stages.{DefinitionOrRefusal}
 use Rattle.view_stages.specs.Opening.{IsDefinition, definition_bytes}
 use Rattle.journal_answers.specs.Answers.{step, note, finish}

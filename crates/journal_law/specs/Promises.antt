@@ -3,7 +3,7 @@ use Rattle.std.specs.Prelude.{◌≡◌, ◌⊎◌, ℕ, true, List, [], ◌∷�
 use Rattle.std.specs.Option.{option_map_or}
 use Rattle.tab_lines.specs.Lines.{whole_lines}
 use Rattle.outside.specs.Tree.{Tree}
-use Rattle.effects.specs.Effects.{World, contents}
+use Rattle.outside.specs.Effects.{World, contents}
 use Rattle.schema_model.specs.Catalogue.{CatalogueValue}
 use Rattle.schema_model.specs.Changes.{after_all}
 use Rattle.source_law.specs.Synced.{unsaved}
@@ -14,8 +14,8 @@ use Rattle.change_journal.specs.Entries.{entries}
 use Rattle.change_journal.specs.Lines.{lines_in, read_lines}
 use Rattle.journal_log.specs.Replay.{Replay, replayed}
 use Rattle.journal_log.specs.Room.{groups_of, lacks_room}
-use Rattle.run_course.specs.declared.status.Status.{Status}
-use Rattle.run_course.specs.Course.{verdict_status}
+use Rattle.course.specs.declared.exit.Status.{Status}
+use Rattle.course.specs.Course.{verdict_status}
 use Rattle.view_stages.specs.Open.{OpenValue, just_opened}
 use Rattle.view_stages.specs.Stages.{DefinitionOrRefusal, Accepted, loaded_or_refused, refusal_of}
 use Rattle.view_answers.specs.Answers.{Answer, answers_by, last_answer, end_view, syncing_view}

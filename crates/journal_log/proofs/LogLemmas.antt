@@ -7,7 +7,7 @@ use Rattle.disk.specs.Disk.{Content, DiskState, MayLeave}
 use Rattle.disk.specs.Moments.{LeavesOnly}
 use Rattle.schema_model.specs.Changes.{is_well_formed}
 use Rattle.schema_model.specs.declared.change.Change.{Change}
-use Rattle.effects.specs.Effects.{World, contents}
+use Rattle.outside.specs.Effects.{World, contents}
 use Rattle.course.specs.declared.status.Verdict.{Verdict}
 use Rattle.course.specs.declared.status.LineStop.{LineStop}
 use Rattle.course.specs.Keeping.{Entry, Log, LeavesNow, HasFront, LeavesFrontNow, LeavesFronts, Keeps}

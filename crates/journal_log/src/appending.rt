@@ -10,7 +10,7 @@ ghost use Rattle.journal_log.specs.Logs.{log_of, IsReady, KeepsFirst};
 use change_journal::{Journal, JournalFault};
 use course::LineStop;
 use disk::Disk;
-use effects::Stop;
+use outside::Stop;
 use schema_model::Change;
 use std::alloc::Global;
 

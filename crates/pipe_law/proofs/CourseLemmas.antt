@@ -3,7 +3,7 @@ use Rattle.std.proofs.Common.{◌≡◌, ◌∷◌, ◌++◌, ◌∙◌, [], ℕ
 use Rattle.std.specs.Prelude.{unwrap_or, Result, Ok, Err}
 use Rattle.ss_text.specs.Texts.{Text, Row}
 use Rattle.outside.specs.Tree.{Tree}
-use Rattle.effects.specs.Effects.{Effect}
+use Rattle.outside.specs.Effects.{Effect}
 use Rattle.tab_lines.specs.Spelling.{unspell}
 use Rattle.course.specs.declared.status.Verdict.TheVariants as verdict
 use Rattle.course.specs.Answering.{Reply, Continues, ending, follow, prefixed}
@@ -21,7 +21,7 @@ use Rattle.view_folder.specs.Files.{view_folder}
 use Rattle.view_folder.specs.Held.{held}
 use Rattle.view_apply.specs.Applying.{ApplyState, by_applying, by_folder, by_reading, by_spelling, finish, just_read, opening, reply, step, with_line}
 use Rattle.view_apply.specs.Scripts.{both, said_as, said_by, script_said}
-use Rattle.run_course.specs.Course.{by_lines}
+use Rattle.course.specs.Course.{by_lines}
 use Rattle.pipe_law.proofs.ApplyLemmas.{stays_refused}
 
 none_some : (script : List TableLine) → ◌≡◌ {A = Option (List TableLine)} None (Some script) → ⊥

@@ -8,7 +8,7 @@ use Rattle.ss_text.proofs.KeyLemmas.{text_order, equal_is}
 use Rattle.ss_text.proofs.PairLemmas.{any_ascending}
 use Rattle.outside.specs.Streams.{with_bytes}
 use Rattle.outside.specs.Tree.{Tree, file_at, files_of}
-use Rattle.effects.specs.Effects.{Effect, World}
+use Rattle.outside.specs.Effects.{Effect, World}
 use Rattle.tab_lines.specs.Lines.{lines_of}
 use Rattle.course.specs.declared.status.Verdict.TheVariants as verdict
 use Rattle.course.specs.Answering.{Reply, Continues, Finishes, Ending}
@@ -35,7 +35,7 @@ use Rattle.view_apply.specs.Scripts.{script_said}
 use Rattle.view_answers.specs.Answers.{Answer, answer, answers_to, finish}
 use Rattle.plain_commands.specs.Applies.{IsApplied, apply_opening, named_by}
 use Rattle.ss_top.specs.Commands.{Apply}
-use Rattle.run_course.specs.Course.{by_lines}
+use Rattle.course.specs.Course.{by_lines}
 use Rattle.view_stages.specs.Open.{OpenValue}
 use Rattle.view_stages.specs.Opening.{IsDefinition}
 use Rattle.upkeep_law.specs.Lists.{effects_by}
@@ -44,7 +44,7 @@ use Rattle.upkeep_law.proofs.LineLemmas.{all_done, course_is, lines_followed}
 use Rattle.view_stages.specs.Opened.{folder_of, view_at_first}
 use Rattle.ss_top.specs.Runs.{of_view, course_of}
 use Rattle.view_stages.specs.Stages.{DefinitionOrRefusal, files_of_view}
-use Rattle.run_course.specs.declared.status.Status.{Status}
+use Rattle.course.specs.declared.exit.Status.{Status}
 use Rattle.view_answers.proofs.AnswerCases.{answer_query}
 use Rattle.upkeep_law.proofs.TakeLemmas.{definition_of_profile, meaning_fits_form}
 use Rattle.pipe_law.specs.Law.{HavePlainHeaders, IsPiped, PipedViewsFollow}

@@ -3,7 +3,7 @@ use Rattle.std.specs.Prelude.{◌≡◌, ◌≢◌, ℕ, false, List, [], Option
 use Rattle.std.specs.List.{AllByRecursion}
 use Rattle.ss_text.specs.Texts.{Text}
 use Rattle.outside.specs.Tree.{Tree}
-use Rattle.effects.specs.Effects.{World}
+use Rattle.outside.specs.Effects.{World}
 use Rattle.tab_lines.specs.Lines.{lines_of}
 use Rattle.course.specs.declared.status.Verdict.TheVariants as verdict
 use Rattle.schema_model.specs.Catalogue.{CatalogueValue}
@@ -21,7 +21,7 @@ use Rattle.view_folder.specs.Held.{held}
 use Rattle.view_folder.specs.Sync.{Holds}
 use Rattle.view_folder.specs.TableFiles.{table_records, table_files}
 use Rattle.view_apply.specs.Scripts.{script_said}
-use Rattle.run_course.specs.declared.status.Status.{Status}
+use Rattle.course.specs.declared.exit.Status.{Status}
 use Rattle.plain_commands.specs.Applies.{IsApplied}
 use Rattle.ss_top.specs.Commands.{Apply}
 use Rattle.view_stages.specs.Opening.{IsDefinition}

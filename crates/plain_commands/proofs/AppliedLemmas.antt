@@ -6,7 +6,7 @@ use Rattle.ss_text.specs.Texts.{Text, text_cmp}
 use Rattle.ss_text.specs.Ascending.{ascending}
 use Rattle.tab_lines.specs.Lines.{lines_of}
 use Rattle.outside.specs.Tree.{Tree}
-use Rattle.effects.specs.Effects.{Effect, World, contents, performed}
+use Rattle.outside.specs.Effects.{Effect, World, contents, performed}
 use Rattle.course.specs.declared.status.Verdict.{Verdict}
 use Rattle.course.specs.declared.status.Verdict.TheVariants as verdict
 use Rattle.course.specs.Answering.{course}
@@ -20,10 +20,10 @@ use Rattle.view_apply.specs.Applying.{ApplyState, just_read, by_folder, step, fi
 use Rattle.view_apply.specs.Left.{IsLeft}
 use Rattle.view_apply.proofs.CourseLemmas.{AllTook, done_took}
 use Rattle.view_apply.proofs.LeftLemmas.{is_left}
-use Rattle.run_course.specs.declared.status.Status.{Status}
-use Rattle.run_course.specs.declared.status.Status.TheVariants as status
-use Rattle.run_course.specs.Course.{Finished, Did, by_lines, verdict_status, is_done_status}
-use Rattle.run_course.proofs.RunLemmas.{done_finished}
+use Rattle.course.specs.declared.exit.Status.{Status}
+use Rattle.course.specs.declared.exit.Status.TheVariants as status
+use Rattle.course.specs.Course.{Finished, Did, by_lines, verdict_status, is_done_status}
+use Rattle.course.proofs.RunLemmas.{done_finished}
 use Rattle.view_stages.specs.Stages.{DefinitionOrRefusal, Accepted}
 use Rattle.view_stages.specs.Opened.{folder_of}
 use Rattle.plain_commands.specs.Applies.{IsApplied, apply_opening, named_by}

@@ -3,10 +3,10 @@ use Rattle.std.proofs.Common.{◌≡◌, ◌≢◌, ℕ, true, false, List, [], 
 use Rattle.std.specs.Prelude.{Bool, Result, Ok, Err, IfOk, IfErr, IsErrOf}
 use Rattle.outside.specs.States.{StoreState, SinkState}
 use Rattle.outside.specs.Reading.{OnlyRead}
-use Rattle.effects.specs.Effects.{World, world_of, contents, Partly}
-use Rattle.effects.specs.declared.stop.Stop.{Stop}
-use Rattle.effects.specs.declared.stop.Stop.TheVariants as stop
-use Rattle.effects.proofs.EffectLemmas.{partly_more}
+use Rattle.outside.specs.Effects.{World, world_of, contents, Partly}
+use Rattle.outside.specs.declared.stop.Stop.{Stop}
+use Rattle.outside.specs.declared.stop.Stop.TheVariants as stop
+use Rattle.outside.proofs.EffectLemmas.{partly_more}
 use Rattle.tab_lines.specs.Lines.{lines_of}
 use Rattle.course.specs.declared.status.Verdict.{Verdict}
 use Rattle.course.specs.declared.status.Verdict.TheVariants as verdict
@@ -18,10 +18,10 @@ use Rattle.view_apply.specs.declared.opening.OpenedFolder.TheVariants as read
 use Rattle.view_apply.specs.Applying.{ApplyState, step, finish}
 use Rattle.view_apply.specs.Opening.{Opens}
 use Rattle.view_apply.proofs.CourseLemmas.{halts_so}
-use Rattle.run_course.specs.Statuses.{can_apply}
-use Rattle.run_course.specs.Idle.{IdleStop}
-use Rattle.run_course.specs.Course.{RanBy, RanSome, Took, TookEnough, by_lines, verdict_status, status_of, is_done, IsReadWhole, IsWholeInput}
-use Rattle.run_course.proofs.DriveLemmas.{went_on, ended_later, took_behind, enough_behind}
+use Rattle.course.specs.Statuses.{can_apply}
+use Rattle.course.specs.Idle.{IdleStop}
+use Rattle.course.specs.Course.{RanBy, RanSome, Took, TookEnough, by_lines, verdict_status, status_of, is_done, IsReadWhole, IsWholeInput}
+use Rattle.course.proofs.DriveLemmas.{went_on, ended_later, took_behind, enough_behind}
 use Rattle.plain_commands.specs.declared.applying.Folder.TheVariants as folder
 use Rattle.plain_commands.specs.Steps.{FolderOpens, IsFolderRefusal}
 

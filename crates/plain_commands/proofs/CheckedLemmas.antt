@@ -4,7 +4,7 @@ use Rattle.std.specs.Prelude.{Result, Ok, Err}
 use Rattle.ss_text.specs.Texts.{Text, Row}
 use Rattle.outside.specs.Streams.{with_bytes}
 use Rattle.outside.specs.Tree.{Tree}
-use Rattle.effects.specs.Effects.{World, Contents, contents}
+use Rattle.outside.specs.Effects.{World, Contents, contents}
 use Rattle.schema_model.specs.Catalogue.{CatalogueValue}
 use Rattle.view_folder.specs.Files.{view_folder}
 use Rattle.view_folder.specs.Comparison.{comparison}
@@ -12,10 +12,10 @@ use Rattle.view_folder.specs.declared.comparison.Comparison.{Comparison}
 use Rattle.view_folder.specs.declared.comparison.Comparison.TheVariants as compared
 use Rattle.view_folder.proofs.ComparisonLemmas.{same_holds}
 use Rattle.ss_print.specs.Printing.{same_line}
-use Rattle.run_course.specs.declared.status.Status.{Status}
-use Rattle.run_course.specs.declared.status.Status.TheVariants as status
-use Rattle.run_course.specs.Course.{Finished, Did, is_done_status, unread}
-use Rattle.run_course.proofs.RunLemmas.{done_finished}
+use Rattle.course.specs.declared.exit.Status.{Status}
+use Rattle.course.specs.declared.exit.Status.TheVariants as status
+use Rattle.course.specs.Course.{Finished, Did, is_done_status, unread}
+use Rattle.course.proofs.RunLemmas.{done_finished}
 use Rattle.view_stages.specs.Stages.{DefinitionOrRefusal, Accepted, loaded_or_refused, refusal_of, files_of_view}
 use Rattle.plain_commands.specs.Checking.{checked}
 use Rattle.plain_commands.specs.Verifying.{by_comparison, verified_view, verified_over, verified}

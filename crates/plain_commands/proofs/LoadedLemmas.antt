@@ -1,11 +1,11 @@
 -- A run of `load` that ended with the status 0.
 use Rattle.std.proofs.Common.{◌≡◌, ℕ, List, [], Option, ap}
 use Rattle.outside.specs.Tree.{Tree}
-use Rattle.effects.specs.Effects.{World, Contents, contents}
-use Rattle.run_course.specs.declared.status.Status.{Status}
-use Rattle.run_course.specs.declared.status.Status.TheVariants as status
-use Rattle.run_course.specs.Course.{Finished, Did, is_done_status, unread}
-use Rattle.run_course.proofs.RunLemmas.{done_finished}
+use Rattle.outside.specs.Effects.{World, Contents, contents}
+use Rattle.course.specs.declared.exit.Status.{Status}
+use Rattle.course.specs.declared.exit.Status.TheVariants as status
+use Rattle.course.specs.Course.{Finished, Did, is_done_status, unread}
+use Rattle.course.proofs.RunLemmas.{done_finished}
 use Rattle.view_stages.specs.Stages.{DefinitionOrRefusal}
 use Rattle.plain_commands.specs.Loads.{loaded, IsLoaded}
 

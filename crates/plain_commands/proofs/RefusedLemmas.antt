@@ -3,7 +3,7 @@ use Rattle.std.proofs.Common.{◌≡◌, ℕ, true, List, [], Option, None, Some
 use Rattle.std.specs.Prelude.{Result, Ok, Err}
 use Rattle.ss_text.specs.Texts.{Text, Row}
 use Rattle.outside.specs.Tree.{Tree}
-use Rattle.effects.specs.Effects.{Effect, World, Contents, contents, performed}
+use Rattle.outside.specs.Effects.{Effect, World, Contents, contents, performed}
 use Rattle.schema_model.specs.Catalogue.{CatalogueValue}
 use Rattle.view_def.specs.Query.{Query}
 use Rattle.view_folder.specs.declared.comparison.Comparison.{Comparison}
@@ -19,12 +19,12 @@ use Rattle.view_apply.proofs.CourseLemmas.{halts_so}
 use Rattle.view_folder.proofs.ComparisonLemmas.{holds_same}
 use Rattle.course.specs.declared.status.Verdict.TheVariants as verdict
 use Rattle.course.specs.Answering.{Reply, Continues, Finishes, ending, follow}
-use Rattle.run_course.specs.declared.status.Status.{Status}
-use Rattle.run_course.specs.declared.status.Status.TheVariants as status
-use Rattle.run_course.specs.Course.{Finished, Did, by_lines, verdict_status, is_refused_status, unread}
-use Rattle.run_course.specs.Idle.{Unchanged}
-use Rattle.run_course.proofs.RunLemmas.{refused_finished}
-use Rattle.run_course.proofs.RefusedLemmas.{same_stored, not_so}
+use Rattle.course.specs.declared.exit.Status.{Status}
+use Rattle.course.specs.declared.exit.Status.TheVariants as status
+use Rattle.course.specs.Course.{Finished, Did, by_lines, verdict_status, is_refused_status, unread}
+use Rattle.course.specs.Idle.{Unchanged}
+use Rattle.course.proofs.RunLemmas.{refused_finished}
+use Rattle.course.proofs.RefusedLemmas.{same_stored, not_so}
 use Rattle.view_stages.specs.Stages.{DefinitionOrRefusal, loaded_or_refused, refusal_of, files_of_view}
 use Rattle.view_stages.specs.Opened.{folder_of}
 use Rattle.view_stages.proofs.StageLemmas.{are_view_files}

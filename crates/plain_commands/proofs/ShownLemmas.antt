@@ -5,8 +5,8 @@ use Rattle.ss_text.specs.Texts.{Text, Row}
 use Rattle.tab_lines.specs.Spelling.{spell}
 use Rattle.outside.specs.Streams.{with_bytes}
 use Rattle.outside.specs.Tree.{Tree, files_of}
-use Rattle.effects.specs.Effects.{Effect, World, Stored, Contents, contents, performed}
-use Rattle.effects.proofs.EffectLemmas.{performed_append}
+use Rattle.outside.specs.Effects.{Effect, World, Stored, Contents, contents, performed}
+use Rattle.outside.proofs.EffectLemmas.{performed_append}
 use Rattle.schema_model.specs.Catalogue.{CatalogueValue}
 use Rattle.view_def.specs.Query.{Query}
 use Rattle.view_folder.specs.Files.{view_folder}
@@ -14,11 +14,11 @@ use Rattle.view_folder.specs.Sync.{opening_sync}
 use Rattle.view_folder.proofs.FolderLemmas.{now, synced, holds_exactly, counted}
 use Rattle.course.specs.Answering.{ending}
 use Rattle.ss_print.specs.Printing.{prints_synced}
-use Rattle.run_course.specs.declared.status.Status.{Status}
-use Rattle.run_course.specs.declared.status.Status.TheVariants as status
-use Rattle.run_course.specs.Course.{Finished, Did, is_done_status, unread}
-use Rattle.run_course.proofs.ToldLemmas.{told_tree, contents_told}
-use Rattle.run_course.proofs.RunLemmas.{done_finished}
+use Rattle.course.specs.declared.exit.Status.{Status}
+use Rattle.course.specs.declared.exit.Status.TheVariants as status
+use Rattle.course.specs.Course.{Finished, Did, is_done_status, unread}
+use Rattle.course.proofs.ToldLemmas.{told_tree, contents_told}
+use Rattle.course.proofs.RunLemmas.{done_finished}
 use Rattle.view_stages.specs.Stages.{DefinitionOrRefusal, Accepted, loaded_or_refused, refusal_of, files_of_view}
 use Rattle.view_stages.specs.Opening.{opening, with_catalogue, with_view, opening_effects, done_at_once}
 use Rattle.view_stages.specs.Places.{CsvFiles}

@@ -4,7 +4,7 @@ use Rattle.std.specs.Prelude.{Result, Ok, Err, unwrap_or}
 use Rattle.ss_text.specs.Texts.{Text, Row}
 use Rattle.tab_lines.specs.Lines.{whole_lines}
 use Rattle.outside.specs.Tree.{Tree, files_of}
-use Rattle.effects.specs.Effects.{Effect, Print, World, Stored, Contents, contents, performed, Partly}
+use Rattle.outside.specs.Effects.{Effect, Print, World, Stored, Contents, contents, performed, Partly}
 use Rattle.schema_model.specs.Catalogue.{CatalogueValue}
 use Rattle.flow_law.specs.Tables.{TablesValue}
 use Rattle.valuation_meaning.specs.Meaning.{shape_of}
@@ -18,9 +18,9 @@ use Rattle.ss_print.specs.Printing.{lines_text, applied_rows}
 use Rattle.view_apply.specs.Applying as applying
 use Rattle.view_apply.specs.Applying.{ApplyState, by_folder, just_read, synced_count}
 use Rattle.view_apply.proofs.CourseLemmas.{went_on, halts_so}
-use Rattle.run_course.specs.Course.{Did, GaveOut, by_lines, goes_so_far, is_unread_status}
-use Rattle.run_course.specs.declared.status.Status.{Status}
-use Rattle.run_course.specs.declared.status.Status.TheVariants as status
+use Rattle.course.specs.Course.{Did, GaveOut, by_lines, goes_so_far, is_unread_status}
+use Rattle.course.specs.declared.exit.Status.{Status}
+use Rattle.course.specs.declared.exit.Status.TheVariants as status
 use Rattle.view_stages.specs.Stages.{DefinitionOrRefusal, Accepted, refusal_of, files_of_view}
 use Rattle.view_stages.specs.Opening.{with_catalogue, with_view, opening_effects, done_at_once}
 use Rattle.view_stages.specs.Opened.{folder_of}

@@ -1,9 +1,9 @@
 -- An end behind calls that did nothing.
 use Rattle.std.proofs.Common.{◌≡◌, [], ap, ◌∙◌, subst}
 use Rattle.std.specs.Prelude.{Result, Ok, Err}
-use Rattle.effects.specs.Effects.{World, Contents, contents, performed, Partly}
-use Rattle.effects.specs.declared.stop.Stop.{Stop}
-use Rattle.effects.proofs.EffectLemmas.{partly_more}
+use Rattle.outside.specs.Effects.{World, Contents, contents, performed, Partly}
+use Rattle.outside.specs.declared.stop.Stop.{Stop}
+use Rattle.outside.proofs.EffectLemmas.{partly_more}
 use Rattle.view_folder.specs.declared.comparison.Comparison.{Comparison}
 use Rattle.course.specs.declared.status.Verdict.{Verdict}
 use Rattle.course.specs.Answering.{Ending, Ended}

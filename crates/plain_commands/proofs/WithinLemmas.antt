@@ -3,7 +3,7 @@ use Rattle.std.proofs.Common.{◌≡◌, ℕ, List, [], ◌∷◌, ◌++◌, Opt
 use Rattle.std.specs.Prelude.{Result, Ok, Err}
 use Rattle.ss_text.specs.Texts.{Text, Row}
 use Rattle.outside.specs.Tree.{Tree, files_of}
-use Rattle.effects.specs.Effects.{Effect}
+use Rattle.outside.specs.Effects.{Effect}
 use Rattle.schema_model.specs.Catalogue.{CatalogueValue}
 use Rattle.flow_law.specs.Tables.{TablesValue}
 use Rattle.valuation_meaning.specs.Meaning.{shape_of}
@@ -17,7 +17,7 @@ use Rattle.view_folder.specs.Held.{held}
 use Rattle.view_apply.specs.Applying as applying
 use Rattle.view_apply.specs.Applying.{ApplyState, by_folder, just_read}
 use Rattle.view_apply.proofs.CourseLemmas.{went_on, halts_so}
-use Rattle.run_course.specs.Course.{by_lines, goes_so_far}
+use Rattle.course.specs.Course.{by_lines, goes_so_far}
 use Rattle.view_stages.specs.Places.{CsvFiles}
 use Rattle.view_stages.specs.Stages.{Accepted, refusal_of, files_of_view}
 use Rattle.view_stages.specs.Opening.{with_catalogue, with_view, opening_effects, done_at_once}

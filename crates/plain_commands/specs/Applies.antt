@@ -4,7 +4,7 @@ use Rattle.ss_text.specs.Texts.{Text, text_cmp, is_in}
 use Rattle.ss_text.specs.Ascending.{ascending}
 use Rattle.outside.specs.Streams.{with_bytes}
 use Rattle.outside.specs.Tree.{Tree}
-use Rattle.effects.specs.Effects.{World}
+use Rattle.outside.specs.Effects.{World}
 use Rattle.course.specs.declared.status.Verdict.TheVariants as verdict
 use Rattle.course.specs.Answering.{Reply, Finishes}
 use Rattle.flow_law.specs.declared.line.TableLine.{TableLine}

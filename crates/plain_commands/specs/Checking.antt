@@ -1,6 +1,6 @@
 -- What `check` does.
 use Rattle.std.specs.Prelude.{[], ◌∷◌, Ok, Err}
-use Rattle.effects.specs.Effects.{Effect, Print}
+use Rattle.outside.specs.Effects.{Effect, Print}
 use Rattle.view_def.specs.Print.{print}
 use Rattle.course.specs.declared.status.Verdict.{Verdict}
 use Rattle.course.specs.declared.status.Verdict.TheVariants as verdict

@@ -2,7 +2,7 @@
 use Rattle.std.specs.Prelude.{◌≡◌, ℕ, [], ◌∷◌, ◌++◌}
 use Rattle.outside.specs.Streams.{with_bytes}
 use Rattle.tab_lines.specs.Spelling.{spell}
-use Rattle.effects.specs.Effects.{World}
+use Rattle.outside.specs.Effects.{World}
 use Rattle.course.specs.Answering.{Ending}
 use Rattle.course.specs.declared.status.Verdict.TheVariants as verdict
 use Rattle.ss_print.specs.Printing.{says}

@@ -4,7 +4,7 @@ use Rattle.tab_lines.specs.Spelling.{spell}
 use Rattle.outside.specs.Counts.{risen}
 use Rattle.outside.specs.Streams.{with_bytes}
 use Rattle.outside.specs.Tree.{Tree}
-use Rattle.effects.specs.Effects.{World}
+use Rattle.outside.specs.Effects.{World}
 use Rattle.view_folder.specs.Sync.{Holds}
 use Rattle.view_def.specs.Print.{print}
 use Rattle.ss_print.specs.Printing.{same_line}

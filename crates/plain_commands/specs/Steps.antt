@@ -3,12 +3,12 @@ use Rattle.std.specs.Prelude.{◌≡◌, ◌⊎◌, true, List, Option, None, So
 use Rattle.ss_text.specs.Texts.{Row}
 use Rattle.view_folder.specs.declared.file.File.{File}
 use Rattle.view_folder.specs.Files.{AreViewFiles}
-use Rattle.effects.specs.Effects.{World, contents, performed, Partly}
-use Rattle.effects.specs.declared.stop.Stop.{Stop}
+use Rattle.outside.specs.Effects.{World, contents, performed, Partly}
+use Rattle.outside.specs.declared.stop.Stop.{Stop}
 use Rattle.course.specs.declared.status.Verdict.TheVariants as verdict
 use Rattle.course.specs.Answering.{Reply, Continues, Finishes, effects_of}
 use Rattle.view_apply.specs.Applying.{ApplyState}
-use Rattle.run_course.specs.Course.{verdict_status, is_refused_status}
+use Rattle.course.specs.Course.{verdict_status, is_refused_status}
 use Rattle.plain_commands.specs.declared.tables.Showing.{Showing}
 use Rattle.plain_commands.specs.declared.tables.Showing.TheVariants as showing
 use Rattle.plain_commands.specs.Meant.{MeantOrRefused}

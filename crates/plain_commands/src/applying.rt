@@ -1,7 +1,7 @@
 //! The command `apply`.
 ghost use Rattle.std.specs.Prelude.{◌≡◌, true, false, List, ℕ, Some, IfOk, IfErr};
-ghost use Rattle.effects.specs.Effects.{world_of};
-ghost use Rattle.effects.specs.Blame.{Blames};
+ghost use Rattle.outside.specs.Effects.{world_of};
+ghost use Rattle.outside.specs.Blame.{Blames};
 ghost use Rattle.outside.specs.Tree.{Tree};
 ghost use Rattle.course.specs.Answering.{BlamesRun, is_too_long};
 ghost use Rattle.view_def.specs.Query.{query_of};
@@ -10,14 +10,13 @@ ghost use Rattle.view_apply.specs.Applying.{step, finish, opening};
 ghost use Rattle.view_stages.specs.Stages.{DefinitionOrRefusal};
 ghost use Rattle.view_stages.specs.Opening.{IsDefinition, definition_bytes};
 ghost use Rattle.plain_commands.specs.Applies.{apply_opening};
-ghost use Rattle.run_course.specs.Statuses.{can_apply};
+ghost use Rattle.course.specs.Statuses.{can_apply};
 ghost use Rattle.plain_commands.specs.Steps.{FolderOpens, IsFolderRefusal};
-ghost use Rattle.run_course.specs.Idle.{IdleUnread, IdleRun};
-ghost use Rattle.run_course.specs.Course.{RanBy, RanSome, Took, TookEnough, by_lines, status_of, IsWholeInput};
+ghost use Rattle.course.specs.Idle.{IdleUnread, IdleRun};
+ghost use Rattle.course.specs.Course.{RanBy, RanSome, Took, TookEnough, by_lines, status_of, IsWholeInput};
 
 use course::{Halt, NoDisk, Verdict, answer_lines};
-use effects::Stop;
-use outside::{Folders, Sink, Source};
+use outside::{Folders, Sink, Source, Stop};
 use ss_print::refuse;
 use ss_text::{Steps, Text};
 use std::alloc::Global;
@@ -34,7 +33,7 @@ pub(crate) enum Folder {
 }
 
 // Reads the definition of this name and the tables of its view's folder.
-#[tactic(auto, using(effects::proofs::Following::following, crate::proofs::ApplyLemmas::nothing_read, outside::proofs::ReadingLemmas::only_read_then, outside::proofs::ReadingLemmas::only_read_nothing, run_course::proofs::IdleLemmas::idle_read, run_course::proofs::IdleLemmas::idle_print, run_course::proofs::IdleLemmas::idle_later))]
+#[tactic(auto, using(outside::proofs::Following::following, crate::proofs::ApplyLemmas::nothing_read, outside::proofs::ReadingLemmas::only_read_then, outside::proofs::ReadingLemmas::only_read_nothing, course::proofs::IdleLemmas::idle_read, course::proofs::IdleLemmas::idle_print, course::proofs::IdleLemmas::idle_later))]
 fn open<F: Folders, K: Sink>(
     alloc: Global,
     store: &mut F,
@@ -60,7 +59,7 @@ fn open<F: Folders, K: Sink>(
 }
 
 // Reads the tables of the folder of a view.
-#[tactic(auto, using(effects::proofs::Following::following, crate::proofs::ApplyLemmas::nothing_read, run_course::proofs::IdleLemmas::idle_read, crate::proofs::ApplyLemmas::idle_unprinted, crate::proofs::ApplyLemmas::folder_open, crate::proofs::ApplyLemmas::folder_refused, crate::proofs::ApplyLemmas::folder_stopped))]
+#[tactic(auto, using(outside::proofs::Following::following, crate::proofs::ApplyLemmas::nothing_read, course::proofs::IdleLemmas::idle_read, crate::proofs::ApplyLemmas::idle_unprinted, crate::proofs::ApplyLemmas::folder_open, crate::proofs::ApplyLemmas::folder_refused, crate::proofs::ApplyLemmas::folder_stopped))]
 fn open_tables<F: Folders, K: Sink>(
     alloc: Global,
     store: &mut F,
@@ -84,7 +83,7 @@ fn open_tables<F: Folders, K: Sink>(
 
 /// Reads the folder of the view of this name, applies the lines of the input to its tables, and writes them at the
 /// end. A line that is refused ends the run, and nothing is written. A fault at the end leaves a front of the writes.
-#[tactic(auto, using(crate::proofs::ApplyLemmas::opening_ended, crate::proofs::ApplyLemmas::opening_stopped, crate::proofs::ApplyLemmas::opening_drove, crate::proofs::ApplyLemmas::drove_whole, crate::proofs::ApplyLemmas::ended_whole, crate::proofs::ApplyLemmas::ended_enough, run_course::proofs::DriveLemmas::blamed_later, crate::proofs::ApplyLemmas::some_ended, crate::proofs::ApplyLemmas::some_stopped, crate::proofs::ApplyLemmas::some_drove, run_course::proofs::DriveLemmas::took_nothing, crate::proofs::ApplyLemmas::refused_can, crate::proofs::ApplyLemmas::stopped_can, run_course::proofs::IdleLemmas::idle_drove))]
+#[tactic(auto, using(crate::proofs::ApplyLemmas::opening_ended, crate::proofs::ApplyLemmas::opening_stopped, crate::proofs::ApplyLemmas::opening_drove, crate::proofs::ApplyLemmas::drove_whole, crate::proofs::ApplyLemmas::ended_whole, crate::proofs::ApplyLemmas::ended_enough, course::proofs::DriveLemmas::blamed_later, crate::proofs::ApplyLemmas::some_ended, crate::proofs::ApplyLemmas::some_stopped, crate::proofs::ApplyLemmas::some_drove, course::proofs::DriveLemmas::took_nothing, crate::proofs::ApplyLemmas::refused_can, crate::proofs::ApplyLemmas::stopped_can, course::proofs::IdleLemmas::idle_drove))]
 pub fn apply<F: Folders, S: Source, K: Sink, L: Ledger>(
     alloc: Global,
     store: &mut F,

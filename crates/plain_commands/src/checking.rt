@@ -1,20 +1,19 @@
 //! The command `check`.
 ghost use Rattle.std.specs.Prelude.{◌≡◌, true, Some, IfOk};
-ghost use Rattle.effects.specs.Effects.{world_of};
+ghost use Rattle.outside.specs.Effects.{world_of};
 ghost use Rattle.outside.specs.Reading.{OnlyRead};
 ghost use Rattle.outside.specs.Tree.{Tree};
-ghost use Rattle.effects.specs.Blame.{Blames};
+ghost use Rattle.outside.specs.Blame.{Blames};
 ghost use Rattle.course.specs.Answering.{Ended};
 ghost use Rattle.view_stages.specs.Stages.{DefinitionOrRefusal};
 ghost use Rattle.view_stages.specs.Opening.{IsDefinition, definition_bytes};
 ghost use Rattle.plain_commands.specs.Checking.{checked};
-ghost use Rattle.run_course.specs.Statuses.{can_check};
-ghost use Rattle.run_course.specs.Course.{verdict_status};
-ghost use Rattle.run_course.specs.Idle.{IdleUnread};
+ghost use Rattle.course.specs.Statuses.{can_check};
+ghost use Rattle.course.specs.Course.{verdict_status};
+ghost use Rattle.course.specs.Idle.{IdleUnread};
 
 use course::Verdict;
-use effects::{Stop, print};
-use outside::{Folders, Sink};
+use outside::{Folders, Sink, Stop, print};
 use ss_print::refuse;
 use ss_text::Text;
 use std::alloc::Global;
@@ -22,7 +21,7 @@ use view_def::view_text;
 use view_stages::{Understood, read_definition};
 
 /// Prints the canonical text of the definition of this name, or its refusal. A fault may leave a front of the line.
-#[tactic(auto, using(effects::proofs::Following::following, outside::proofs::ReadingLemmas::only_read_then, outside::proofs::ReadingLemmas::only_read_nothing, run_course::proofs::IdleLemmas::idle_read, run_course::proofs::IdleLemmas::idle_print))]
+#[tactic(auto, using(outside::proofs::Following::following, outside::proofs::ReadingLemmas::only_read_then, outside::proofs::ReadingLemmas::only_read_nothing, course::proofs::IdleLemmas::idle_read, course::proofs::IdleLemmas::idle_print))]
 pub fn check<F: Folders, K: Sink>(
     alloc: Global,
     store: &mut F,

@@ -1,22 +1,21 @@
 //! The command `load`.
 ghost use Rattle.std.specs.Prelude.{◌≡◌, ◌≢◌, ◌≤◌, IfOk, IfErr};
-ghost use Rattle.effects.specs.Effects.{world_of};
-ghost use Rattle.effects.specs.Blame.{Blames};
+ghost use Rattle.outside.specs.Effects.{world_of};
+ghost use Rattle.outside.specs.Blame.{Blames};
 ghost use Rattle.course.specs.Answering.{Ended};
 ghost use Rattle.course.specs.declared.status.Verdict.TheVariants.{Done};
 ghost use Rattle.plain_commands.specs.Loads.{loaded};
 
 use course::Verdict;
-use effects::Stop;
 use load_run::summary_row;
-use outside::{Folders, Sink};
+use outside::{Folders, Sink, Stop};
 use ss_print::say;
 use ss_text::Steps;
 use std::alloc::Global;
 use std::sync::ledger::Ledger;
 
 /// Makes so many changes of a seed in memory, and prints what came of them. A fault may leave a front of the line.
-#[tactic(auto, using(effects::proofs::Following::following))]
+#[tactic(auto, using(outside::proofs::Following::following))]
 pub fn load<F: Folders, K: Sink, L: Ledger>(
     alloc: Global,
     _store: &mut F,

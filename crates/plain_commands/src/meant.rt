@@ -2,8 +2,8 @@
 ghost use Rattle.std.specs.Prelude.{◌≡◌, [], Some, IfOk};
 ghost use Rattle.outside.specs.Reading.{OnlyRead};
 ghost use Rattle.outside.specs.Tree.{Tree};
-ghost use Rattle.effects.specs.Effects.{Does, world_of};
-ghost use Rattle.effects.specs.Blame.{StoreBlames};
+ghost use Rattle.outside.specs.Effects.{Does, world_of};
+ghost use Rattle.outside.specs.Blame.{StoreBlames};
 ghost use Rattle.view_def.specs.Query.{query_of};
 ghost use Rattle.view_stages.specs.Stages.{DefinitionOrRefusal, loaded_or_refused, refusal_of};
 ghost use Rattle.view_stages.specs.Opening.{IsDefinition, definition_bytes};
@@ -13,8 +13,7 @@ ghost use Rattle.plain_commands.specs.Steps.{meant_of, IsMeantRefusal, AreMeantN
 
 use crate::tables::{Showing, show_tables};
 use course::Verdict;
-use effects::Stop;
-use outside::Folders;
+use outside::{Folders, Stop};
 use schema_model::Catalogue;
 use ss_text::{NoMemory, Row, Text};
 use std::alloc::Global;
@@ -31,7 +30,7 @@ pub(crate) enum Meant {
 }
 
 // The files of the view of this name.
-#[tactic(auto, using(effects::proofs::Following::following, outside::proofs::ReadingLemmas::only_read_then, outside::proofs::ReadingLemmas::only_read_nothing))]
+#[tactic(auto, using(outside::proofs::Following::following, outside::proofs::ReadingLemmas::only_read_then, outside::proofs::ReadingLemmas::only_read_nothing))]
 pub(crate) fn meant_files<F: Folders>(
     alloc: Global,
     store: &mut F,
@@ -54,7 +53,7 @@ pub(crate) fn meant_files<F: Folders>(
 }
 
 // The files of a view over the source relations.
-#[tactic(auto, using(effects::proofs::Following::following, outside::proofs::ReadingLemmas::only_read_then, outside::proofs::ReadingLemmas::only_read_nothing))]
+#[tactic(auto, using(outside::proofs::Following::following, outside::proofs::ReadingLemmas::only_read_then, outside::proofs::ReadingLemmas::only_read_nothing))]
 fn files_of_view<F: Folders>(alloc: Global, store: &mut F, view: &View) -> Result<Meant, Stop>
     requires { HasRecords (query_of view.now) }
     ensures told { IfOk result (λ r. (t : Tree) → (F.state store.old).tree ≡ Some t → meant_of r ≡ meant_over (query_of view.now) (loaded_or_refused t)) }

@@ -1,20 +1,19 @@
 //! The command `show`.
 ghost use Rattle.std.specs.Prelude.{◌≡◌, true, Some, IfOk};
-ghost use Rattle.effects.specs.Effects.{Does, world_of};
+ghost use Rattle.outside.specs.Effects.{Does, world_of};
 ghost use Rattle.outside.specs.Tree.{Tree, files_of};
-ghost use Rattle.effects.specs.Blame.{Blames};
+ghost use Rattle.outside.specs.Blame.{Blames};
 ghost use Rattle.view_folder.specs.Files.{view_folder, AreViewFiles};
 ghost use Rattle.course.specs.Answering.{Ended, ending};
 ghost use Rattle.view_stages.specs.Stages.{DefinitionOrRefusal};
 ghost use Rattle.view_stages.specs.Opening.{IsDefinition, definition_bytes, opening, opening_effects, done_at_once};
-ghost use Rattle.run_course.specs.Statuses.{can_show};
-ghost use Rattle.run_course.specs.Course.{verdict_status};
-ghost use Rattle.run_course.specs.Idle.{IdleUnread};
+ghost use Rattle.course.specs.Statuses.{can_show};
+ghost use Rattle.course.specs.Course.{verdict_status};
+ghost use Rattle.course.specs.Idle.{IdleUnread};
 
 use crate::meant::{Meant, meant_files};
 use course::Verdict;
-use effects::Stop;
-use outside::{Folders, Sink};
+use outside::{Folders, Sink, Stop};
 use ss_print::{print_synced, refuse};
 use ss_text::Text;
 use std::alloc::Global;
@@ -22,7 +21,7 @@ use view_folder::{File, folder_of_view, sync_files};
 
 /// Fills the folder of the view of this name with its files, or prints a refusal. A fault leaves a front of what was
 /// to be written.
-#[tactic(auto, using(effects::proofs::Following::following, outside::proofs::ReadingLemmas::only_read_then, outside::proofs::ReadingLemmas::only_read_nothing, run_course::proofs::IdleLemmas::idle_read, run_course::proofs::IdleLemmas::idle_print, run_course::proofs::IdleLemmas::idle_later, run_course::proofs::IdleLemmas::refused_can_show, crate::proofs::VerifyLemmas::nothing_ended))]
+#[tactic(auto, using(outside::proofs::Following::following, outside::proofs::ReadingLemmas::only_read_then, outside::proofs::ReadingLemmas::only_read_nothing, course::proofs::IdleLemmas::idle_read, course::proofs::IdleLemmas::idle_print, course::proofs::IdleLemmas::idle_later, course::proofs::IdleLemmas::refused_can_show, crate::proofs::VerifyLemmas::nothing_ended))]
 pub fn show<F: Folders, K: Sink>(
     alloc: Global,
     store: &mut F,
@@ -48,7 +47,7 @@ pub fn show<F: Folders, K: Sink>(
 }
 
 // Brings the folder of a view to exactly its files, and prints how many were written or removed.
-#[tactic(auto, using(effects::proofs::Following::following, effects::proofs::EffectLemmas::partly_more, effects::proofs::EffectLemmas::partly_later, effects::proofs::EffectLemmas::performed_append, run_course::proofs::IdleLemmas::idle_first, run_course::proofs::IdleLemmas::idle_print))]
+#[tactic(auto, using(outside::proofs::Following::following, outside::proofs::EffectLemmas::partly_more, outside::proofs::EffectLemmas::partly_later, outside::proofs::EffectLemmas::performed_append, course::proofs::IdleLemmas::idle_first, course::proofs::IdleLemmas::idle_print))]
 fn fill_folder<F: Folders, K: Sink>(
     alloc: Global,
     store: &mut F,

@@ -1,23 +1,22 @@
 //! The command `verify`.
 ghost use Rattle.std.specs.Prelude.{◌≡◌, true, Some, IfOk};
-ghost use Rattle.effects.specs.Effects.{world_of};
+ghost use Rattle.outside.specs.Effects.{world_of};
 ghost use Rattle.outside.specs.Reading.{OnlyRead};
 ghost use Rattle.outside.specs.Tree.{Tree};
-ghost use Rattle.effects.specs.Blame.{Blames, SinkBlames};
+ghost use Rattle.outside.specs.Blame.{Blames, SinkBlames};
 ghost use Rattle.view_folder.specs.Comparison.{comparison};
 ghost use Rattle.view_folder.specs.Files.{view_folder};
 ghost use Rattle.course.specs.Answering.{Ended};
 ghost use Rattle.view_stages.specs.Stages.{DefinitionOrRefusal};
 ghost use Rattle.view_stages.specs.Opening.{IsDefinition, definition_bytes};
-ghost use Rattle.run_course.specs.Statuses.{can_show};
-ghost use Rattle.run_course.specs.Course.{verdict_status};
-ghost use Rattle.run_course.specs.Idle.{IdleUnread};
+ghost use Rattle.course.specs.Statuses.{can_show};
+ghost use Rattle.course.specs.Course.{verdict_status};
+ghost use Rattle.course.specs.Idle.{IdleUnread};
 ghost use Rattle.plain_commands.specs.Verifying.{by_comparison, verified};
 
 use crate::meant::{Meant, meant_files};
 use course::Verdict;
-use effects::Stop;
-use outside::{Folders, Sink};
+use outside::{Folders, Sink, Stop};
 use ss_print::{print_difference, print_same, refuse};
 use ss_text::Text;
 use std::alloc::Global;
@@ -25,7 +24,7 @@ use view_folder::{Comparison, File, compare, folder_of_view};
 
 /// Compares the folder of the view of this name with the files that are meant, and prints what comes of it. A fault
 /// may leave a front of the line.
-#[tactic(auto, using(effects::proofs::Following::following, outside::proofs::ReadingLemmas::only_read_then, outside::proofs::ReadingLemmas::only_read_nothing, run_course::proofs::IdleLemmas::idle_read, run_course::proofs::IdleLemmas::idle_print, run_course::proofs::IdleLemmas::idle_later, run_course::proofs::IdleLemmas::refused_can_show, crate::proofs::VerifyLemmas::nothing_ended))]
+#[tactic(auto, using(outside::proofs::Following::following, outside::proofs::ReadingLemmas::only_read_then, outside::proofs::ReadingLemmas::only_read_nothing, course::proofs::IdleLemmas::idle_read, course::proofs::IdleLemmas::idle_print, course::proofs::IdleLemmas::idle_later, course::proofs::IdleLemmas::refused_can_show, crate::proofs::VerifyLemmas::nothing_ended))]
 pub fn verify<F: Folders, K: Sink>(
     alloc: Global,
     store: &mut F,
@@ -52,7 +51,7 @@ pub fn verify<F: Folders, K: Sink>(
 }
 
 // Compares the folder of a view with these files.
-#[tactic(auto, using(effects::proofs::Following::following, outside::proofs::ReadingLemmas::only_read_then, outside::proofs::ReadingLemmas::only_read_nothing, run_course::proofs::IdleLemmas::idle_read, run_course::proofs::IdleLemmas::idle_print, run_course::proofs::IdleLemmas::idle_later, crate::proofs::VerifyLemmas::compared_ends, crate::proofs::VerifyLemmas::nothing_ended))]
+#[tactic(auto, using(outside::proofs::Following::following, outside::proofs::ReadingLemmas::only_read_then, outside::proofs::ReadingLemmas::only_read_nothing, course::proofs::IdleLemmas::idle_read, course::proofs::IdleLemmas::idle_print, course::proofs::IdleLemmas::idle_later, crate::proofs::VerifyLemmas::compared_ends, crate::proofs::VerifyLemmas::nothing_ended))]
 fn compare_folder<F: Folders, K: Sink>(
     alloc: Global,
     store: &mut F,
@@ -73,7 +72,7 @@ fn compare_folder<F: Folders, K: Sink>(
 }
 
 // Prints how a folder compares.
-#[tactic(auto, using(effects::proofs::Following::following))]
+#[tactic(auto, using(outside::proofs::Following::following))]
 fn print_comparison<K: Sink>(
     alloc: Global,
     output: &mut K,

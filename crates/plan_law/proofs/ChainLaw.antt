@@ -2,10 +2,10 @@
 use Rattle.std.proofs.Common.{List, [], ◌∷◌, arith, subst}
 use Rattle.ss_text.specs.Texts.{Row}
 use Rattle.plan_law.specs.Chain.{Joint, Sides, SideMoves, joint_rows, joint_moves, chain, Keeps, EachMoved, Walks, Commits}
-use Rattle.net_moves.specs.Net.{SameNet}
+use Rattle.schema_delta.specs.Net.{SameNet}
 use Rattle.operator_law.specs.Bags.{SameBag, MovesBag}
 use Rattle.operator_law.specs.declared.delta.Signed.{Signed}
-use Rattle.net_moves.proofs.NetLaw.{moves_net}
+use Rattle.schema_delta.proofs.NetLaw.{moves_net}
 use Rattle.join_delta.specs.Joined.{joined, joined_moves}
 use Rattle.operator_law.proofs.SignedRows.{moves_filtered}
 use Rattle.join_delta.proofs.Bilinear.{moves_joined_kept}

@@ -10,7 +10,7 @@ use Rattle.plan_law.specs.Columns.{read}
 use Rattle.plan_law.specs.Links.{source_of, source_text}
 use Rattle.plan_law.proofs.LinkLaws.{read_source}
 use Rattle.valuation_meaning.specs.Operands.{resolved}
-use Rattle.net_moves.specs.Net.{SameNet}
+use Rattle.schema_delta.specs.Net.{SameNet}
 use Rattle.operator_law.specs.declared.delta.Signed.{Signed}
 
 -- what the stages from place i on walk, the whole walks

@@ -4,7 +4,7 @@ use Rattle.std.specs.List.{sum_by}
 use Rattle.std.proofs.lemmas.List.{length-map}
 use Rattle.std.proofs.lemmas.List.Recursion.{is_sum_by}
 use Rattle.ss_text.specs.Texts.{Text, Row}
-use Rattle.net_moves.specs.Net.{SameNet, IsNet}
+use Rattle.schema_delta.specs.Net.{SameNet, IsNet}
 use Rattle.plan_law.specs.Chain.{Joint, Sides, SideMoves, joint_rows, joint_moves, Keeps, Walks, AreNet, walk_pairs}
 use Rattle.plan_law.specs.Touched.{Marked, marked_pairs, count_marked}
 use Rattle.operator_law.proofs.SignedRows.{come-filtered, go-filtered}

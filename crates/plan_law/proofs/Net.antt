@@ -2,7 +2,7 @@
 use Rattle.std.proofs.Common.{◌≡◌, inl, inr, subst, ℕ, ◌+◌, ◌≤◌, suc, List, [], ◌∷◌, length, Bool, true, false, ◌&&◌, ◌||◌, cond, refl, arith, ap, sym, ◌∙◌}
 use Rattle.std.specs.List.{list_any, AllByRecursion}
 use Rattle.ss_text.specs.Texts.{Row, row_eq}
-use Rattle.net_moves.specs.Net.{SameNet, IsNet}
+use Rattle.schema_delta.specs.Net.{SameNet, IsNet}
 use Rattle.operator_law.proofs.Counts.{row_eq-Decides}
 use Rattle.operator_law.proofs.SignedRows.{come-up, go-up, come-down, go-down}
 use Rattle.plan_law.proofs.Columns.{Has}

@@ -6,7 +6,7 @@ use Rattle.schema_model.specs.Changes.{after}
 use Rattle.schema_model.specs.declared.change.Change.{Change}
 use Rattle.view_def.specs.Query.{Query}
 use Rattle.view_def.specs.Profile.{IsViewOfProfile}
-use Rattle.net_moves.specs.Net.{IsNet}
+use Rattle.schema_delta.specs.Net.{IsNet}
 use Rattle.plan_law.specs.Chain.{Sides, SideMoves, AreNet}
 use Rattle.plan_law.specs.Marks.{OfRow}
 use Rattle.plan_law.specs.Laws.{IsWalk, FactsMove, SidesFollow, IsBounded}

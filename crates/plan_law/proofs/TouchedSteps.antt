@@ -9,7 +9,7 @@ use Rattle.plan_law.specs.Kinds.{Term, Range}
 use Rattle.plan_law.specs.Kinds.range
 use Rattle.view_def.specs.Query.{Query}
 use Rattle.view_def.specs.Profile.{IsViewOfProfile}
-use Rattle.net_moves.specs.Net.{SameNet, IsNet}
+use Rattle.schema_delta.specs.Net.{SameNet, IsNet}
 use Rattle.schema_delta.specs.declared.spec.FlatSpec.{FlatSpec}
 use Rattle.schema_delta.specs.Flat.{flat}
 use Rattle.plan_law.specs.Columns.{header, spec_of}

@@ -1,7 +1,7 @@
 -- A chain of joins: the rows that it lists, what its stages keep, and how a change walks through them.
 use Rattle.std.specs.Prelude.{ℕ, ◌+◌, ◌≡◌, Bool, true, false, List, [], ◌∷◌, ◌++◌, filter, map}
 use Rattle.ss_text.specs.Texts.{Row}
-use Rattle.net_moves.specs.Net.{SameNet, IsNet}
+use Rattle.schema_delta.specs.Net.{SameNet, IsNet}
 use Rattle.operator_law.specs.declared.delta.Signed.{Signed}
 use Rattle.operator_law.specs.Bags.{MovesBag, SameBag}
 use Rattle.join_delta.specs.Joined.{PairTest, joined, joined_moves, pairs_left, pairs_right}

@@ -7,7 +7,7 @@ ghost use Rattle.schema_model.specs.declared.change.Change.{Change};
 ghost use Rattle.schema_model.specs.declared.change.Change.TheVariants.{Insert, Delete};
 ghost use Rattle.view_def.specs.Query.{Query};
 ghost use Rattle.view_def.specs.Profile.{IsViewOfProfile};
-ghost use Rattle.net_moves.specs.Net.{IsNet};
+ghost use Rattle.schema_delta.specs.Net.{IsNet};
 ghost use Rattle.schema_delta.specs.declared.spec.FlatSpec.{FlatSpec};
 ghost use Rattle.schema_delta.specs.Flat.{flat};
 ghost use Rattle.plan_law.specs.Columns.{combos};

@@ -16,7 +16,7 @@ use Rattle.plan_law.proofs.First.{first_of}
 use Rattle.plan_law.proofs.Profile.{ranges}
 use Rattle.plan_form.specs.declared.base.Base.{Base}
 use Rattle.plan_form.specs.Bases.{BaseValue, base_value, base_form, bases_from}
-use Rattle.plan_walk.specs.Stages.{joint_in, sides_in}
+use Rattle.plan_translate.specs.ChainStages.{joint_in, sides_in}
 use Rattle.plan_translate.specs.Read.{is_read, left_side}
 use Rattle.plan_translate.specs.Plans.{JoinsStand}
 use Rattle.plan_translate.specs.Parts.{bases_of, joint_with, joints_with, fresh_join}

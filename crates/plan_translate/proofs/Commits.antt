@@ -6,7 +6,7 @@ use Rattle.view_def.specs.Query.{Query}
 use Rattle.join_delta.specs.Joins.{JoinValue}
 use Rattle.plan_law.specs.Chain.{Joint, SideMoves}
 use Rattle.plan_law.specs.PlanRows.{plan_joints, first_rows, further_rows}
-use Rattle.plan_walk.specs.Stages.{joint_in, sides_in, side_moves}
+use Rattle.plan_translate.specs.ChainStages.{joint_in, sides_in, side_moves}
 use Rattle.plan_translate.specs.declared.plan.Plan.TheInside.{Inside}
 use Rattle.plan_translate.specs.Read.{is_read}
 use Rattle.plan_translate.specs.Moves.{MovesChain, MovesSides}

@@ -1,7 +1,7 @@
 -- Moves of sides of which the right ones are emptied, one after another.
 use Rattle.std.proofs.Common.{◌≡◌, ◌<◌, ◌+◌, ℕ, zero, suc, List, [], ◌∷◌, length, map, get_or, set, refl, ap, ◌∙◌, arith}
 use Rattle.plan_law.specs.Chain.{SideMoves}
-use Rattle.plan_walk.specs.Stages.{side_moves}
+use Rattle.plan_translate.specs.ChainStages.{side_moves}
 use Rattle.plan_translate.specs.Read.{left_moves}
 use Rattle.plan_translate.proofs.Each.{Pair}
 

@@ -7,7 +7,7 @@ use Rattle.operator_law.specs.declared.delta.Signed.{Signed}
 use Rattle.operator_law.specs.Bags.{SameBag, MovesBag}
 use Rattle.join_delta.specs.Joins.{JoinValue}
 use Rattle.plan_law.specs.Chain.{Joint, Sides, SideMoves, joint_rows, Keeps}
-use Rattle.plan_walk.specs.Stages.{joint_in, sides_in, side_moves}
+use Rattle.plan_translate.specs.ChainStages.{joint_in, sides_in, side_moves}
 use Rattle.plan_translate.specs.Read.{left_side, left_moves}
 use Rattle.plan_translate.specs.Moves.{MovesChain}
 use Rattle.plan_translate.specs.Sides.{LikeJoin, CanMove, AllMoved}

@@ -2,7 +2,7 @@ pub mod Bases
 pub mod OwnMoves
 pub mod Stages
 pub mod OwnRows
-pub mod Filled
+pub mod PlanFilled
 pub mod Each
 pub mod Moving
 pub mod Waiting
@@ -12,3 +12,7 @@ pub mod Commits
 pub mod FactMoves
 pub mod Costs
 pub mod Within
+pub mod ChainNets
+pub mod ChainStages
+pub mod ChainWhole
+pub mod ChainFilled

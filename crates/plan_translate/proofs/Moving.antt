@@ -8,7 +8,7 @@ use Rattle.view_def.specs.Profile.{IsViewOfProfile}
 use Rattle.schema_delta.specs.declared.spec.FlatSpec.{FlatSpec}
 use Rattle.operator_law.specs.declared.delta.Signed.{Signed}
 use Rattle.join_delta.specs.Joins.{JoinValue}
-use Rattle.net_moves.specs.Net.{SameNet, IsNet}
+use Rattle.schema_delta.specs.Net.{SameNet, IsNet}
 use Rattle.plan_law.specs.Columns.{header}
 use Rattle.plan_law.specs.Chain.{Joint, Sides, SideMoves, Walks, AreNet, walk_pairs}
 use Rattle.plan_law.specs.PlanRows.{specs_from, plan_joints}
@@ -16,7 +16,7 @@ use Rattle.plan_law.specs.Laws.{IsWalk}
 use Rattle.plan_law.specs.PlanMoves.{FlatMoved, PlanKeeps, first_moves, further_moves, fact_moves}
 use Rattle.plan_form.specs.Bases.{BaseValue, bases_from}
 use Rattle.plan_form.specs.Forms.{IsOutputOf}
-use Rattle.plan_walk.specs.Stages.{joint_in, sides_in}
+use Rattle.plan_translate.specs.ChainStages.{joint_in, sides_in}
 use Rattle.plan_translate.specs.declared.plan.Plan.TheInside.{Inside}
 use Rattle.plan_translate.specs.Read.{reads_rows, is_read, left_side, kept_moves}
 use Rattle.plan_translate.specs.Parts.{bases_of, joint_with, joints_with, own_tests, each_passing}

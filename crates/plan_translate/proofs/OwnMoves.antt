@@ -9,7 +9,7 @@ use Rattle.plan_law.specs.Kinds.{Term, Range}
 use Rattle.plan_law.specs.Kinds.range
 use Rattle.view_def.specs.Query.{Query}
 use Rattle.operator_law.specs.declared.delta.Signed.{Signed}
-use Rattle.net_moves.specs.Net.{IsNet}
+use Rattle.schema_delta.specs.Net.{IsNet}
 use Rattle.plan_law.specs.Columns.{header}
 use Rattle.plan_law.specs.Links.{own_links, own_holds}
 use Rattle.plan_law.specs.PlanMoves.{own_moves, moves_from, first_moves, further_moves}

@@ -22,10 +22,10 @@ use Rattle.plan_law.specs.Laws.{IsWalk}
 use Rattle.plan_law.specs.PlanRows.{specs_from, own_rows, rows_from, joints_from, plan_joints, first_rows, further_rows}
 use Rattle.plan_law.specs.PlanMoves.{own_moves, moves_from, first_moves, further_moves, fact_rows, fact_moves}
 use Rattle.plan_law.proofs.First.{First, first_of}
-use Rattle.net_moves.proofs.NetLaw.{moves_net}
+use Rattle.schema_delta.proofs.NetLaw.{moves_net}
 use Rattle.plan_law.proofs.ChainLaw.{joint_moved}
 use Rattle.plan_law.proofs.PlanLaws.{facts_move}
-use Rattle.plan_walk.specs.Stages.{joint_in, sides_in, side_moves}
+use Rattle.plan_translate.specs.ChainStages.{joint_in, sides_in, side_moves}
 use Rattle.plan_translate.specs.Moves.{MovesChain, MovesAll}
 use Rattle.plan_translate.specs.Plans.{PlanMoveValue, PlanMoves}
 use Rattle.plan_translate.specs.Walked.{Walked}

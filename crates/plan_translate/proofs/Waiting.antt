@@ -3,7 +3,7 @@ use Rattle.std.proofs.Common.{◌≡◌, List, [], ◌∷◌, map, refl, ap, sym
 use Rattle.std.specs.Prelude.{option_map}
 use Rattle.join_delta.specs.Joins.{JoinValue}
 use Rattle.plan_law.specs.Chain.{SideMoves}
-use Rattle.plan_walk.specs.Stages.{side_moves}
+use Rattle.plan_translate.specs.ChainStages.{side_moves}
 use Rattle.plan_translate.proofs.Each.{Pair}
 
 abbrev pair_in : SideMoves → Pair

@@ -10,7 +10,7 @@ use Rattle.operator_law.specs.declared.delta.Signed.{Signed}
 use Rattle.operator_law.specs.Bags.{MovesBag, all_signed}
 use Rattle.operator_law.proofs.SignedRows.{come-append, go-append, come-up, go-up, come-down, go-down}
 use Rattle.join_delta.specs.Joins.{JoinValue}
-use Rattle.net_moves.specs.Net.{SameNet, IsNet}
+use Rattle.schema_delta.specs.Net.{SameNet, IsNet}
 use Rattle.schema_delta.specs.declared.spec.FlatSpec.{FlatSpec}
 use Rattle.schema_delta.specs.Flat.{flat}
 use Rattle.plan_law.specs.Columns.{header}
@@ -18,10 +18,10 @@ use Rattle.plan_law.specs.Chain.{Joint, Sides, Keeps}
 use Rattle.plan_law.specs.PlanRows.{specs_from, plan_joints, first_rows, further_rows}
 use Rattle.plan_law.specs.PlanMoves.{FlatMoved, PlanKeeps, first_moves, further_moves}
 use Rattle.plan_form.specs.Bases.{BaseValue, bases_from}
-use Rattle.plan_walk.specs.Stages.{joint_in, sides_in}
-use Rattle.plan_walk.specs.Cost.{CostsWalk}
-use Rattle.plan_walk.proofs.Nets.{net_there}
-use Rattle.plan_walk.proofs.Whole.{walk_there}
+use Rattle.plan_translate.specs.ChainStages.{joint_in, sides_in}
+use Rattle.plan_translate.specs.ChainCost.{CostsWalk}
+use Rattle.plan_translate.proofs.ChainNets.{net_there}
+use Rattle.plan_translate.proofs.ChainWhole.{walk_there}
 use Rattle.plan_translate.specs.Read.{is_read}
 use Rattle.plan_translate.specs.Parts.{bases_of, joint_with, joints_with, each_passing}
 use Rattle.plan_translate.specs.Plans.{JoinsStand}

@@ -4,7 +4,7 @@ use Rattle.schema_model.specs.Catalogue.{CatalogueValue}
 use Rattle.schema_model.specs.declared.change.Change.{Change}
 use Rattle.view_def.specs.Query.{Query}
 use Rattle.operator_law.specs.declared.delta.Signed.{Signed}
-use Rattle.net_moves.specs.Net.{IsNet}
+use Rattle.schema_delta.specs.Net.{IsNet}
 use Rattle.plan_law.specs.Chain.{Sides, SideMoves, AreNet, walk_pairs}
 use Rattle.plan_law.specs.Laws.{IsWalk}
 use Rattle.plan_law.specs.PlanRows.{plan_joints}

@@ -7,3 +7,6 @@ pub mod Sides
 pub mod Parts
 pub mod PlanFields
 pub mod Listed
+pub mod ChainStages
+pub mod ChainFills
+pub mod ChainCost

@@ -3,7 +3,7 @@ use Rattle.std.specs.Prelude.{◌≡◌, List, [], ◌∷◌}
 use Rattle.ss_text.specs.Texts.{Row}
 use Rattle.schema_model.specs.Catalogue.{CatalogueValue}
 use Rattle.view_def.specs.Query.{Query}
-use Rattle.net_moves.specs.Net.{IsNet}
+use Rattle.schema_delta.specs.Net.{IsNet}
 use Rattle.plan_law.specs.Chain.{Joint, SideMoves, joint_rows}
 use Rattle.plan_law.specs.PlanRows.{plan_joints, first_rows, further_rows}
 use Rattle.plan_law.specs.PlanMoves.{fact_rows}

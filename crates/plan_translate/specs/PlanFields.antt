@@ -7,7 +7,7 @@ use Rattle.join_delta.specs.Joins.{JoinValue}
 use Rattle.plan_law.specs.PlanRows.{specs_from, plan_joints}
 use Rattle.plan_form.specs.Bases.{BaseValue}
 use Rattle.plan_form.specs.Forms.{IsOutputOf}
-use Rattle.plan_walk.specs.Stages.{joint_in, sides_in, side_moves}
+use Rattle.plan_translate.specs.ChainStages.{joint_in, sides_in, side_moves}
 use Rattle.plan_translate.specs.declared.plan.Plan.TheInside.{Inside}
 use Rattle.plan_translate.specs.Read.{is_read}
 use Rattle.plan_translate.specs.Parts.{bases_of}

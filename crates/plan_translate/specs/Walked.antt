@@ -2,13 +2,13 @@
 use Rattle.std.specs.Prelude.{◌≡◌, ◌+◌, ◌≤◌, ℕ, List, length}
 use Rattle.schema_model.specs.Catalogue.{CatalogueValue}
 use Rattle.view_def.specs.Query.{Query}
-use Rattle.net_moves.specs.Net.{SameNet, IsNet}
+use Rattle.schema_delta.specs.Net.{SameNet, IsNet}
 use Rattle.plan_law.specs.Chain.{Sides, SideMoves, Walks, AreNet, walk_pairs}
 use Rattle.plan_law.specs.Laws.{IsWalk}
 use Rattle.plan_law.specs.PlanRows.{plan_joints}
 use Rattle.plan_law.specs.PlanMoves.{PlanKeeps, fact_moves}
 use Rattle.operator_law.specs.declared.delta.Signed.{Signed}
-use Rattle.plan_walk.specs.Cost.{CostsWalk}
+use Rattle.plan_translate.specs.ChainCost.{CostsWalk}
 use Rattle.plan_translate.specs.Read.{kept_moves}
 use Rattle.plan_translate.specs.Plans.{PlanMoveValue}
 

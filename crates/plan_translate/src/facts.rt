@@ -1,13 +1,13 @@
 //! Moves of fact rows.
 ghost use Rattle.std.specs.Prelude.{◌≡◌, ◌++◌, [], ◌∷◌, IfOk, OnOk};
 ghost use Rattle.view_def.specs.Query.{Query};
-ghost use Rattle.net_moves.specs.Net.{SameNet, IsNet};
+ghost use Rattle.schema_delta.specs.Net.{SameNet, IsNet};
 ghost use Rattle.plan_law.specs.PlanMoves.{fact_moves};
 ghost use Rattle.plan_form.specs.Forms.{IsOutputOf};
 
-use net_moves::net;
 use operator_law::{Delta, Signed};
 use plan_form::{Output, fact_row};
+use schema_delta::net;
 use ss_text::NoMemory;
 use std::alloc::Global;
 

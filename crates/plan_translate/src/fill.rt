@@ -2,14 +2,13 @@
 ghost use Rattle.std.specs.Prelude.{◌≡◌, map, None, IfOk, OnOk, OnErr, IsTrue};
 ghost use Rattle.plan_law.specs.PlanRows.{plan_joints};
 ghost use Rattle.plan_law.specs.PlanMoves.{PlanKeeps};
-ghost use Rattle.plan_walk.specs.Stages.{joint_in, sides_in};
+ghost use Rattle.plan_translate.specs.ChainStages.{joint_in, sides_in};
 ghost use Rattle.plan_translate.specs.Read.{is_read};
 ghost use Rattle.plan_translate.specs.Plans.{query_in, JoinsStand, PlanStands, IsFresh};
 
-use crate::Plan;
 use crate::listed::{listed, own_rows};
+use crate::{Plan, filled};
 use join_delta::Join;
-use plan_walk::filled;
 use schema_model::Catalogue;
 use ss_text::NoMemory;
 use std::alloc::Global;

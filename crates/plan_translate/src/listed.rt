@@ -1,7 +1,7 @@
 //! The flat rows of each declaration that pass its tests, all at once.
 ghost use Rattle.std.specs.Prelude.{◌≡◌, ◌≤◌, ◌∷◌, length, IfOk};
 ghost use Rattle.schema_delta.specs.Flat.{flat};
-ghost use Rattle.plan_walk.specs.Fills.{rows_in};
+ghost use Rattle.plan_translate.specs.ChainFills.{rows_in};
 ghost use Rattle.plan_translate.specs.Parts.{own_tests};
 ghost use Rattle.plan_translate.specs.Listed.{rows_passing, own_listed};
 

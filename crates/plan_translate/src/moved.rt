@@ -21,7 +21,7 @@ impl Drop for PlanMove {
 
 impl Model for PlanMove {
     ghost use Rattle.std.specs.Prelude.{map};
-    ghost use Rattle.plan_walk.specs.Stages.{side_moves};
+    ghost use Rattle.plan_translate.specs.ChainStages.{side_moves};
     ghost use Rattle.plan_translate.specs.Plans.{PlanMoveValue};
 
     ghost Value = { PlanMoveValue };
@@ -47,7 +47,7 @@ pub struct PlanReady {
 impl Model for PlanReady {
     ghost use Rattle.std.specs.Prelude.{List, map};
     ghost use Rattle.plan_law.specs.Chain.{SideMoves};
-    ghost use Rattle.plan_walk.specs.Stages.{side_moves};
+    ghost use Rattle.plan_translate.specs.ChainStages.{side_moves};
 
     ghost Value = { List SideMoves };
 

@@ -2,12 +2,12 @@
 ghost use Rattle.std.specs.Prelude.{◌≡◌, List, map, length, IfOk};
 ghost use Rattle.std.specs.List.{AllZip, AllByRecursion};
 ghost use Rattle.operator_law.specs.declared.delta.Signed.{Signed as SignedValue};
-ghost use Rattle.net_moves.specs.Net.{SameNet, IsNet};
+ghost use Rattle.schema_delta.specs.Net.{SameNet, IsNet};
 ghost use Rattle.plan_translate.specs.Parts.{passing, each_passing, own_tests};
 
-use net_moves::each_net;
 use operator_law::Delta;
 use plan_form::{Equal, passes};
+use schema_delta::each_net;
 use ss_text::NoMemory;
 use std::alloc::Global;
 

@@ -13,8 +13,8 @@ use Rattle.schema_model.specs.declared.change.Change.{Change}
 use Rattle.schema_model.specs.declared.refusal.Refusal.{Refusal}
 use Rattle.operator_law.specs.declared.delta.Signed.{Signed}
 use Rattle.operator_law.proofs.SignedRows.{stays, moves_on}
-use Rattle.net_moves.specs.Net.{SameNet}
-use Rattle.net_moves.proofs.NetLaw.{moves_net}
+use Rattle.schema_delta.specs.Net.{SameNet}
+use Rattle.schema_delta.proofs.NetLaw.{moves_net}
 use Rattle.schema_delta.specs.Flat.{flat, MovesBetween}
 use Rattle.schema_delta.specs.declared.spec.FlatSpec.{FlatSpec}
 

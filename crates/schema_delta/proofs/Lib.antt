@@ -5,3 +5,6 @@ pub mod Asked
 pub mod GroupLemmas
 pub mod OneRowLaw
 pub mod BehindLemmas
+pub mod NetLaw
+pub mod Cancelled
+pub mod Leftover

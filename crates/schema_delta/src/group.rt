@@ -4,14 +4,13 @@ ghost use Rattle.std.specs.List.{AllByRecursion, AllZip, list_all};
 ghost use Rattle.schema_model.specs.Catalogue.{CatalogueValue};
 ghost use Rattle.schema_model.specs.Changes.{after, is_well_formed};
 ghost use Rattle.schema_model.specs.Refusals.{fault, group_fault};
-ghost use Rattle.net_moves.specs.Net.{SameNet};
+ghost use Rattle.schema_delta.specs.Net.{SameNet};
 ghost use Rattle.schema_delta.specs.Flat.{MovesBetween, MovesGroup};
 ghost use Rattle.schema_delta.specs.OneRow.{is_of_rows};
 
-use crate::FlatSpec;
 use crate::changes::flat_change;
 use crate::one_row::{is_of_rows, rows_change};
-use net_moves::each_net;
+use crate::{FlatSpec, each_net};
 use operator_law::Delta;
 use schema_model::{Catalogue, Change};
 use ss_text::{NoMemory, Steps};
@@ -129,7 +128,7 @@ fn moved_on<L: Ledger>(
 
 // The moves of each declaration in net, where they are twice as many as those that were last in net, or as those of the
 // first change. So they are made net no more often than they double.
-#[tactic(auto, using(net_moves::proofs::NetLaw::each_same))]
+#[tactic(auto, using(crate::proofs::NetLaw::each_same))]
 fn thinned(alloc: Global, deltas: Vec<Delta>, in_net: &mut usize) -> Result<Vec<Delta>, NoMemory>
     ensures { IfOk result (λ same. AllZip SameNet deltas.items same.items) }
 {

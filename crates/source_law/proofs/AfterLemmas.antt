@@ -16,7 +16,7 @@ use Rattle.outside.proofs.WholeLemmas.{whole_with_file, whole_without_file, whol
 use Rattle.outside.specs.Edits.{edited, all_edited}
 use Rattle.outside.specs.declared.edit.Edit.{Edit}
 use Rattle.outside.specs.declared.edit.Edit.TheVariants as edit
-use Rattle.effects.specs.Effects.{Effect, Write, Remove, Replace, Print, Stored, Contents, after, performed}
+use Rattle.outside.specs.Effects.{Effect, Write, Remove, Replace, Print, Stored, Contents, after, performed}
 use Rattle.source_law.specs.Counted.{tree_edited, tree_replaced, tree_by, tree_after, count_edited, count_replaced, count_of, counted}
 use Rattle.source_law.proofs.NamedLemmas.{same_text}
 

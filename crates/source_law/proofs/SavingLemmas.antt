@@ -22,7 +22,7 @@ use Rattle.outside.proofs.TreeLemmas.{child_full, kept_made, write_broke_off}
 use Rattle.outside.specs.Edits.{all_edited}
 use Rattle.outside.specs.declared.edit.Edit.{Edit}
 use Rattle.outside.specs.declared.edit.Edit.TheVariants as edit
-use Rattle.effects.specs.Effects.{Effect, Write, Remove, Replace, Print, Stored, contents}
+use Rattle.outside.specs.Effects.{Effect, Write, Remove, Replace, Print, Stored, contents}
 use Rattle.schema_model.specs.declared.pair.Pair.{Pair}
 use Rattle.schema_model.specs.declared.change.Change.{Change}
 use Rattle.schema_model.specs.Catalogue.{RelationValue, DatabaseValue, CatalogueValue, relation_value, relation_name, database_name, relation_in, database_of, relation_of}

@@ -3,7 +3,7 @@ use Rattle.std.specs.Prelude.{ℕ, ◌+◌, List, [], ◌∷◌, is_some, if◌t
 use Rattle.outside.specs.Tree.{Tree, file_at, has_folder, has_empty_folder, with_file, without_file, with_folder, without_folder}
 use Rattle.outside.specs.declared.edit.Edit.{Edit}
 use Rattle.outside.specs.declared.edit.Edit.TheVariants as edit
-use Rattle.effects.specs.Effects.{Effect, Write, Remove, Replace, Print}
+use Rattle.outside.specs.Effects.{Effect, Write, Remove, Replace, Print}
 
 -- the tree after one edit, and after edits in order
 abbrev pub tree_edited : Edit → Tree → Tree

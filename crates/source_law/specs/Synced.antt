@@ -4,7 +4,7 @@ use Rattle.std.specs.List.{list_all}
 use Rattle.std.specs.FinMap as map_of
 use Rattle.ss_text.specs.Texts.{Text, is_in}
 use Rattle.outside.specs.Tree.{Tree, files_of, subfolders_of}
-use Rattle.effects.specs.Effects.{Effect, Replace}
+use Rattle.outside.specs.Effects.{Effect, Replace}
 use Rattle.schema_model.specs.declared.pair.Pair.{Pair}
 use Rattle.schema_model.specs.Catalogue.{RelationValue, CatalogueValue, relation_of}
 use Rattle.csv_catalog.specs.Loaded.{loaded, database_folder, is_relation_file}

@@ -2,7 +2,7 @@
 use Rattle.std.specs.Prelude.{ℕ, List, [], ◌∷◌, ◌++◌, map, flat_map, length, Option, None, Some, codes, decimal}
 use Rattle.ss_text.specs.Texts.{Text, Row}
 use Rattle.tab_lines.specs.Spelling.{spell}
-use Rattle.effects.specs.Effects.{Effect, Print}
+use Rattle.outside.specs.Effects.{Effect, Print}
 use Rattle.flow_law.specs.declared.line.TableLine.{TableLine}
 use Rattle.change_script.specs.Printed.{printed}
 

@@ -1,15 +1,14 @@
 //! What is printed.
 ghost use Rattle.std.specs.Prelude.{◌≡◌, ◌≢◌, ◌++◌, [], ◌∷◌, IfOk, codes, decimal, flat_map};
 ghost use Rattle.tab_lines.specs.Spelling.{spell};
-ghost use Rattle.effects.specs.Effects.{Print, Does, world_of};
-ghost use Rattle.effects.specs.Blame.{SinkBlames};
+ghost use Rattle.outside.specs.Effects.{Print, Does, world_of};
+ghost use Rattle.outside.specs.Blame.{SinkBlames};
 ghost use Rattle.std.specs.List.{All};
 ghost use Rattle.ss_print.specs.Printing.{says, refuses, prints_synced, prints_reply, prints_begun, prints_held, prints_aborted, prints_script, prints_applied, applied_rows, script_rows, lines_text, prints_same, prints_difference, length_text};
 
 use change_script::{Script, script_lines};
-use effects::{Stop, print};
 use itoa::Buffer;
-use outside::Sink;
+use outside::{Sink, Stop, print};
 use ss_text::{NoMemory, Row, Text};
 use std::alloc::Global;
 use tab_lines::write_line;
@@ -34,7 +33,7 @@ fn line_of(alloc: Global, row: &Row) -> Result<Vec<u8>, NoMemory>
 }
 
 /// Prints a row as a line.
-#[tactic(auto, using(effects::proofs::Following::following))]
+#[tactic(auto, using(outside::proofs::Following::following))]
 pub fn say<K: Sink>(alloc: Global, output: &mut K, row: &Row) -> Result<(), Stop>
     requires { row.now ≢ [] }
     ensures does { (s : _) → Does (says row.now ∷ []) (world_of s (K.state output.old)) (world_of s (K.state output.new)) result }
@@ -46,7 +45,7 @@ pub fn say<K: Sink>(alloc: Global, output: &mut K, row: &Row) -> Result<(), Stop
 }
 
 /// Prints a refusal, its name and fields.
-#[tactic(auto, using(effects::proofs::Following::following))]
+#[tactic(auto, using(outside::proofs::Following::following))]
 pub fn refuse<K: Sink>(alloc: Global, output: &mut K, fields: &Row) -> Result<(), Stop>
     ensures does { (s : _) → Does (refuses fields.now ∷ []) (world_of s (K.state output.old)) (world_of s (K.state output.new)) result }
     ensures blames { SinkBlames (K.state output.old) (K.state output.new) result }
@@ -69,7 +68,7 @@ fn refused_row(alloc: Global, fields: &Row) -> Result<Row, NoMemory>
 }
 
 /// Prints that a sync wrote and removed so many files.
-#[tactic(auto, using(effects::proofs::Following::following))]
+#[tactic(auto, using(outside::proofs::Following::following))]
 pub fn print_synced<K: Sink>(alloc: Global, output: &mut K, count: usize) -> Result<(), Stop>
     ensures does { (s : _) → Does (prints_synced count ∷ []) (world_of s (K.state output.old)) (world_of s (K.state output.new)) result }
     ensures blames { SinkBlames (K.state output.old) (K.state output.new) result }
@@ -80,7 +79,7 @@ pub fn print_synced<K: Sink>(alloc: Global, output: &mut K, count: usize) -> Res
 }
 
 /// Prints that a group opens.
-#[tactic(auto, using(effects::proofs::Following::following))]
+#[tactic(auto, using(outside::proofs::Following::following))]
 pub fn print_begun<K: Sink>(alloc: Global, output: &mut K) -> Result<(), Stop>
     ensures does { (s : _) → Does (prints_begun ∷ []) (world_of s (K.state output.old)) (world_of s (K.state output.new)) result }
     ensures blames { SinkBlames (K.state output.old) (K.state output.new) result }
@@ -91,7 +90,7 @@ pub fn print_begun<K: Sink>(alloc: Global, output: &mut K) -> Result<(), Stop>
 }
 
 /// Prints that a group holds a change.
-#[tactic(auto, using(effects::proofs::Following::following))]
+#[tactic(auto, using(outside::proofs::Following::following))]
 pub fn print_held<K: Sink>(alloc: Global, output: &mut K) -> Result<(), Stop>
     ensures does { (s : _) → Does (prints_held ∷ []) (world_of s (K.state output.old)) (world_of s (K.state output.new)) result }
     ensures blames { SinkBlames (K.state output.old) (K.state output.new) result }
@@ -102,7 +101,7 @@ pub fn print_held<K: Sink>(alloc: Global, output: &mut K) -> Result<(), Stop>
 }
 
 /// Prints that a group is given up.
-#[tactic(auto, using(effects::proofs::Following::following))]
+#[tactic(auto, using(outside::proofs::Following::following))]
 pub fn print_aborted<K: Sink>(alloc: Global, output: &mut K) -> Result<(), Stop>
     ensures does { (s : _) → Does (prints_aborted ∷ []) (world_of s (K.state output.old)) (world_of s (K.state output.new)) result }
     ensures blames { SinkBlames (K.state output.old) (K.state output.new) result }
@@ -122,7 +121,7 @@ fn word_row(alloc: Global, word: &[u8]) -> Result<Row, NoMemory>
 }
 
 /// Prints that so many lines were applied, and that a sync wrote and removed so many files.
-#[tactic(auto, using(effects::proofs::Following::following))]
+#[tactic(auto, using(outside::proofs::Following::following))]
 pub fn print_applied<K: Sink>(
     alloc: Global,
     output: &mut K,
@@ -149,7 +148,7 @@ fn applied_text(alloc: Global, lines: usize, count: usize) -> Result<Vec<u8>, No
 }
 
 /// Prints whose reply follows: that to the change which a source sent under a number.
-#[tactic(auto, using(effects::proofs::Following::following))]
+#[tactic(auto, using(outside::proofs::Following::following))]
 pub fn print_reply<K: Sink>(
     alloc: Global,
     output: &mut K,
@@ -176,7 +175,7 @@ fn reply_row(alloc: Global, source: &Text, number: u64) -> Result<Row, NoMemory>
 }
 
 /// Prints the lines of a script, and how many they are.
-#[tactic(auto, using(effects::proofs::Following::following))]
+#[tactic(auto, using(outside::proofs::Following::following))]
 pub fn print_script<K: Sink>(alloc: Global, output: &mut K, script: &Script) -> Result<(), Stop>
     ensures does { (s : _) → Does (prints_script script.now ∷ []) (world_of s (K.state output.old)) (world_of s (K.state output.new)) result }
     ensures blames { SinkBlames (K.state output.old) (K.state output.new) result }
@@ -219,7 +218,7 @@ fn counted_row(alloc: Global, word: &[u8], count: usize) -> Result<Row, NoMemory
 }
 
 /// Prints that a folder holds what is meant.
-#[tactic(auto, using(effects::proofs::Following::following))]
+#[tactic(auto, using(outside::proofs::Following::following))]
 pub fn print_same<K: Sink>(alloc: Global, output: &mut K, count: usize) -> Result<(), Stop>
     ensures does { (s : _) → Does (prints_same count ∷ []) (world_of s (K.state output.old)) (world_of s (K.state output.new)) result }
     ensures blames { SinkBlames (K.state output.old) (K.state output.new) result }
@@ -230,7 +229,7 @@ pub fn print_same<K: Sink>(alloc: Global, output: &mut K, count: usize) -> Resul
 }
 
 /// Prints that a file differs.
-#[tactic(auto, using(effects::proofs::Following::following))]
+#[tactic(auto, using(outside::proofs::Following::following))]
 pub fn print_difference<K: Sink>(
     alloc: Global,
     output: &mut K,

@@ -2,17 +2,17 @@
 use Rattle.std.proofs.Common.{◌≡◌, ℕ, List, ◌∷◌, ◌++◌, Option, None, Some, refl, sym, ap, ◌∙◌, subst}
 use Rattle.std.specs.Prelude.{Result, Ok, Err}
 use Rattle.outside.specs.Tree.{Tree}
-use Rattle.effects.specs.Effects.{Effect, World, Contents, contents, performed, Partly}
+use Rattle.outside.specs.Effects.{Effect, World, Contents, contents, performed, Partly}
 use Rattle.tab_lines.specs.Lines.{lines_of, whole_lines}
 use Rattle.schema_model.proofs.ReadyLemmas.{same_some}
 use Rattle.course.specs.declared.status.Verdict.{Verdict}
 use Rattle.course.specs.declared.status.Halt.{Halt}
 use Rattle.course.specs.declared.status.Halt.TheVariants as halt
 use Rattle.course.specs.Answering.{Ending, EndedOver}
-use Rattle.run_course.specs.Course.{Course, RanBy, RanSome, GaveOut, HeldUp}
-use Rattle.run_course.proofs.ToldLemmas.{told_tree, contents_told}
-use Rattle.run_course.proofs.TakenLemmas.{taken_lines}
-use Rattle.run_course.proofs.FrontLemmas.{partly_whole, partly_front}
+use Rattle.course.specs.Course.{Course, RanBy, RanSome, GaveOut, HeldUp}
+use Rattle.course.proofs.ToldLemmas.{told_tree, contents_told}
+use Rattle.course.proofs.TakenLemmas.{taken_lines}
+use Rattle.course.proofs.FrontLemmas.{partly_whole, partly_front}
 use Rattle.view_stages.specs.Places.{Exempt}
 use Rattle.view_stages.specs.Opened.{Keeps}
 use Rattle.view_stages.proofs.PlaceLemmas.{AllWithin, StaysIn, at_first_stays, performed_stays, partly_stays}

@@ -6,8 +6,8 @@ use Rattle.outside.specs.Counts.{Rose}
 use Rattle.outside.specs.Tree.{Tree}
 use Rattle.outside.specs.Whole.{IsWhole}
 use Rattle.disk.specs.Disk.{Content, DiskState}
-use Rattle.effects.specs.Effects.{World, contents}
-use Rattle.effects.proofs.EffectLemmas.{nothing_yet}
+use Rattle.outside.specs.Effects.{World, contents}
+use Rattle.outside.proofs.EffectLemmas.{nothing_yet}
 use Rattle.schema_model.proofs.ReadyLemmas.{same_some}
 use Rattle.tab_lines.specs.Lines.{lines_of}
 use Rattle.course.specs.declared.status.Verdict.{Verdict}
@@ -19,11 +19,11 @@ use Rattle.course.proofs.KeepingLemmas.{at_every_moment}
 use Rattle.change_journal.specs.Entries.{entries}
 use Rattle.change_journal.specs.Lines.{read_lines}
 use Rattle.journal_log.specs.Logs.{log_of}
-use Rattle.run_course.specs.Course.{Course, RanBy, RanSome, Took, TookEnough, by_lines, status_of}
-use Rattle.run_course.specs.Idle.{IdleRun}
-use Rattle.run_course.proofs.FrontLemmas.{lines_front}
-use Rattle.run_course.proofs.RefusedLemmas.{some_refused}
-use Rattle.run_course.proofs.RunLemmas.{finishes, by_fault, by_end}
+use Rattle.course.specs.Course.{Course, RanBy, RanSome, Took, TookEnough, by_lines, status_of}
+use Rattle.course.specs.Idle.{IdleRun}
+use Rattle.course.proofs.FrontLemmas.{lines_front}
+use Rattle.course.proofs.RefusedLemmas.{some_refused}
+use Rattle.course.proofs.RunLemmas.{finishes, by_fault, by_end}
 use Rattle.view_stages.specs.Opened.{view_exempt}
 use Rattle.view_stages.specs.Opening.{IsDefinition, definition_bytes}
 use Rattle.view_stages.specs.Places.{Exempt}

@@ -3,7 +3,7 @@ use Rattle.std.proofs.Common.{◌≡◌, ℕ, List, [], ◌∷◌, ◌++◌, Opt
 use Rattle.std.specs.Prelude.{Result, Ok, Err}
 use Rattle.ss_text.specs.Texts.{Text}
 use Rattle.outside.specs.Tree.{Tree}
-use Rattle.effects.specs.Effects.{Effect, World, contents, performed}
+use Rattle.outside.specs.Effects.{Effect, World, contents, performed}
 use Rattle.valuation_meaning.specs.Meaning.{shape_of}
 use Rattle.course.specs.declared.status.Verdict.{Verdict}
 use Rattle.course.specs.declared.status.Halt.{Halt}
@@ -12,8 +12,8 @@ use Rattle.course.specs.Answering.{EndedOver, ending}
 use Rattle.tab_lines.specs.Lines.{lines_of, whole_lines}
 use Rattle.schema_model.proofs.ReadyLemmas.{same_some}
 use Rattle.view_folder.specs.Held.{held}
-use Rattle.run_course.specs.Course.{RanBy, RanSome, GaveOut, HeldUp, by_lines}
-use Rattle.run_course.proofs.TakenLemmas.{taken_lines}
+use Rattle.course.specs.Course.{RanBy, RanSome, GaveOut, HeldUp, by_lines}
+use Rattle.course.proofs.TakenLemmas.{taken_lines}
 use Rattle.view_stages.specs.Stages.{DefinitionOrRefusal, loaded_or_refused}
 use Rattle.view_stages.specs.Opening.{opening, done_at_once}
 use Rattle.view_stages.specs.Places.{Exempt}

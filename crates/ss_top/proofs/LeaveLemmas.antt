@@ -2,15 +2,15 @@
 use Rattle.std.proofs.Common.{◌≡◌, ℕ, List, [], ◌∷◌, ◌++◌, Option, Some, map, refl, subst}
 use Rattle.std.specs.Prelude.{Result, Ok, Err}
 use Rattle.outside.specs.Tree.{Tree}
-use Rattle.effects.specs.Effects.{Effect, World, Stored, Contents, contents, Partly}
+use Rattle.outside.specs.Effects.{Effect, World, Stored, Contents, contents, Partly}
 use Rattle.valuation_meaning.specs.Meaning.{shape_of}
 use Rattle.view_folder.specs.Held.{held}
 use Rattle.course.specs.declared.status.Verdict.{Verdict}
 use Rattle.course.specs.declared.status.Halt.{Halt}
 use Rattle.course.specs.Answering.{ending}
 use Rattle.view_apply.specs.Applying as applying
-use Rattle.run_course.specs.Course.{RanBy, RanSome, by_lines}
-use Rattle.run_course.proofs.FrontLemmas.{lines_front}
+use Rattle.course.specs.Course.{RanBy, RanSome, by_lines}
+use Rattle.course.proofs.FrontLemmas.{lines_front}
 use Rattle.view_stages.specs.Stages.{DefinitionOrRefusal, loaded_or_refused}
 use Rattle.view_stages.specs.Opening.{opening, done_at_once}
 use Rattle.view_stages.specs.Opened.{folder_of, view_exempt}

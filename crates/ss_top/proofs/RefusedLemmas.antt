@@ -3,14 +3,14 @@ use Rattle.std.proofs.Common.{◌≡◌, true, [], map, refl, sym, ap, ◌∙◌
 use Rattle.std.specs.Prelude.{Result}
 use Rattle.std.proofs.lemmas.Bool.{false≢true}
 use Rattle.outside.specs.Tree.{Tree}
-use Rattle.effects.specs.Effects.{World}
+use Rattle.outside.specs.Effects.{World}
 use Rattle.view_apply.specs.Applying as applying
 use Rattle.course.specs.declared.status.Verdict.{Verdict}
 use Rattle.course.specs.Answering.{ending}
 use Rattle.course.specs.declared.status.Halt.{Halt}
-use Rattle.run_course.specs.Course.{RanSome, by_lines, status_of, is_refused_status}
-use Rattle.run_course.specs.Idle.{Unchanged}
-use Rattle.run_course.proofs.RefusedLemmas.{some_refused}
+use Rattle.course.specs.Course.{RanSome, by_lines, status_of, is_refused_status}
+use Rattle.course.specs.Idle.{Unchanged}
+use Rattle.course.proofs.RefusedLemmas.{some_refused}
 use Rattle.view_stages.specs.Opening.{opening, done_at_once}
 use Rattle.view_stages.proofs.RefusedLemmas.{opening_unchanged}
 use Rattle.view_answers.specs.Answers.{step, finish}

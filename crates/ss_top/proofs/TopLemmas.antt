@@ -5,16 +5,16 @@ use Rattle.ss_text.specs.Texts.{Text}
 use Rattle.tab_lines.specs.Lines.{lines_of}
 use Rattle.outside.specs.Tree.{Tree}
 use Rattle.outside.specs.Whole.{IsWhole}
-use Rattle.effects.specs.Effects.{World}
+use Rattle.outside.specs.Effects.{World}
 use Rattle.course.specs.declared.status.Verdict.{Verdict}
 use Rattle.course.specs.declared.status.Halt.{Halt}
 use Rattle.course.specs.Answering.{BlamesRun, is_too_long}
 use Rattle.std.proofs.lemmas.Bool.{false≢true}
 use Rattle.course.specs.declared.status.Halt.TheVariants as halt
-use Rattle.run_course.specs.declared.status.Status.TheVariants as status
-use Rattle.run_course.specs.Course.{Course, Did, RanBy, RanSome, Took, TookEnough, status_of}
-use Rattle.run_course.specs.Idle.{IdleRun}
-use Rattle.run_course.proofs.RunLemmas.{by_status, some_by_status, finishes, by_fault, by_end}
+use Rattle.course.specs.declared.exit.Status.TheVariants as status
+use Rattle.course.specs.Course.{Course, Did, RanBy, RanSome, Took, TookEnough, status_of}
+use Rattle.course.specs.Idle.{IdleRun}
+use Rattle.course.proofs.RunLemmas.{by_status, some_by_status, finishes, by_fault, by_end}
 use Rattle.plain_commands.proofs.ShownLemmas.{did_show}
 use Rattle.plain_commands.proofs.CheckedLemmas.{did_check, did_verify}
 use Rattle.plain_commands.proofs.LoadedLemmas.{did_load}

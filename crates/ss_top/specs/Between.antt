@@ -2,7 +2,7 @@
 use Rattle.std.specs.Prelude.{◌≡◌, ℕ, List, [], ◌∷◌, map, Option, Some}
 use Rattle.tab_lines.specs.Lines.{lines_of}
 use Rattle.outside.specs.Tree.{Tree}
-use Rattle.effects.specs.Effects.{Effect, World}
+use Rattle.outside.specs.Effects.{Effect, World}
 use Rattle.view_stages.specs.Opening.{opening}
 use Rattle.view_stages.specs.Places.{Exempt}
 use Rattle.view_stages.specs.Between.{StopsIn}

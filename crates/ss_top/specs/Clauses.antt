@@ -4,11 +4,11 @@ use Rattle.ss_text.specs.Texts.{Text}
 use Rattle.tab_lines.specs.Lines.{lines_of}
 use Rattle.tab_lines.specs.Taking.{most_taken}
 use Rattle.outside.specs.Tree.{Tree}
-use Rattle.effects.specs.Effects.{World, contents}
-use Rattle.run_course.specs.declared.status.Status.{Status}
-use Rattle.run_course.specs.declared.status.Status.TheVariants as status
-use Rattle.run_course.specs.Course.{Did, DidSome, Took, TookEnough, NoFault, Finished, IsReadWhole, is_done_status, is_fault_status, is_long_status, is_refused_status, is_unread_status, GaveOutStatus}
-use Rattle.run_course.specs.Idle.{Unchanged}
+use Rattle.outside.specs.Effects.{World, contents}
+use Rattle.course.specs.declared.exit.Status.{Status}
+use Rattle.course.specs.declared.exit.Status.TheVariants as status
+use Rattle.course.specs.Course.{Did, DidSome, Took, TookEnough, NoFault, Finished, IsReadWhole, is_done_status, is_fault_status, is_long_status, is_refused_status, is_unread_status, GaveOutStatus}
+use Rattle.course.specs.Idle.{Unchanged}
 use Rattle.view_stages.specs.Stages.{DefinitionOrRefusal}
 use Rattle.plain_commands.specs.Applies.{IsApplied}
 use Rattle.plain_commands.specs.Loads.{IsLoaded}

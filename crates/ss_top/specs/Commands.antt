@@ -3,10 +3,10 @@ use Rattle.std.specs.Prelude.{ℕ, ◌≤◌, Bool, true, false, ◌&&◌, nat_l
 use Rattle.std.specs.List.{list_all}
 use Rattle.ss_text.specs.Texts.{Text, text_eq}
 use Rattle.ss_text.specs.Label.{is_table_label}
-use Rattle.effects.specs.Effects.{Effect, Print}
+use Rattle.outside.specs.Effects.{Effect, Print}
 use Rattle.load_run.specs.Numbers.{changes_of, seed_of}
-use Rattle.run_course.specs.declared.status.Status.{Status}
-use Rattle.run_course.specs.Statuses.{can_check, can_show, can_maintain, can_apply, can_load, can_refuse}
+use Rattle.course.specs.declared.exit.Status.{Status}
+use Rattle.course.specs.Statuses.{can_check, can_show, can_maintain, can_apply, can_load, can_refuse}
 use Rattle.ss_top.specs.declared.asked.Command.{Command}
 use Rattle.ss_top.specs.declared.asked.Command.TheVariants as command
 

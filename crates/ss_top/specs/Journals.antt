@@ -6,15 +6,15 @@ use Rattle.tab_lines.specs.Taking.{most_taken}
 use Rattle.outside.specs.Counts.{Rose}
 use Rattle.outside.specs.Tree.{Tree}
 use Rattle.disk.specs.Disk.{Content}
-use Rattle.effects.specs.Effects.{World}
+use Rattle.outside.specs.Effects.{World}
 use Rattle.course.specs.declared.status.Verdict.{Verdict}
 use Rattle.course.specs.declared.status.Halt.{Halt}
 use Rattle.course.specs.Keeping.{Entry, Log, LeavesNow, AreFirst}
-use Rattle.run_course.specs.declared.status.Status.{Status}
-use Rattle.run_course.specs.declared.status.Status.TheVariants as status
-use Rattle.run_course.specs.Course as run
-use Rattle.run_course.specs.Course.{Course, DidSome, Took, TookEnough, NoFault, Finished, IsReadWhole, by_lines, status_of, is_done_status, is_fault_status, is_long_status, is_refused_status, GaveOutStatus}
-use Rattle.run_course.specs.Idle.{Unchanged}
+use Rattle.course.specs.declared.exit.Status.{Status}
+use Rattle.course.specs.declared.exit.Status.TheVariants as status
+use Rattle.course.specs.Course as run
+use Rattle.course.specs.Course.{Course, DidSome, Took, TookEnough, NoFault, Finished, IsReadWhole, by_lines, status_of, is_done_status, is_fault_status, is_long_status, is_refused_status, GaveOutStatus}
+use Rattle.course.specs.Idle.{Unchanged}
 use Rattle.view_stages.specs.Opened.{Keeps, view_exempt}
 use Rattle.view_stages.specs.Opening.{IsDefinition, definition_bytes}
 use Rattle.view_stages.specs.Stages.{DefinitionOrRefusal}

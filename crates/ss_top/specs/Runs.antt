@@ -3,11 +3,11 @@ use Rattle.std.specs.Prelude.{◌≡◌, Bool, true, List, [], ◌∷◌, map, O
 use Rattle.std.specs.List.{AllByRecursion}
 use Rattle.ss_text.specs.Texts.{Text}
 use Rattle.outside.specs.Tree.{Tree}
-use Rattle.effects.specs.Effects.{World}
+use Rattle.outside.specs.Effects.{World}
 use Rattle.course.specs.declared.status.Verdict.TheVariants as verdict
 use Rattle.course.specs.Answering.{ending}
 use Rattle.view_apply.specs.Applying as applying
-use Rattle.run_course.specs.Course.{Course, unread, by_lines}
+use Rattle.course.specs.Course.{Course, unread, by_lines}
 use Rattle.view_stages.specs.Stages.{DefinitionOrRefusal}
 use Rattle.view_stages.specs.Opening.{IsDefinition, definition_bytes, opening, done_at_once}
 use Rattle.view_answers.specs.Answers.{step, finish}

@@ -1,13 +1,13 @@
 //! The commands, each by what it asks for.
 ghost use Rattle.std.specs.Prelude.{◌≡◌, ◌≤◌, List, ℕ, Some, true, false, IfOk, IfErr};
-ghost use Rattle.effects.specs.Effects.{world_of};
+ghost use Rattle.outside.specs.Effects.{world_of};
 ghost use Rattle.outside.specs.Reading.{OnlyRead};
 ghost use Rattle.tab_lines.specs.Lines.{lines_of};
 ghost use Rattle.course.specs.Answering.{BlamesRun, is_too_long};
 ghost use Rattle.ss_top.specs.Commands.{HasViews, asked_by, uses_store, only_reads, reads_input, counts, can_end};
-ghost use Rattle.run_course.specs.Course.{RanBy, RanSome, Took, TookEnough, status_of, IsWholeInput};
+ghost use Rattle.course.specs.Course.{RanBy, RanSome, Took, TookEnough, status_of, IsWholeInput};
 ghost use Rattle.ss_top.specs.Runs.{OverEach, StepsOf, Told, course_by};
-ghost use Rattle.run_course.specs.Idle.{IdleRun};
+ghost use Rattle.course.specs.Idle.{IdleRun};
 
 use crate::asked::Command;
 use crate::usage::usage;
@@ -22,7 +22,7 @@ use std::sync::ledger::Ledger;
 use view_answers::maintain;
 
 // Does what a command asks for.
-#[tactic(auto, using(run_course::proofs::RunLemmas::ran_some, run_course::proofs::RunLemmas::stopped_some, run_course::proofs::RunLemmas::stop_can_check, run_course::proofs::RunLemmas::stop_can_show, run_course::proofs::RunLemmas::stop_can_load, run_course::proofs::RunLemmas::stop_can_refuse, run_course::proofs::RunLemmas::idle_other, crate::proofs::DefinedLemmas::in_order))]
+#[tactic(auto, using(course::proofs::RunLemmas::ran_some, course::proofs::RunLemmas::stopped_some, course::proofs::RunLemmas::stop_can_check, course::proofs::RunLemmas::stop_can_show, course::proofs::RunLemmas::stop_can_load, course::proofs::RunLemmas::stop_can_refuse, course::proofs::RunLemmas::idle_other, crate::proofs::DefinedLemmas::in_order))]
 pub(crate) fn run_command<F: Folders, S: Source, K: Sink, L: Ledger>(
     alloc: Global,
     command: Command,

@@ -1,6 +1,6 @@
 //! The top call over a disk.
 ghost use Rattle.std.specs.Prelude.{◌≡◌, ◌≤◌, None};
-ghost use Rattle.effects.specs.Effects.{world_of};
+ghost use Rattle.outside.specs.Effects.{world_of};
 ghost use Rattle.journal_log.specs.Logs.{log_of};
 ghost use Rattle.ss_top.specs.Commands.{journal_of};
 ghost use Rattle.ss_top.specs.Journals.{HasDefinition, DoesCourse, IsComplete, AnswersSome, CanEnd, Cause, Journals, StopsAtSync, StopsAtFault, StopsWhereFull, ReadsWhole, KeepsAccepted, Reopens, KeepsAll, KeepsOthers, LeavesBetween, TakesLittle, TakesEnough, LeavesInput, TakesSteps};
@@ -8,10 +8,10 @@ ghost use Rattle.ss_top.specs.Together.{IsRun};
 
 use crate::asked::journal_name;
 use crate::top::run;
+use course::{Status, status_of_ending};
 use disk::Disk;
 use journal_answers::journal;
 use outside::{Folders, Sink, Source};
-use run_course::{Status, status_of_ending};
 use ss_text::{Steps, Text};
 use std::alloc::Global;
 use std::sync::ledger::Ledger;

@@ -10,6 +10,6 @@ mod journals;
 mod top;
 mod usage;
 
+pub use course::Status;
 pub use journals::run_with_disk;
-pub use run_course::Status;
 pub use top::run;

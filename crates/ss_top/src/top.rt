@@ -2,16 +2,16 @@
 ghost use Rattle.std.specs.Prelude.{◌≡◌, ◌≤◌, true, false};
 ghost use Rattle.outside.specs.Reading.{OnlyRead};
 ghost use Rattle.outside.specs.Tree.{Tree};
-ghost use Rattle.effects.specs.Effects.{world_of};
+ghost use Rattle.outside.specs.Effects.{world_of};
 ghost use Rattle.ss_top.specs.Commands.{asked_of, names_of, uses_store, only_reads, reads_input, counts, can_end};
-ghost use Rattle.run_course.specs.Course.{Cause};
+ghost use Rattle.course.specs.Course.{Cause};
 ghost use Rattle.ss_top.specs.Runs.{Definitions, AreDefined, Request, Asks, course_of};
 ghost use Rattle.ss_top.specs.Clauses.{DoesCourse, IsComplete, AnswersSome, Checks, Shows, Maintains, StopsAtSync, Stacks, StackStopsAtSync, Feeds, FeedStopsAtSync, Verifies, TellsDifference, Applies, AppliesNothing, Loads, ReadsWhole, KeepsAll, KeepsOthers, LeavesBetween, TakesLittle, TakesEnough, TakesSteps};
 
 use crate::asked::command_of;
 use crate::command::run_command;
+use course::{Status, status_of_ending};
 use outside::{Folders, Sink, Source};
-use run_course::{Status, status_of_ending};
 use ss_text::{Steps, Text};
 use std::alloc::Global;
 use std::sync::ledger::Ledger;
@@ -29,7 +29,7 @@ use std::sync::ledger::Ledger;
 /// outside groups, `maintain` and `feed` take no more of them than the sum, over the changes that the catalogue does not
 /// refuse, of four for each combination of flat rows that the changed row is part of and four for each such flat row. So
 /// it is however the run ends.
-#[tactic(auto, using(run_course::proofs::RunLemmas::by_status))]
+#[tactic(auto, using(course::proofs::RunLemmas::by_status))]
 pub fn run<F: Folders, S: Source, K: Sink, L: Ledger>(
     alloc: Global,
     words: &[Text],

@@ -1,14 +1,13 @@
 //! The words that are asked for.
 ghost use Rattle.std.specs.Prelude.{◌≡◌, ◌≢◌, ◌∷◌, [], IfErr, IfOk};
-ghost use Rattle.effects.specs.Effects.{Does, world_of};
-ghost use Rattle.effects.specs.Blame.{Blames, SinkBlames};
+ghost use Rattle.outside.specs.Effects.{Does, world_of};
+ghost use Rattle.outside.specs.Blame.{Blames, SinkBlames};
 ghost use Rattle.course.specs.Answering.{Ended};
 ghost use Rattle.course.specs.declared.status.Verdict.TheVariants.{Usage};
 ghost use Rattle.ss_top.specs.Commands.{prints_usage};
 
 use course::Verdict;
-use effects::{Stop, print};
-use outside::{Folders, Sink};
+use outside::{Folders, Sink, Stop, print};
 use std::alloc::Global;
 
 // Prints which words are asked for.
@@ -24,7 +23,7 @@ fn print_usage<K: Sink>(alloc: Global, output: &mut K) -> Result<(), Stop>
 }
 
 /// Prints which words are asked for, and ends the run.
-#[tactic(auto, using(effects::proofs::BlameLemmas::sink_no_read))]
+#[tactic(auto, using(outside::proofs::BlameLemmas::sink_no_read))]
 pub(crate) fn usage<F: Folders, K: Sink>(
     alloc: Global,
     _store: &mut F,

@@ -7,8 +7,8 @@ use Rattle.ss_text.specs.Texts.{Row}
 use Rattle.tab_lines.specs.Spelling.{unspell, IsUnspelled}
 use Rattle.tab_lines.specs.declared.spelling.LineFault.{LineFault}
 use Rattle.tab_lines.specs.declared.spelling.LineFault.TheVariants.{BadEscape}
-use Rattle.effects.specs.Effects.{Effect, World, contents, performed, Does}
-use Rattle.effects.specs.declared.stop.Stop.{Stop}
+use Rattle.outside.specs.Effects.{Effect, World, contents, performed, Does}
+use Rattle.outside.specs.declared.stop.Stop.{Stop}
 use Rattle.schema_model.specs.Catalogue.{CatalogueValue}
 use Rattle.schema_model.specs.Changes.{after_all}
 use Rattle.schema_model.specs.Refusals.{fault, group_fault}
@@ -24,7 +24,7 @@ use Rattle.view_session.specs.declared.fault.HoldRefused.{HoldRefused}
 use Rattle.view_session.specs.declared.fault.HoldRefused.TheVariants as hold
 use Rattle.ss_print.specs.Fields.{escape_fields, first_field, line_fields, group_broken_fields, open_group_fields}
 use Rattle.ss_print.specs.Printing.{refuses, prints_held}
-use Rattle.stack_print.specs.Printing.{refuses_at, prints_scripts}
+use Rattle.ss_print.specs.LevelLines.{refuses_at, prints_scripts}
 use Rattle.view_answers.specs.declared.word.Word.{Word}
 use Rattle.view_answers.specs.Answers.{word_in}
 use Rattle.view_answers.specs.Steps.{IsHoldFieldsOf}

@@ -10,7 +10,7 @@ use Rattle.std.proofs.lemmas.List.Elements.{filter_more}
 use Rattle.ss_text.specs.Texts.{Text, text_cmp, text_eq}
 use Rattle.ss_text.proofs.KeyLemmas.{text_order, equal_itself, equal_is, less_differs}
 use Rattle.outside.specs.Tree.{Tree, files_of}
-use Rattle.effects.specs.Effects.{Effect, Write, Remove}
+use Rattle.outside.specs.Effects.{Effect, Write, Remove}
 use Rattle.schema_model.specs.Catalogue.{CatalogueValue}
 use Rattle.flow_law.specs.declared.shape.Shape.{Shape}
 use Rattle.flow_law.specs.Tables.{TableValue, TablesValue, labels_of, table_of}

@@ -4,11 +4,11 @@ use Rattle.std.specs.Prelude.{false, Result, Ok, Err, IfErr, IsErrOf, codes}
 use Rattle.ss_text.specs.Texts.{Text, Row}
 use Rattle.outside.specs.States.{StoreState}
 use Rattle.outside.specs.Tree.{Tree}
-use Rattle.effects.specs.Effects.{Effect, World, Contents, contents, performed, Partly, Does}
-use Rattle.effects.specs.Blame.{StoreBlames}
-use Rattle.effects.specs.declared.stop.Stop.{Stop}
-use Rattle.effects.specs.declared.stop.Stop.TheVariants as stop
-use Rattle.effects.proofs.EffectLemmas.{partly_more, none_off}
+use Rattle.outside.specs.Effects.{Effect, World, Contents, contents, performed, Partly, Does}
+use Rattle.outside.specs.Blame.{StoreBlames}
+use Rattle.outside.specs.declared.stop.Stop.{Stop}
+use Rattle.outside.specs.declared.stop.Stop.TheVariants as stop
+use Rattle.outside.proofs.EffectLemmas.{partly_more, none_off}
 use Rattle.schema_model.specs.Catalogue.{CatalogueValue}
 use Rattle.schema_model.specs.declared.change.Change.{Change}
 use Rattle.course.specs.Answering.{Reply, Continues, Finishes}

@@ -2,13 +2,13 @@
 use Rattle.std.proofs.Common.{◌≡◌, ◌∙◌, ◌≤◌, List, [], ◌++◌, refl, sym, ap, arith}
 use Rattle.std.specs.Prelude.{Result, Ok, Err}
 use Rattle.outside.specs.States.{StoreState}
-use Rattle.effects.specs.Effects.{Effect, World, world_of, contents, performed, Does}
-use Rattle.effects.specs.Blame.{StoreCause}
-use Rattle.effects.specs.Performing.{Performs}
-use Rattle.effects.specs.declared.stop.Stop.{Stop}
-use Rattle.effects.specs.declared.stop.Stop.TheVariants as stop
-use Rattle.effects.proofs.EffectLemmas.{performed_append, partly_more, partly_later}
-use Rattle.run_course.proofs.FrontLemmas.{partly_whole}
+use Rattle.outside.specs.Effects.{Effect, World, world_of, contents, performed, Does}
+use Rattle.outside.specs.Blame.{StoreCause}
+use Rattle.outside.specs.Performing.{Performs}
+use Rattle.outside.specs.declared.stop.Stop.{Stop}
+use Rattle.outside.specs.declared.stop.Stop.TheVariants as stop
+use Rattle.outside.proofs.EffectLemmas.{performed_append, partly_more, partly_later}
+use Rattle.course.proofs.FrontLemmas.{partly_whole}
 
 -- nothing
 pub performs_none : {A : Type 0} (s : StoreState) (a : A) → Performs [] s s (Ok a)

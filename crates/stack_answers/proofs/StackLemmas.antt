@@ -2,7 +2,7 @@
 use Rattle.std.proofs.Common.{◌≡◌, ◌∙◌, Bool, ℕ, List, [], ◌∷◌, map, Option, None, refl, sym, ap, subst}
 use Rattle.std.specs.Prelude.{false, IfSome}
 use Rattle.ss_text.specs.Texts.{Text}
-use Rattle.effects.specs.Effects.{Replace}
+use Rattle.outside.specs.Effects.{Replace}
 use Rattle.schema_model.specs.Catalogue.{CatalogueValue}
 use Rattle.schema_model.specs.Changes.{after_all}
 use Rattle.schema_model.specs.declared.change.Change.{Change}

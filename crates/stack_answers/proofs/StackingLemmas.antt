@@ -1,14 +1,14 @@
 -- From the opening of a stack and the answers behind it to a run of `stack`.
 use Rattle.std.proofs.Common.{◌≡◌, ◌≢◌, ℕ, Bool, true, false, List, refl}
 use Rattle.std.specs.Prelude.{Result, Ok, Err, if◌then◌else◌}
-use Rattle.effects.specs.Effects.{Effect, World}
+use Rattle.outside.specs.Effects.{Effect, World}
 use Rattle.course.specs.declared.status.Verdict.{Verdict}
 use Rattle.course.specs.declared.status.Verdict.TheVariants as verdict
 use Rattle.course.specs.declared.status.Halt.{Halt}
 use Rattle.course.specs.declared.status.Halt.TheVariants as halt
 use Rattle.course.specs.Answering.{Continues, AnsweredSome}
-use Rattle.run_course.specs.Statuses.{can_maintain}
-use Rattle.run_course.specs.Course.{verdict_status, status_of}
+use Rattle.course.specs.Statuses.{can_maintain}
+use Rattle.course.specs.Course.{verdict_status, status_of}
 use Rattle.view_answers.proofs.MaintainLemmas.{drove_verdict, stopped_can}
 use Rattle.stack_answers.specs.Stack.{StackState}
 use Rattle.stack_answers.specs.Answers.{step, finish, answer, end_stack}

@@ -3,7 +3,7 @@ use Rattle.std.specs.Prelude.{Bool, true, ◌==◌, ◌+◌, ℕ, zero, suc, Lis
 use Rattle.std.specs.Option.{option_map_or}
 use Rattle.ss_text.specs.Texts.{Row}
 use Rattle.tab_lines.specs.Spelling.{unspell}
-use Rattle.effects.specs.Effects.{Effect, Replace}
+use Rattle.outside.specs.Effects.{Effect, Replace}
 use Rattle.schema_model.specs.Changes.{after_all}
 use Rattle.schema_model.specs.Refusals.{fault}
 use Rattle.schema_model.specs.Reading.{change_of}
@@ -23,7 +23,7 @@ use Rattle.ss_print.specs.Printing.{prints_begun, prints_held, prints_aborted, p
 use Rattle.view_answers.specs.declared.word.Word.{Word}
 use Rattle.view_answers.specs.declared.word.Word.TheVariants as word
 use Rattle.view_answers.specs.Answers.{word_in}
-use Rattle.stack_print.specs.Printing.{refuses_at, prints_scripts}
+use Rattle.ss_print.specs.LevelLines.{refuses_at, prints_scripts}
 use Rattle.stack_levels.specs.declared.refusal.LevelRefusal.{LevelRefusal}
 use Rattle.stack_levels.specs.Levels.{refused_at, lines_over, changing_refusal}
 use Rattle.stack_levels.specs.Values.{LevelValue, with_lines, synced_over, count_of}

@@ -1,11 +1,11 @@
 -- What the steps of an opened stack answer, against the definitions.
 use Rattle.std.specs.Prelude.{◌≡◌, true, Result, Ok, Err}
-use Rattle.effects.specs.Effects.{World, contents, Partly}
-use Rattle.effects.specs.declared.stop.Stop.{Stop}
+use Rattle.outside.specs.Effects.{World, contents, Partly}
+use Rattle.outside.specs.declared.stop.Stop.{Stop}
 use Rattle.schema_model.specs.declared.change.Change.{Change}
 use Rattle.course.specs.Answering.{Reply, effects_of}
 use Rattle.ss_print.specs.Fields.{refusal_fields}
-use Rattle.run_course.specs.Course.{verdict_status, is_refused_status}
+use Rattle.course.specs.Course.{verdict_status, is_refused_status}
 use Rattle.view_answers.specs.Steps.{Begins, EndsRun}
 use Rattle.stack_levels.specs.Levels.{refused_at}
 use Rattle.stack_levels.specs.declared.refusal.LevelRefusal.{LevelRefusal}

@@ -2,16 +2,15 @@
 ghost use Rattle.std.specs.Prelude.{◌≡◌, ◌∷◌, [], List, Some, IfOk, codes, map};
 ghost use Rattle.outside.specs.Reading.{OnlyRead};
 ghost use Rattle.outside.specs.Tree.{Tree};
-ghost use Rattle.effects.specs.Effects.{Does, world_of};
-ghost use Rattle.effects.specs.Blame.{StoreBlames};
+ghost use Rattle.outside.specs.Effects.{Does, world_of};
+ghost use Rattle.outside.specs.Blame.{StoreBlames};
 ghost use Rattle.view_def.specs.Query.{Query};
 ghost use Rattle.stack_levels.specs.Opening.{defined_views};
 ghost use Rattle.view_stages.specs.Stages.{DefinitionOrRefusal};
 ghost use Rattle.stack_answers.specs.Opening.{all_accepted};
 ghost use Rattle.stack_answers.specs.Definitions.{AreDefinitions, AreRead, IsForAll, defined_as};
 
-use effects::Stop;
-use outside::Folders;
+use outside::{Folders, Stop};
 use ss_text::{NoMemory, Row, Text};
 use std::alloc::Global;
 use view_stages::{Definition, Understood, read_definition};
@@ -25,7 +24,7 @@ pub(crate) enum Defined {
 
 /// The definitions of these names, which are read in their order up to one that is refused. Where a call fails or memory
 /// runs out, nothing was done.
-#[tactic(auto, using(effects::proofs::Following::following))]
+#[tactic(auto, using(outside::proofs::Following::following))]
 pub(crate) fn read_definitions<F: Folders>(
     alloc: Global,
     store: &mut F,
@@ -48,7 +47,7 @@ pub(crate) fn read_definitions<F: Folders>(
 }
 
 // Puts the definitions of these names last, up to one that is refused, and answers the fields of that one.
-#[tactic(auto, using(effects::proofs::Following::following))]
+#[tactic(auto, using(outside::proofs::Following::following))]
 fn read_each<F: Folders>(
     alloc: Global,
     store: &mut F,

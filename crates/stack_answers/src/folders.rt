@@ -2,18 +2,17 @@
 ghost use Rattle.std.specs.Prelude.{◌≡◌, ◌++◌, ◌∷◌, [], map, length, Some, None, IfOk, OnOk, if◌then◌else◌};
 ghost use Rattle.outside.specs.Reading.{OnlyRead};
 ghost use Rattle.outside.specs.Tree.{Tree};
-ghost use Rattle.effects.specs.Effects.{Does, world_of};
-ghost use Rattle.effects.specs.Blame.{StoreBlames};
-ghost use Rattle.effects.specs.Performing.{Performs};
+ghost use Rattle.outside.specs.Effects.{Does, world_of};
+ghost use Rattle.outside.specs.Blame.{StoreBlames};
+ghost use Rattle.outside.specs.Performing.{Performs};
 ghost use Rattle.view_folder.specs.Files.{is_csv_name};
 ghost use Rattle.view_folder.specs.Sync.{has_table};
 ghost use Rattle.stack_levels.specs.States.{level_value, level_tables};
 ghost use Rattle.stack_answers.specs.Answers.{folder_effects, sync_count};
 ghost use Rattle.stack_answers.specs.Folders.{label_in, is_other, opening_labels, labels_at, planned_in, ArePlanned, folder_synced, folders_synced, label_count};
 
-use effects::{Stop, list_files};
 use kept_tables::KeptTables;
-use outside::Folders;
+use outside::{Folders, Stop, list_files};
 use ss_text::{NoMemory, Text};
 use stack_levels::Level;
 use std::alloc::Global;
@@ -26,7 +25,7 @@ pub(crate) struct Plan {
 }
 
 /// What the opening of each of these levels does in its folder. The folders are only read.
-#[tactic(auto, using(effects::proofs::Following::following))]
+#[tactic(auto, using(outside::proofs::Following::following))]
 pub(crate) fn plan_folders<F: Folders>(
     alloc: Global,
     store: &mut F,
@@ -48,7 +47,7 @@ pub(crate) fn plan_folders<F: Folders>(
 }
 
 // Puts a plan for each of these levels last.
-#[tactic(auto, using(effects::proofs::Following::following))]
+#[tactic(auto, using(outside::proofs::Following::following))]
 fn plan_each<F: Folders>(
     alloc: Global,
     store: &mut F,
@@ -70,7 +69,7 @@ fn plan_each<F: Folders>(
 }
 
 // What the opening of a level does in its folder.
-#[tactic(auto, using(effects::proofs::Following::following))]
+#[tactic(auto, using(outside::proofs::Following::following))]
 fn plan_folder<F: Folders>(alloc: Global, store: &mut F, level: &Level) -> Result<Plan, Stop>
     ensures told { IfOk result (λ plan. (t : Tree) → (F.state store.old).tree ≡ Some t → plan.labels.items ≡ labels_at t level.now) }
     ensures does { (o : _) → Does [] (world_of (F.state store.old) o) (world_of (F.state store.new) o) result }

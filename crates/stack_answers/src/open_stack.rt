@@ -4,14 +4,14 @@ ghost use Rattle.std.specs.List.{AllByRecursion};
 ghost use Rattle.tab_lines.specs.Lines.{has_feed};
 ghost use Rattle.outside.specs.Reading.{OnlyRead};
 ghost use Rattle.outside.specs.Tree.{Tree};
-ghost use Rattle.effects.specs.Effects.{Does, Replace, world_of};
-ghost use Rattle.effects.specs.Blame.{Blames, StoreBlames, SinkBlames};
-ghost use Rattle.effects.specs.Performing.{Performs};
+ghost use Rattle.outside.specs.Effects.{Does, Replace, world_of};
+ghost use Rattle.outside.specs.Blame.{Blames, StoreBlames, SinkBlames};
+ghost use Rattle.outside.specs.Performing.{Performs};
 ghost use Rattle.schema_model.specs.Changes.{after_all, is_well_formed};
 ghost use Rattle.schema_model.specs.Reading.{change_of};
 ghost use Rattle.schema_model.specs.Refusals.{fault, group_fault};
 ghost use Rattle.csv_catalog.specs.Saved.{saved};
-ghost use Rattle.run_course.specs.Idle.{IdleUnread};
+ghost use Rattle.course.specs.Idle.{IdleUnread};
 ghost use Rattle.ss_print.specs.Printing.{prints_synced};
 ghost use Rattle.stack_levels.specs.Levels.{refused_at, lines_over, changing_refusal};
 ghost use Rattle.stack_levels.specs.States.{AreLevels};
@@ -27,13 +27,11 @@ use change_draft::Draft;
 use change_script::Script;
 use course::{LineHandler, LineStop, NoDisk, Verdict};
 use csv_catalog::save_changed;
-use effects::Stop;
-use outside::{Folders, Sink};
+use outside::{Folders, Sink, Stop};
 use schema_model::Change;
-use ss_print::{escape_fields, print_synced, refusal_fields};
+use ss_print::{escape_fields, print_scripts, print_synced, refusal_fields, refuse_level};
 use ss_text::{NoMemory, Row, Steps};
 use stack_levels::{LevelRefusal, Levels, LevelsRefused};
-use stack_print::{print_scripts, refuse_level};
 use std::alloc::Global;
 use std::marker::Model;
 use std::slice::from_ref;
@@ -97,7 +95,7 @@ impl OpenStack {
     }
 
     /// Writes the folders of a stack that was just opened, one level behind the other, and prints that it did.
-    #[tactic(auto, using(effects::proofs::Following::following, effects::proofs::EffectLemmas::partly_more, effects::proofs::EffectLemmas::partly_later, effects::proofs::EffectLemmas::performed_append, run_course::proofs::IdleLemmas::idle_first, run_course::proofs::IdleLemmas::idle_print))]
+    #[tactic(auto, using(outside::proofs::Following::following, outside::proofs::EffectLemmas::partly_more, outside::proofs::EffectLemmas::partly_later, outside::proofs::EffectLemmas::performed_append, course::proofs::IdleLemmas::idle_first, course::proofs::IdleLemmas::idle_print))]
     pub(crate) fn write_folders<F: Folders, K: Sink>(
         &self,
         alloc: Global,
@@ -162,7 +160,7 @@ impl OpenStack {
     }
 
     // Refuses a line, as by this level.
-    #[tactic(auto, using(effects::proofs::Following::following))]
+    #[tactic(auto, using(outside::proofs::Following::following))]
     fn refuse_at<K: Sink>(
         &mut self,
         alloc: Global,
@@ -219,7 +217,7 @@ impl OpenStack {
     }
 
     // Syncs the folders of the levels, and prints the number of their files.
-    #[tactic(auto, using(effects::proofs::Following::following, effects::proofs::EffectLemmas::partly_more, effects::proofs::EffectLemmas::partly_later, effects::proofs::EffectLemmas::performed_append))]
+    #[tactic(auto, using(outside::proofs::Following::following, outside::proofs::EffectLemmas::partly_more, outside::proofs::EffectLemmas::partly_later, outside::proofs::EffectLemmas::performed_append))]
     fn write_named<F: Folders, K: Sink>(
         &self,
         alloc: Global,
@@ -238,7 +236,7 @@ impl OpenStack {
     }
 
     // Saves the sources that were named, and then syncs the folders of the levels.
-    #[tactic(auto, using(effects::proofs::Following::following, effects::proofs::EffectLemmas::partly_more, effects::proofs::EffectLemmas::partly_later, effects::proofs::EffectLemmas::performed_append))]
+    #[tactic(auto, using(outside::proofs::Following::following, outside::proofs::EffectLemmas::partly_more, outside::proofs::EffectLemmas::partly_later, outside::proofs::EffectLemmas::performed_append))]
     fn write_changed<F: Folders, K: Sink>(
         &self,
         alloc: Global,
@@ -255,7 +253,7 @@ impl OpenStack {
     }
 
     // A sync.
-    #[tactic(auto, using(effects::proofs::Following::following))]
+    #[tactic(auto, using(outside::proofs::Following::following))]
     fn sync<F: Folders, K: Sink>(
         &mut self,
         alloc: Global,
@@ -275,7 +273,7 @@ impl OpenStack {
     }
 
     // Refuses an open group at the end of the input, and syncs.
-    #[tactic(auto, using(effects::proofs::Following::following, effects::proofs::EffectLemmas::partly_more, effects::proofs::EffectLemmas::partly_later, effects::proofs::EffectLemmas::performed_append))]
+    #[tactic(auto, using(outside::proofs::Following::following, outside::proofs::EffectLemmas::partly_more, outside::proofs::EffectLemmas::partly_later, outside::proofs::EffectLemmas::performed_append))]
     fn end_input<F: Folders, K: Sink>(
         &mut self,
         alloc: Global,
@@ -319,7 +317,7 @@ impl OpenStack {
     }
 
     // Answers a change where no group is open.
-    #[tactic(auto, using(effects::proofs::Following::following, crate::proofs::AnswerLemmas::taken_stack, crate::proofs::AnswerLemmas::refused_stack))]
+    #[tactic(auto, using(outside::proofs::Following::following, crate::proofs::AnswerLemmas::taken_stack, crate::proofs::AnswerLemmas::refused_stack))]
     fn apply<K: Sink, L: Ledger>(
         &mut self,
         alloc: Global,
@@ -366,7 +364,7 @@ impl OpenStack {
     }
 
     // Answers a line that begins with no word that stands alone.
-    #[tactic(auto, using(effects::proofs::Following::following, crate::proofs::AnswerLemmas::unread_stack))]
+    #[tactic(auto, using(outside::proofs::Following::following, crate::proofs::AnswerLemmas::unread_stack))]
     fn change_line<K: Sink, L: Ledger>(
         &mut self,
         alloc: Global,
@@ -389,7 +387,7 @@ impl OpenStack {
     }
 
     // Answers the row of a line.
-    #[tactic(auto, using(effects::proofs::Following::following, crate::proofs::AnswerLemmas::words_does))]
+    #[tactic(auto, using(outside::proofs::Following::following, crate::proofs::AnswerLemmas::words_does))]
     fn row<F: Folders, K: Sink, L: Ledger>(
         &mut self,
         alloc: Global,
@@ -411,7 +409,7 @@ impl OpenStack {
     }
 
     // Answers a line.
-    #[tactic(auto, using(effects::proofs::Following::following, crate::proofs::AnswerLemmas::spelled_does, crate::proofs::AnswerLemmas::unspelled_does))]
+    #[tactic(auto, using(outside::proofs::Following::following, crate::proofs::AnswerLemmas::spelled_does, crate::proofs::AnswerLemmas::unspelled_does))]
     fn answer<F: Folders, K: Sink, L: Ledger>(
         &mut self,
         alloc: Global,

@@ -1,11 +1,11 @@
 //! Opens a stack.
 ghost use Rattle.std.specs.Prelude.{◌≡◌, ◌≤◌, List, [], Some, None, IfOk, length, map};
 ghost use Rattle.outside.specs.Tree.{Tree};
-ghost use Rattle.effects.specs.Effects.{world_of};
-ghost use Rattle.effects.specs.Blame.{Blames};
+ghost use Rattle.outside.specs.Effects.{world_of};
+ghost use Rattle.outside.specs.Blame.{Blames};
 ghost use Rattle.csv_catalog.specs.FileFaults.{first_repeated};
 ghost use Rattle.view_def.specs.Query.{Query};
-ghost use Rattle.run_course.specs.Idle.{IdleUnread};
+ghost use Rattle.course.specs.Idle.{IdleUnread};
 ghost use Rattle.view_stages.specs.Stages.{DefinitionOrRefusal, loaded_or_refused};
 ghost use Rattle.stack_levels.specs.Levels.{opening_refusal};
 ghost use Rattle.schema_model.specs.Catalogue.{CatalogueValue};
@@ -19,13 +19,11 @@ use crate::definitions::{Defined, databases_of, read_definitions, twice_fields};
 use crate::open_stack::OpenStack;
 use course::Verdict;
 use csv_catalog::first_repeated;
-use effects::Stop;
-use outside::{Folders, Sink};
+use outside::{Folders, Sink, Stop};
 use schema_model::Catalogue;
-use ss_print::refuse;
+use ss_print::{refuse, refuse_level};
 use ss_text::{NoMemory, Steps, Text};
 use stack_levels::{Levels, OpenFault};
-use stack_print::refuse_level;
 use std::alloc::Global;
 use std::sync::ledger::Ledger;
 use view_stages::{Definition, Loading, load_sources};
@@ -39,7 +37,7 @@ pub(crate) enum Opened {
 
 /// Opens the views of these names over one another: reads what they stand on, writes the folder of each and prints that it
 /// did.
-#[tactic(auto, using(effects::proofs::Following::following, crate::proofs::OpeningLemmas::nothing_opened, outside::proofs::ReadingLemmas::only_read_then, outside::proofs::ReadingLemmas::only_read_nothing, run_course::proofs::IdleLemmas::idle_read, run_course::proofs::IdleLemmas::idle_print, run_course::proofs::IdleLemmas::idle_later))]
+#[tactic(auto, using(outside::proofs::Following::following, crate::proofs::OpeningLemmas::nothing_opened, outside::proofs::ReadingLemmas::only_read_then, outside::proofs::ReadingLemmas::only_read_nothing, course::proofs::IdleLemmas::idle_read, course::proofs::IdleLemmas::idle_print, course::proofs::IdleLemmas::idle_later))]
 pub(crate) fn open<F: Folders, K: Sink, L: Ledger>(
     alloc: Global,
     store: &mut F,
@@ -68,7 +66,7 @@ pub(crate) fn open<F: Folders, K: Sink, L: Ledger>(
 }
 
 // Opens views over one another, whose view databases are to be distinct.
-#[tactic(auto, using(effects::proofs::Following::following, crate::proofs::OpeningLemmas::nothing_opened, run_course::proofs::IdleLemmas::idle_print))]
+#[tactic(auto, using(outside::proofs::Following::following, crate::proofs::OpeningLemmas::nothing_opened, course::proofs::IdleLemmas::idle_print))]
 fn open_views<F: Folders, K: Sink, L: Ledger>(
     alloc: Global,
     store: &mut F,
@@ -107,7 +105,7 @@ fn repeated_database(alloc: Global, definitions: &[Definition]) -> Result<Option
 }
 
 // Opens views over one another, the lowest over the source relations.
-#[tactic(auto, using(effects::proofs::Following::following, crate::proofs::OpeningLemmas::nothing_opened, outside::proofs::ReadingLemmas::only_read_then, outside::proofs::ReadingLemmas::only_read_nothing, run_course::proofs::IdleLemmas::idle_read, run_course::proofs::IdleLemmas::idle_print, run_course::proofs::IdleLemmas::idle_later))]
+#[tactic(auto, using(outside::proofs::Following::following, crate::proofs::OpeningLemmas::nothing_opened, outside::proofs::ReadingLemmas::only_read_then, outside::proofs::ReadingLemmas::only_read_nothing, course::proofs::IdleLemmas::idle_read, course::proofs::IdleLemmas::idle_print, course::proofs::IdleLemmas::idle_later))]
 fn open_sources<F: Folders, K: Sink, L: Ledger>(
     alloc: Global,
     store: &mut F,
@@ -137,7 +135,7 @@ fn open_sources<F: Folders, K: Sink, L: Ledger>(
 }
 
 // Opens views over one another, the lowest over a catalogue.
-#[tactic(auto, using(effects::proofs::Following::following, crate::proofs::OpeningLemmas::nothing_opened, run_course::proofs::IdleLemmas::idle_print))]
+#[tactic(auto, using(outside::proofs::Following::following, crate::proofs::OpeningLemmas::nothing_opened, course::proofs::IdleLemmas::idle_print))]
 fn open_levels<F: Folders, K: Sink, L: Ledger>(
     alloc: Global,
     store: &mut F,

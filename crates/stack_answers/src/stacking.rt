@@ -1,12 +1,12 @@
 //! The command `stack`.
 ghost use Rattle.std.specs.Prelude.{◌≡◌, ◌≤◌, true, false, List, ℕ, Some, IfOk, IfErr, length};
-ghost use Rattle.effects.specs.Effects.{world_of};
+ghost use Rattle.outside.specs.Effects.{world_of};
 ghost use Rattle.outside.specs.Tree.{Tree};
 ghost use Rattle.course.specs.Answering.{BlamesRun, is_too_long};
 ghost use Rattle.view_stages.specs.Stages.{DefinitionOrRefusal};
-ghost use Rattle.run_course.specs.Statuses.{can_maintain};
-ghost use Rattle.run_course.specs.Idle.{IdleRun};
-ghost use Rattle.run_course.specs.Course.{RanBy, RanSome, Took, TookEnough, by_lines, status_of, IsWholeInput};
+ghost use Rattle.course.specs.Statuses.{can_maintain};
+ghost use Rattle.course.specs.Idle.{IdleRun};
+ghost use Rattle.course.specs.Course.{RanBy, RanSome, Took, TookEnough, by_lines, status_of, IsWholeInput};
 ghost use Rattle.stack_answers.specs.Definitions.{AreDefinitions};
 ghost use Rattle.stack_answers.specs.Opening.{opening};
 ghost use Rattle.stack_answers.specs.Answers.{step, finish};
@@ -20,7 +20,7 @@ use std::sync::ledger::Ledger;
 
 /// Opens the views of these names over one another, and answers the lines of the input in turn. Where a call fails or
 /// memory runs out, a front of the answers is there, and what was under way may have broken off.
-#[tactic(auto, using(view_answers::proofs::MaintainLemmas::opening_ended, view_answers::proofs::MaintainLemmas::opening_stopped, view_answers::proofs::MaintainLemmas::opening_drove, view_answers::proofs::MaintainLemmas::ended_enough, view_answers::proofs::MaintainLemmas::some_ended, view_answers::proofs::MaintainLemmas::some_stopped, view_answers::proofs::MaintainLemmas::some_drove, view_answers::proofs::MaintainLemmas::refused_can, view_answers::proofs::MaintainLemmas::stopped_can, view_answers::proofs::MaintainLemmas::ended_whole, run_course::proofs::DriveLemmas::blamed_later, run_course::proofs::DriveLemmas::took_nothing, run_course::proofs::IdleLemmas::idle_drove))]
+#[tactic(auto, using(view_answers::proofs::MaintainLemmas::opening_ended, view_answers::proofs::MaintainLemmas::opening_stopped, view_answers::proofs::MaintainLemmas::opening_drove, view_answers::proofs::MaintainLemmas::ended_enough, view_answers::proofs::MaintainLemmas::some_ended, view_answers::proofs::MaintainLemmas::some_stopped, view_answers::proofs::MaintainLemmas::some_drove, view_answers::proofs::MaintainLemmas::refused_can, view_answers::proofs::MaintainLemmas::stopped_can, view_answers::proofs::MaintainLemmas::ended_whole, course::proofs::DriveLemmas::blamed_later, course::proofs::DriveLemmas::took_nothing, course::proofs::IdleLemmas::idle_drove))]
 pub fn stack<F: Folders, S: Source, K: Sink, L: Ledger>(
     alloc: Global,
     store: &mut F,

@@ -4,8 +4,8 @@ use Rattle.std.specs.List.{AllByRecursion}
 use Rattle.outside.specs.Counts.{risen}
 use Rattle.outside.specs.Streams.{with_bytes}
 use Rattle.outside.specs.Tree.{Tree}
-use Rattle.effects.specs.Effects.{Effect, Write, Remove, Replace, Print, Contents, after, performed}
-use Rattle.effects.proofs.EffectLemmas.{with_more}
+use Rattle.outside.specs.Effects.{Effect, Write, Remove, Replace, Print, Contents, after, performed}
+use Rattle.outside.proofs.EffectLemmas.{with_more}
 use Rattle.source_law.specs.Counted.{tree_by, tree_after, counted}
 use Rattle.upkeep_law.specs.Given.{IsPrint}
 use Rattle.upkeep_law.specs.Promises.{printed_by}

@@ -8,7 +8,7 @@ use Rattle.ss_text.proofs.KeyLemmas.{text_order, equal_itself}
 use Rattle.outside.specs.Tree.{Tree, Place, folder_path, has_folder}
 use Rattle.outside.proofs.TreeLemmas.{kept_made, write_broke_off}
 use Rattle.std.specs.FinMap as map_of
-use Rattle.effects.specs.Effects.{Effect, Write, Remove, Replace, Print}
+use Rattle.outside.specs.Effects.{Effect, Write, Remove, Replace, Print}
 use Rattle.flow_law.specs.declared.shape.Shape.{Shape}
 use Rattle.flow_law.specs.Tables.{TablesValue, table_of}
 use Rattle.view_folder.specs.declared.file.File.{File}

@@ -3,7 +3,7 @@ use Rattle.std.proofs.Common.{◌≡◌, ℕ, suc, zero, List, [], ◌∷◌, �
 use Rattle.std.specs.Prelude.{IsTrue, unwrap_or, option_map}
 use Rattle.std.specs.List.{AllByRecursion}
 use Rattle.std.specs.Option.{option_map_or}
-use Rattle.effects.specs.Effects.{Effect}
+use Rattle.outside.specs.Effects.{Effect}
 use Rattle.schema_model.specs.Changes.{after_all, is_well_formed}
 use Rattle.schema_model.specs.Refusals.{fault, group_fault}
 use Rattle.schema_model.specs.declared.change.Change.{Change}
@@ -11,7 +11,7 @@ use Rattle.change_draft.proofs.DraftLemmas.{accepted_one_more, all_more}
 use Rattle.ss_print.specs.Fields.{open_group_fields}
 use Rattle.ss_print.specs.Printing.{refuses}
 use Rattle.upkeep_law.specs.Given.{IsPrint}
-use Rattle.stack_print.specs.Printing.{names_level}
+use Rattle.ss_print.specs.LevelLines.{names_level}
 use Rattle.stack_levels.specs.declared.refusal.LevelRefusal.{LevelRefusal}
 use Rattle.stack_levels.specs.Levels.{lines_over, changing_refusal}
 use Rattle.stack_levels.specs.Values.{LevelValue}

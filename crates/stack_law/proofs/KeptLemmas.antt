@@ -14,7 +14,7 @@ use Rattle.ss_text.proofs.SetLemmas.{same_ascending}
 use Rattle.outside.specs.Counts.{risen}
 use Rattle.outside.specs.Tree.{Tree, files_of, file_at}
 use Rattle.outside.specs.Whole.{IsWhole}
-use Rattle.effects.specs.Effects.{Effect, Write, Remove, Replace, Print, Stored, Contents, performed}
+use Rattle.outside.specs.Effects.{Effect, Write, Remove, Replace, Print, Stored, Contents, performed}
 use Rattle.schema_model.specs.Catalogue.{CatalogueValue}
 use Rattle.schema_model.specs.Changes.{after_all}
 use Rattle.csv_catalog.specs.Loaded.{loaded}

@@ -12,3 +12,4 @@ pub mod StackedLemmas
 pub mod StageLemmas
 pub mod StopLemmas
 pub mod WithinLemmas
+pub mod OneViewLemmas

@@ -5,16 +5,16 @@ use Rattle.std.specs.List.{AllByRecursion}
 use Rattle.ss_text.specs.Texts.{Text, Row}
 use Rattle.csv_catalog.specs.FileFaults.{first_repeated}
 use Rattle.outside.specs.Tree.{Tree}
-use Rattle.effects.specs.Effects.{Effect, Write, Remove, Replace, Print, World, Contents, contents, after, performed}
+use Rattle.outside.specs.Effects.{Effect, Write, Remove, Replace, Print, World, Contents, contents, after, performed}
 use Rattle.schema_model.specs.Catalogue.{CatalogueValue}
 use Rattle.view_def.specs.Query.{Query}
 use Rattle.course.specs.declared.status.Verdict.{Verdict}
 use Rattle.course.specs.declared.status.Verdict.TheVariants as verdict
 use Rattle.course.specs.Answering.{Continues, ending, follow}
-use Rattle.run_course.specs.declared.status.Status.{Status}
-use Rattle.run_course.specs.Course.{Finished, by_lines, verdict_status, is_refused_status}
-use Rattle.run_course.specs.Idle.{Unchanged}
-use Rattle.run_course.proofs.RefusedLemmas.{same_stored, not_so}
+use Rattle.course.specs.declared.exit.Status.{Status}
+use Rattle.course.specs.Course.{Finished, by_lines, verdict_status, is_refused_status}
+use Rattle.course.specs.Idle.{Unchanged}
+use Rattle.course.proofs.RefusedLemmas.{same_stored, not_so}
 use Rattle.view_stages.specs.Stages.{DefinitionOrRefusal, loaded_or_refused}
 use Rattle.upkeep_law.specs.Given.{IsPrint}
 use Rattle.stack_levels.specs.declared.refusal.LevelRefusal.{LevelRefusal}

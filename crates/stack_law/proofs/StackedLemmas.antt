@@ -6,7 +6,7 @@ use Rattle.std.specs.List.{AllByRecursion}
 use Rattle.ss_text.specs.Texts.{Text, Row}
 use Rattle.outside.specs.Tree.{Tree}
 use Rattle.outside.specs.Whole.{IsWhole}
-use Rattle.effects.specs.Effects.{Effect, World, Stored, Contents, contents, performed}
+use Rattle.outside.specs.Effects.{Effect, World, Stored, Contents, contents, performed}
 use Rattle.schema_model.specs.Catalogue.{CatalogueValue}
 use Rattle.schema_model.specs.Changes.{after_all}
 use Rattle.schema_model.proofs.ReadyLemmas.{same_some}
@@ -20,11 +20,11 @@ use Rattle.view_def.specs.Query.{Query}
 use Rattle.view_def.specs.Profile.{IsViewOfProfile}
 use Rattle.view_folder.specs.Files.{Apart}
 use Rattle.course.specs.Answering.{Ending, Continues, course, follow}
-use Rattle.run_course.specs.declared.status.Status.{Status}
-use Rattle.run_course.specs.declared.status.Status.TheVariants as status
-use Rattle.run_course.specs.Course.{Finished, Did, GaveOut, GaveOutStatus, by_lines, first as first_course, goes_so_far, verdict_status, is_done_status}
-use Rattle.run_course.proofs.RunLemmas.{done_finished}
-use Rattle.run_course.proofs.ToldLemmas.{told_tree, contents_told}
+use Rattle.course.specs.declared.exit.Status.{Status}
+use Rattle.course.specs.declared.exit.Status.TheVariants as status
+use Rattle.course.specs.Course.{Finished, Did, GaveOut, GaveOutStatus, by_lines, first as first_course, goes_so_far, verdict_status, is_done_status}
+use Rattle.course.proofs.RunLemmas.{done_finished}
+use Rattle.course.proofs.ToldLemmas.{told_tree, contents_told}
 use Rattle.view_stages.specs.Places.{Exempt, sources_of}
 use Rattle.view_stages.specs.Stages.{DefinitionOrRefusal, loaded_or_refused}
 use Rattle.view_stages.proofs.PlaceLemmas.{StaysIn, stays_told, at_first_stays, performed_stays}

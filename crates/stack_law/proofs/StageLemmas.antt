@@ -7,8 +7,8 @@ use Rattle.std.specs.List.{list_any}
 use Rattle.std.proofs.lemmas.Bool.{false≢true, true≢false, false_from_ne_true, or_parts}
 use Rattle.ss_text.specs.Texts.{Text, text_eq, is_in}
 use Rattle.outside.specs.Tree.{Tree, Place, folder_path, has_folder}
-use Rattle.effects.specs.Effects.{Effect, Write, Remove, Replace, Print, Stored, Contents, performed, Partly}
-use Rattle.effects.proofs.EffectLemmas.{partly_more}
+use Rattle.outside.specs.Effects.{Effect, Write, Remove, Replace, Print, Stored, Contents, performed, Partly}
+use Rattle.outside.proofs.EffectLemmas.{partly_more}
 use Rattle.schema_model.specs.Catalogue.{CatalogueValue}
 use Rattle.schema_model.specs.declared.pair.Pair.{Pair}
 use Rattle.csv_catalog.specs.Loaded.{label_of}
@@ -24,7 +24,7 @@ use Rattle.source_law.specs.Counted.{tree_after, tree_replaced}
 use Rattle.source_law.proofs.AfterLemmas.{stored_by, stored_after}
 use Rattle.source_law.proofs.FileLemmas.{label_of_file}
 use Rattle.source_law.proofs.NamedLemmas.{same_text}
-use Rattle.run_course.proofs.FrontLemmas.{partly_split}
+use Rattle.course.proofs.FrontLemmas.{partly_split}
 use Rattle.view_stages.specs.Between.{IsBrokenBy, IsBetween, AllOrNothing}
 use Rattle.view_stages.specs.Places.{Exempt, CsvFiles, OthersStay}
 use Rattle.view_stages.proofs.PlaceLemmas.{AllWithin, stays_told, performed_stays}

@@ -5,7 +5,7 @@ use Rattle.std.specs.List.{list_any}
 use Rattle.std.specs.Option.{option_map_or}
 use Rattle.ss_text.specs.Texts.{Text, Row, is_in}
 use Rattle.outside.specs.Tree.{Tree, files_of}
-use Rattle.effects.specs.Effects.{Effect, Stored, Contents, performed, Partly}
+use Rattle.outside.specs.Effects.{Effect, Stored, Contents, performed, Partly}
 use Rattle.schema_model.specs.Catalogue.{CatalogueValue}
 use Rattle.schema_model.specs.declared.change.Change.{Change}
 use Rattle.csv_catalog.specs.FileFaults.{first_repeated}
@@ -15,8 +15,8 @@ use Rattle.view_folder.specs.Files.{view_folder, Apart}
 use Rattle.view_folder.specs.Sync.{opening_sync, later_sync}
 use Rattle.source_law.proofs.AfterLemmas.{stored_by, stored_after}
 use Rattle.course.specs.Answering.{Ending}
-use Rattle.run_course.specs.Course.{by_lines}
-use Rattle.run_course.proofs.FrontLemmas.{partly_split}
+use Rattle.course.specs.Course.{by_lines}
+use Rattle.course.proofs.FrontLemmas.{partly_split}
 use Rattle.ss_print.specs.Printing.{prints_synced}
 use Rattle.view_stages.specs.Places.{Exempt, CsvFiles}
 use Rattle.view_stages.specs.Stages.{DefinitionOrRefusal, loaded_or_refused, files_of_view}

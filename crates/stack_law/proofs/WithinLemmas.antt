@@ -8,7 +8,7 @@ use Rattle.ss_text.specs.Texts.{Text, Row, text_eq, is_in}
 use Rattle.outside.specs.Tree.{Tree}
 use Rattle.outside.specs.declared.edit.Edit.{Edit}
 use Rattle.outside.specs.declared.edit.Edit.TheVariants as edit
-use Rattle.effects.specs.Effects.{Effect, Write, Remove, Replace, Print}
+use Rattle.outside.specs.Effects.{Effect, Write, Remove, Replace, Print}
 use Rattle.schema_model.specs.Catalogue.{CatalogueValue}
 use Rattle.csv_catalog.specs.FileFaults.{first_repeated}
 use Rattle.csv_catalog.specs.Saved.{saved}
@@ -17,7 +17,7 @@ use Rattle.view_folder.specs.Files.{view_folder}
 use Rattle.source_law.specs.Synced.{Synced, unsaved}
 use Rattle.source_law.proofs.NamedLemmas.{same_text}
 use Rattle.course.specs.Answering.{Reply, Continues, course}
-use Rattle.run_course.specs.Course.{by_lines, goes_so_far}
+use Rattle.course.specs.Course.{by_lines, goes_so_far}
 use Rattle.view_stages.specs.Open.{OpenValue}
 use Rattle.view_stages.specs.Places.{Exempt, CsvFiles, is_exempt, is_exempt_folder, sources_of}
 use Rattle.view_stages.specs.Stages.{DefinitionOrRefusal, loaded_or_refused}

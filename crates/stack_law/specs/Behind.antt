@@ -1,6 +1,6 @@
 -- The stages of a stack behind its opening.
 use Rattle.std.specs.Prelude.{ℕ, List, [], ◌∷◌, ◌++◌, map}
-use Rattle.effects.specs.Effects.{Effect}
+use Rattle.outside.specs.Effects.{Effect}
 use Rattle.course.specs.Answering.{Reply, Continues, Finishes}
 use Rattle.stack_answers.specs.Stack.{StackState}
 use Rattle.stack_answers.specs.Answers.{Answer, finish}

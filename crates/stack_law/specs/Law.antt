@@ -5,9 +5,9 @@ use Rattle.ss_text.specs.Texts.{Text}
 use Rattle.tab_lines.specs.Lines.{lines_of}
 use Rattle.outside.specs.Tree.{Tree}
 use Rattle.outside.specs.Whole.{IsWhole}
-use Rattle.effects.specs.Effects.{World}
-use Rattle.run_course.specs.declared.status.Status.{Status}
-use Rattle.run_course.specs.Course.{Did, GaveOutStatus, by_lines, is_done_status}
+use Rattle.outside.specs.Effects.{World}
+use Rattle.course.specs.declared.exit.Status.{Status}
+use Rattle.course.specs.Course.{Did, GaveOutStatus, by_lines, is_done_status}
 use Rattle.view_stages.specs.Stages.{DefinitionOrRefusal}
 use Rattle.view_stages.specs.Opening.{IsDefinition, definition_bytes}
 use Rattle.stack_answers.specs.Answers.{step, finish}

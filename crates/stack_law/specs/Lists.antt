@@ -1,7 +1,7 @@
 -- What answers of a stack come to that are given one after the other.
 use Rattle.std.specs.Prelude.{ℕ, ◌+◌, List, [], ◌∷◌, ◌++◌}
 use Rattle.outside.specs.Tree.{Tree}
-use Rattle.effects.specs.Effects.{Effect, Replace}
+use Rattle.outside.specs.Effects.{Effect, Replace}
 use Rattle.schema_model.specs.declared.change.Change.{Change}
 use Rattle.source_law.specs.Counted.{counted, tree_after}
 use Rattle.source_law.specs.Synced.{Synced}

@@ -5,7 +5,7 @@ use Rattle.tab_lines.specs.Lines.{whole_lines}
 use Rattle.outside.specs.Counts.{risen}
 use Rattle.outside.specs.Streams.{with_bytes}
 use Rattle.outside.specs.Tree.{Tree}
-use Rattle.effects.specs.Effects.{Effect, World}
+use Rattle.outside.specs.Effects.{Effect, World}
 use Rattle.schema_model.specs.Catalogue.{CatalogueValue}
 use Rattle.schema_model.specs.Changes.{after_all}
 use Rattle.csv_catalog.specs.FileFaults.{first_repeated}
@@ -19,12 +19,12 @@ use Rattle.source_law.specs.Counted.{tree_after}
 use Rattle.source_law.specs.Synced.{Synced, unsaved, SourcesHold}
 use Rattle.course.specs.Answering.{Reply, Continues, Finishes, follow}
 use Rattle.ss_print.specs.Printing.{prints_synced}
-use Rattle.run_course.specs.declared.status.Status.{Status}
-use Rattle.run_course.specs.Course.{verdict_status}
+use Rattle.course.specs.declared.exit.Status.{Status}
+use Rattle.course.specs.Course.{verdict_status}
 use Rattle.view_stages.specs.Places.{Exempt, CsvFiles, OthersStay, sources_of}
 use Rattle.view_stages.specs.Stages.{DefinitionOrRefusal, loaded_or_refused, files_of_view}
 use Rattle.upkeep_law.specs.Promises.{printed_by}
-use Rattle.stack_print.specs.Printing.{prints_scripts}
+use Rattle.ss_print.specs.LevelLines.{prints_scripts}
 use Rattle.stack_levels.specs.Levels.{given_by, lines_over, opening_refusal, changing_refusal}
 use Rattle.stack_answers.specs.Stack.{StackState, stack_at_first}
 use Rattle.stack_answers.specs.Answers.{Answer, by_open, end_stack, syncing, step, finish}

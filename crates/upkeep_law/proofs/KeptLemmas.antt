@@ -15,8 +15,8 @@ use Rattle.outside.specs.Streams.{with_bytes}
 use Rattle.outside.specs.Tree.{Tree, Place, place_cmp, files_of}
 use Rattle.outside.specs.Whole.{IsWhole}
 use Rattle.outside.specs.WholeLaw.{is_eq_true, place_exact}
-use Rattle.effects.specs.Effects.{Effect, Write, Remove, Replace, Print, Stored, Contents, performed}
-use Rattle.effects.proofs.EffectLemmas.{performed_append, with_more}
+use Rattle.outside.specs.Effects.{Effect, Write, Remove, Replace, Print, Stored, Contents, performed}
+use Rattle.outside.proofs.EffectLemmas.{performed_append, with_more}
 use Rattle.schema_model.specs.Catalogue.{CatalogueValue}
 use Rattle.schema_model.specs.declared.change.Change.{Change}
 use Rattle.schema_model.specs.Changes.{after, after_all, is_well_formed}

@@ -4,7 +4,7 @@ use Rattle.std.specs.Prelude.{IsTrue, unwrap_or}
 use Rattle.std.specs.List.{AllByRecursion}
 use Rattle.std.specs.Option.{option_map_or, option_or}
 use Rattle.ss_text.specs.Texts.{Row}
-use Rattle.effects.specs.Effects.{Effect, Print}
+use Rattle.outside.specs.Effects.{Effect, Print}
 use Rattle.schema_model.specs.Catalogue.{CatalogueValue}
 use Rattle.schema_model.specs.Changes.{after_all, is_well_formed}
 use Rattle.schema_model.specs.Refusals.{group_fault}

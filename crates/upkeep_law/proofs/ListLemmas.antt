@@ -1,6 +1,6 @@
 -- Answers that are given behind others.
 use Rattle.std.proofs.Common.{◌≡◌, Bool, List, [], ◌∷◌, ◌++◌, refl, sym, ap, ◌∙◌, append_assoc}
-use Rattle.effects.specs.Effects.{Effect}
+use Rattle.outside.specs.Effects.{Effect}
 use Rattle.schema_model.specs.Catalogue.{CatalogueValue}
 use Rattle.source_law.specs.Synced.{Synced}
 use Rattle.view_stages.specs.Open.{OpenValue}

@@ -4,7 +4,7 @@ use Rattle.std.specs.Prelude.{Result, Ok, Err}
 use Rattle.ss_text.specs.Texts.{Text, Row}
 use Rattle.outside.specs.Tree.{Tree}
 use Rattle.outside.specs.Whole.{IsWhole}
-use Rattle.effects.specs.Effects.{Effect, World, contents, performed}
+use Rattle.outside.specs.Effects.{Effect, World, contents, performed}
 use Rattle.schema_model.specs.Catalogue.{CatalogueValue}
 use Rattle.schema_model.proofs.ReadyLemmas.{same_some}
 use Rattle.source_law.specs.Synced.{Synced, unsaved}
@@ -13,10 +13,10 @@ use Rattle.view_def.specs.Query.{Query}
 use Rattle.view_def.specs.Profile.{IsViewOfProfile}
 use Rattle.view_session.specs.Session.{opened}
 use Rattle.course.specs.Answering.{Ending, Continues, course, follow}
-use Rattle.run_course.specs.declared.status.Status.{Status}
-use Rattle.run_course.specs.declared.status.Status.TheVariants as status
-use Rattle.run_course.specs.Course.{Finished, Did, GaveOut, GaveOutStatus, by_lines, first as first_course, goes_so_far, verdict_status, is_done_status}
-use Rattle.run_course.proofs.RunLemmas.{done_finished}
+use Rattle.course.specs.declared.exit.Status.{Status}
+use Rattle.course.specs.declared.exit.Status.TheVariants as status
+use Rattle.course.specs.Course.{Finished, Did, GaveOut, GaveOutStatus, by_lines, first as first_course, goes_so_far, verdict_status, is_done_status}
+use Rattle.course.proofs.RunLemmas.{done_finished}
 use Rattle.view_stages.specs.Open.{OpenValue, just_opened}
 use Rattle.view_stages.specs.Stages.{DefinitionOrRefusal, Accepted, loaded_or_refused, refusal_of}
 use Rattle.view_stages.specs.Opening.{IsDefinition, definition_bytes, opening, with_catalogue, with_view}

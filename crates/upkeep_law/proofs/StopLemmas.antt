@@ -4,15 +4,15 @@ use Rattle.std.specs.Prelude.{Result, Ok, Err}
 use Rattle.std.specs.List.{AllByRecursion}
 use Rattle.ss_text.specs.Texts.{Text, Row}
 use Rattle.outside.specs.Tree.{Tree, Place, files_of}
-use Rattle.effects.specs.Effects.{Effect, Write, Remove, Replace, Print, Stored, Contents, performed, Partly}
+use Rattle.outside.specs.Effects.{Effect, Write, Remove, Replace, Print, Stored, Contents, performed, Partly}
 use Rattle.schema_model.specs.Catalogue.{CatalogueValue}
 use Rattle.schema_model.specs.Sound.{IsSound}
 use Rattle.view_session.specs.Session.{opened}
 use Rattle.source_law.proofs.AfterLemmas.{stored_by, stored_after}
 use Rattle.source_law.proofs.LoadedLemmas.{sound_loaded}
 use Rattle.course.specs.Answering.{Ending}
-use Rattle.run_course.specs.Course.{by_lines}
-use Rattle.run_course.proofs.FrontLemmas.{partly_split}
+use Rattle.course.specs.Course.{by_lines}
+use Rattle.course.proofs.FrontLemmas.{partly_split}
 use Rattle.view_stages.specs.Open.{OpenValue, just_opened}
 use Rattle.view_stages.specs.Stages.{Accepted, loaded_or_refused, refusal_of, files_of_view}
 use Rattle.view_stages.specs.Opening.{with_catalogue, with_view, opening_effects}

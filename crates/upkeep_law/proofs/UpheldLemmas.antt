@@ -4,7 +4,7 @@ use Rattle.std.specs.Prelude.{Result, Ok, Err}
 use Rattle.ss_text.specs.Texts.{Row}
 use Rattle.outside.specs.Streams.{with_bytes}
 use Rattle.outside.specs.Tree.{Tree, files_of}
-use Rattle.effects.specs.Effects.{Effect, World, Stored, Contents, contents, performed}
+use Rattle.outside.specs.Effects.{Effect, World, Stored, Contents, contents, performed}
 use Rattle.csv_catalog.specs.Loaded.{loaded}
 use Rattle.csv_catalog.specs.declared.fault.LoadFault.{LoadFault}
 use Rattle.schema_model.specs.Catalogue.{CatalogueValue}
@@ -16,7 +16,7 @@ use Rattle.view_folder.specs.Files.{view_folder}
 use Rattle.view_folder.specs.TableFiles.{table_files}
 use Rattle.view_folder.specs.Sync.{Holds}
 use Rattle.view_folder.specs.declared.file.File.{File}
-use Rattle.run_course.proofs.ToldLemmas.{told_tree, contents_told}
+use Rattle.course.proofs.ToldLemmas.{told_tree, contents_told}
 use Rattle.view_stages.specs.Open.{OpenValue, just_opened}
 use Rattle.view_stages.specs.Places.{Exempt, CsvFiles, sources_of}
 use Rattle.view_stages.specs.Stages.{by_loading, loaded_or_refused, files_of_view}

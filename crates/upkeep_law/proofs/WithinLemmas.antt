@@ -4,7 +4,7 @@ use Rattle.std.specs.Prelude.{Result, Ok, Err}
 use Rattle.std.specs.List.{AllByRecursion}
 use Rattle.ss_text.specs.Texts.{Text, Row}
 use Rattle.outside.specs.Tree.{Tree, files_of}
-use Rattle.effects.specs.Effects.{Effect, Write, Remove, Replace, Print}
+use Rattle.outside.specs.Effects.{Effect, Write, Remove, Replace, Print}
 use Rattle.schema_model.specs.Catalogue.{CatalogueValue}
 use Rattle.source_law.specs.Synced.{Synced, unsaved}
 use Rattle.view_def.specs.Query.{Query}
@@ -13,7 +13,7 @@ use Rattle.view_folder.specs.Files.{view_folder}
 use Rattle.view_folder.specs.Sync.{later_sync}
 use Rattle.view_session.specs.Session.{opened, tables_of}
 use Rattle.course.specs.Answering.{Reply, Continues, course}
-use Rattle.run_course.specs.Course.{by_lines, goes_so_far}
+use Rattle.course.specs.Course.{by_lines, goes_so_far}
 use Rattle.view_stages.specs.Open.{OpenValue, just_opened}
 use Rattle.view_stages.specs.Places.{Exempt, CsvFiles, sources_of}
 use Rattle.view_stages.specs.Stages.{Accepted, refusal_of, files_of_view}

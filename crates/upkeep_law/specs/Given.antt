@@ -2,7 +2,7 @@
 use Rattle.std.specs.Prelude.{◌≡◌, Bool, true, false, List, [], ◌∷◌, None, IsTrue}
 use Rattle.std.specs.List.{AllByRecursion}
 use Rattle.outside.specs.Tree.{Tree}
-use Rattle.effects.specs.Effects.{Effect, Print}
+use Rattle.outside.specs.Effects.{Effect, Print}
 use Rattle.schema_model.specs.declared.change.Change.{Change}
 use Rattle.schema_model.specs.Changes.{after_all, is_well_formed}
 use Rattle.schema_model.specs.Refusals.{group_fault}

@@ -4,15 +4,15 @@ use Rattle.ss_text.specs.Texts.{Text}
 use Rattle.tab_lines.specs.Lines.{lines_of}
 use Rattle.outside.specs.Tree.{Tree}
 use Rattle.outside.specs.Whole.{IsWhole}
-use Rattle.effects.specs.Effects.{World, contents, performed}
+use Rattle.outside.specs.Effects.{World, contents, performed}
 use Rattle.schema_model.specs.Catalogue.{CatalogueValue}
 use Rattle.view_def.specs.Profile.{IsViewOfProfile}
 use Rattle.view_def.specs.Query.{Query}
 use Rattle.valuation_meaning.specs.Meaning.{meaning}
 use Rattle.source_law.specs.Synced.{unsaved}
 use Rattle.view_session.specs.Session.{SessionState, tables_of, lines_to}
-use Rattle.run_course.specs.declared.status.Status.{Status}
-use Rattle.run_course.specs.Course.{Did, GaveOutStatus, by_lines, is_done_status}
+use Rattle.course.specs.declared.exit.Status.{Status}
+use Rattle.course.specs.Course.{Did, GaveOutStatus, by_lines, is_done_status}
 use Rattle.view_stages.specs.Open.{just_opened}
 use Rattle.view_stages.specs.Stages.{DefinitionOrRefusal, loaded_or_refused, refusal_of}
 use Rattle.view_stages.specs.Opening.{IsDefinition, definition_bytes, opening}

@@ -1,7 +1,7 @@
 -- What answers come to that are given one after the other.
 use Rattle.std.specs.Prelude.{Bool, true, ℕ, ◌+◌, List, [], ◌∷◌, ◌++◌}
 use Rattle.outside.specs.Tree.{Tree}
-use Rattle.effects.specs.Effects.{Effect}
+use Rattle.outside.specs.Effects.{Effect}
 use Rattle.schema_model.specs.Catalogue.{CatalogueValue}
 use Rattle.view_session.specs.Session.{SessionState}
 use Rattle.source_law.specs.Counted.{tree_after}

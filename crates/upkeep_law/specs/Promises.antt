@@ -5,7 +5,7 @@ use Rattle.tab_lines.specs.Lines.{whole_lines}
 use Rattle.outside.specs.Counts.{risen}
 use Rattle.outside.specs.Streams.{with_bytes}
 use Rattle.outside.specs.Tree.{Tree, files_of}
-use Rattle.effects.specs.Effects.{Effect, Print, World}
+use Rattle.outside.specs.Effects.{Effect, Print, World}
 use Rattle.schema_model.specs.Catalogue.{CatalogueValue}
 use Rattle.view_def.specs.Query.{Query}
 use Rattle.view_folder.specs.Files.{view_folder}
@@ -20,8 +20,8 @@ use Rattle.source_law.specs.Counted.{tree_after}
 use Rattle.source_law.specs.Synced.{Synced, unsaved, synced, SourcesHold}
 use Rattle.flow_law.specs.Lines.{after_lines, fit_lines}
 use Rattle.course.specs.Answering.{Reply, Continues, Finishes, follow}
-use Rattle.run_course.specs.declared.status.Status.{Status}
-use Rattle.run_course.specs.Course.{verdict_status}
+use Rattle.course.specs.declared.exit.Status.{Status}
+use Rattle.course.specs.Course.{verdict_status}
 use Rattle.view_stages.specs.Open.{OpenValue, just_opened}
 use Rattle.view_stages.specs.Opening.{opening_effects}
 use Rattle.view_stages.specs.Places.{Exempt, CsvFiles, OthersStay, sources_of}

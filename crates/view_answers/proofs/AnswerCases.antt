@@ -3,7 +3,7 @@ use Rattle.std.proofs.Common.{◌≡◌, ℕ, suc, zero, Bool, true, false, ◌=
 use Rattle.std.specs.Prelude.{Result, Ok, Err, IsTrue, is_some, unwrap_or, if◌then◌else◌}
 use Rattle.std.specs.Option.{option_map_or}
 use Rattle.ss_text.specs.Texts.{Row}
-use Rattle.effects.specs.Effects.{Effect}
+use Rattle.outside.specs.Effects.{Effect}
 use Rattle.tab_lines.specs.Spelling.{unspell}
 use Rattle.schema_model.specs.Changes.{after, after_all, is_well_formed}
 use Rattle.schema_model.specs.Refusals.{fault}

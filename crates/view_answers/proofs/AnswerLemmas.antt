@@ -7,9 +7,9 @@ use Rattle.ss_text.specs.Texts.{Text, Row}
 use Rattle.tab_lines.specs.Spelling.{unspell, IsUnspelled}
 use Rattle.tab_lines.specs.declared.spelling.LineFault.{LineFault}
 use Rattle.tab_lines.specs.declared.spelling.LineFault.TheVariants.{BadEscape}
-use Rattle.effects.specs.Effects.{Effect, World, contents, performed, Does, Replace}
-use Rattle.effects.proofs.EffectLemmas.{performed_append, partly_later}
-use Rattle.effects.specs.declared.stop.Stop.{Stop}
+use Rattle.outside.specs.Effects.{Effect, World, contents, performed, Does, Replace}
+use Rattle.outside.proofs.EffectLemmas.{performed_append, partly_later}
+use Rattle.outside.specs.declared.stop.Stop.{Stop}
 use Rattle.schema_model.specs.Changes.{after, after_all}
 use Rattle.schema_model.specs.Refusals.{fault}
 use Rattle.schema_model.specs.Reading.{Read, IsAnswer, change_of}

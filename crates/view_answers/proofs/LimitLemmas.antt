@@ -1,6 +1,6 @@
 -- The steps of a run behind its opening, whatever the machine.
 use Rattle.std.proofs.Common.{◌≡◌, ℕ, List, [], Option, ap, ◌∙◌, arith}
-use Rattle.effects.specs.Effects.{World}
+use Rattle.outside.specs.Effects.{World}
 use Rattle.course.specs.Answering.{Reply, Continues, Finishes}
 use Rattle.course.specs.Answering as lines
 use Rattle.view_answers.specs.Steps.{Begins}

@@ -1,10 +1,10 @@
 -- From an opening and the answers behind it to a run, whatever the machine; and to a run of `maintain`.
 use Rattle.std.proofs.Common.{◌≡◌, ◌≢◌, ℕ, Bool, true, false, List, [], ◌∷◌, ◌++◌, Option, Some, refl, sym, ap, ◌∙◌, subst}
 use Rattle.std.specs.Prelude.{Result, Ok, Err, IfOk, IfErr, if◌then◌else◌}
-use Rattle.effects.specs.Effects.{Effect, World, contents, Partly}
-use Rattle.effects.specs.declared.stop.Stop.{Stop}
-use Rattle.effects.specs.declared.stop.Stop.TheVariants as stop
-use Rattle.effects.proofs.EffectLemmas.{partly_more}
+use Rattle.outside.specs.Effects.{Effect, World, contents, Partly}
+use Rattle.outside.specs.declared.stop.Stop.{Stop}
+use Rattle.outside.specs.declared.stop.Stop.TheVariants as stop
+use Rattle.outside.proofs.EffectLemmas.{partly_more}
 use Rattle.tab_lines.specs.Lines.{lines_of}
 use Rattle.course.specs.declared.status.Verdict.{Verdict}
 use Rattle.course.specs.declared.status.Verdict.TheVariants as verdict
@@ -12,9 +12,9 @@ use Rattle.course.specs.declared.status.Halt.{Halt}
 use Rattle.course.specs.declared.status.Halt.TheVariants as halt
 use Rattle.course.specs.Answering.{Reply, Continues, Finishes, Ending, effects_of, prefixed, ending, follow, course, Ran, AnsweredSome, EndedOver, IsReadOut, is_too_long}
 use Rattle.course.specs.Answering as lines
-use Rattle.run_course.specs.Statuses.{can_maintain}
-use Rattle.run_course.specs.Course.{RanBy, RanSome, Took, TookEnough, by_lines, verdict_status, status_of, is_refused_status, IsWholeInput}
-use Rattle.run_course.proofs.DriveLemmas.{went_on, ended_later, took_behind, enough_behind}
+use Rattle.course.specs.Statuses.{can_maintain}
+use Rattle.course.specs.Course.{RanBy, RanSome, Took, TookEnough, by_lines, verdict_status, status_of, is_refused_status, IsWholeInput}
+use Rattle.course.proofs.DriveLemmas.{went_on, ended_later, took_behind, enough_behind}
 use Rattle.view_stages.specs.Open.{OpenValue}
 use Rattle.view_answers.specs.declared.opening.Opened.TheVariants as opened_as
 use Rattle.view_answers.specs.Steps.{Begins, EndsRun, IsRefusal, starting}

@@ -2,9 +2,9 @@
 use Rattle.std.proofs.Common.{◌≡◌, ◌∙◌, [], Option, None, Some, Result, Ok, Err, sym, ap, subst}
 use Rattle.ss_text.specs.Texts.{Row}
 use Rattle.outside.specs.Tree.{Tree}
-use Rattle.effects.specs.Effects.{World, Contents, contents, performed, Partly}
-use Rattle.effects.specs.declared.stop.Stop.{Stop}
-use Rattle.effects.proofs.EffectLemmas.{partly_more}
+use Rattle.outside.specs.Effects.{World, Contents, contents, performed, Partly}
+use Rattle.outside.specs.declared.stop.Stop.{Stop}
+use Rattle.outside.proofs.EffectLemmas.{partly_more}
 use Rattle.course.specs.Answering.{Reply, Continues, Finishes}
 use Rattle.schema_model.specs.Catalogue.{CatalogueValue}
 use Rattle.view_def.specs.Query.{Query}

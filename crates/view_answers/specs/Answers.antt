@@ -4,7 +4,7 @@ use Rattle.std.specs.Option.{option_map_or}
 use Rattle.ss_text.specs.Texts.{Text, Row, text_eq}
 use Rattle.schema_model.specs.Catalogue.{CatalogueValue}
 use Rattle.tab_lines.specs.Spelling.{unspell}
-use Rattle.effects.specs.Effects.{Effect}
+use Rattle.outside.specs.Effects.{Effect}
 use Rattle.schema_model.specs.Changes.{after}
 use Rattle.schema_model.specs.Refusals.{fault}
 use Rattle.schema_model.specs.Reading.{change_of}

@@ -3,8 +3,8 @@ use Rattle.std.specs.Prelude.{◌≡◌, true, Option, None, Some, Result, Ok, E
 use Rattle.ss_text.specs.Texts.{Row}
 use Rattle.schema_model.specs.Catalogue.{CatalogueValue}
 use Rattle.view_def.specs.Query.{Query}
-use Rattle.effects.specs.Effects.{World, contents, performed, Partly}
-use Rattle.effects.specs.declared.stop.Stop.{Stop}
+use Rattle.outside.specs.Effects.{World, contents, performed, Partly}
+use Rattle.outside.specs.declared.stop.Stop.{Stop}
 use Rattle.course.specs.Answering.{Reply, Continues, Finishes, effects_of}
 use Rattle.course.specs.declared.status.Verdict.{Verdict}
 use Rattle.schema_model.specs.declared.change.Change.{Change}
@@ -15,7 +15,7 @@ use Rattle.view_session.specs.declared.fault.HoldRefused.TheVariants as hold
 use Rattle.view_session.specs.declared.fault.Refused.{Refused}
 use Rattle.view_session.specs.declared.fault.Refused.TheVariants as refused
 use Rattle.ss_print.specs.Fields.{refusal_fields, illegal_fields, clash_fields}
-use Rattle.run_course.specs.Course.{verdict_status, is_refused_status}
+use Rattle.course.specs.Course.{verdict_status, is_refused_status}
 use Rattle.view_stages.specs.Open.{OpenValue, just_opened}
 use Rattle.view_answers.specs.declared.opening.Viewing.{Viewing}
 use Rattle.view_answers.specs.declared.opening.Viewing.TheVariants as viewing

@@ -1,6 +1,6 @@
 //! The command `maintain`.
 ghost use Rattle.std.specs.Prelude.{◌≡◌, ◌≤◌, true, false, List, ℕ, Some, IfOk, IfErr};
-ghost use Rattle.effects.specs.Effects.{world_of};
+ghost use Rattle.outside.specs.Effects.{world_of};
 ghost use Rattle.outside.specs.Tree.{Tree};
 ghost use Rattle.tab_lines.specs.Lines.{lines_of};
 ghost use Rattle.course.specs.Answering.{BlamesRun, is_too_long};
@@ -8,9 +8,9 @@ ghost use Rattle.view_stages.specs.Stages.{DefinitionOrRefusal};
 ghost use Rattle.view_stages.specs.Opening.{IsDefinition, definition_bytes, opening};
 ghost use Rattle.view_answers.specs.Answers.{step, finish};
 ghost use Rattle.view_answers.specs.Limits.{StepsBehind};
-ghost use Rattle.run_course.specs.Statuses.{can_maintain};
-ghost use Rattle.run_course.specs.Idle.{IdleRun};
-ghost use Rattle.run_course.specs.Course.{RanBy, RanSome, Took, TookEnough, by_lines, status_of, IsWholeInput};
+ghost use Rattle.course.specs.Statuses.{can_maintain};
+ghost use Rattle.course.specs.Idle.{IdleRun};
+ghost use Rattle.course.specs.Course.{RanBy, RanSome, Took, TookEnough, by_lines, status_of, IsWholeInput};
 
 use crate::opening::{Opened, open};
 use course::{Halt, NoDisk, Verdict, answer_lines};
@@ -21,7 +21,7 @@ use std::sync::ledger::Ledger;
 
 /// Opens the view of this name, and answers the lines of the input in turn. Where a call fails or memory runs out, a
 /// front of the answers is there, and what was under way may have broken off.
-#[tactic(auto, using(crate::proofs::MaintainLemmas::opening_ended, crate::proofs::MaintainLemmas::opening_stopped, crate::proofs::MaintainLemmas::opening_drove, crate::proofs::MaintainLemmas::drove_whole, crate::proofs::MaintainLemmas::ended_whole, crate::proofs::MaintainLemmas::ended_enough, run_course::proofs::DriveLemmas::blamed_later, crate::proofs::MaintainLemmas::some_ended, crate::proofs::MaintainLemmas::some_stopped, crate::proofs::MaintainLemmas::some_drove, run_course::proofs::DriveLemmas::took_nothing, crate::proofs::MaintainLemmas::refused_can, crate::proofs::MaintainLemmas::stopped_can, run_course::proofs::IdleLemmas::idle_drove))]
+#[tactic(auto, using(crate::proofs::MaintainLemmas::opening_ended, crate::proofs::MaintainLemmas::opening_stopped, crate::proofs::MaintainLemmas::opening_drove, crate::proofs::MaintainLemmas::drove_whole, crate::proofs::MaintainLemmas::ended_whole, crate::proofs::MaintainLemmas::ended_enough, course::proofs::DriveLemmas::blamed_later, crate::proofs::MaintainLemmas::some_ended, crate::proofs::MaintainLemmas::some_stopped, crate::proofs::MaintainLemmas::some_drove, course::proofs::DriveLemmas::took_nothing, crate::proofs::MaintainLemmas::refused_can, crate::proofs::MaintainLemmas::stopped_can, course::proofs::IdleLemmas::idle_drove))]
 pub fn maintain<F: Folders, S: Source, K: Sink, L: Ledger>(
     alloc: Global,
     store: &mut F,

@@ -1,20 +1,19 @@
 //! Opens a view.
 ghost use Rattle.std.specs.Prelude.{◌≡◌, ◌≤◌, ◌∷◌, [], List, Some, IfOk};
-ghost use Rattle.effects.specs.Effects.{world_of};
+ghost use Rattle.outside.specs.Effects.{world_of};
 ghost use Rattle.outside.specs.Tree.{Tree};
-ghost use Rattle.effects.specs.Blame.{Blames};
+ghost use Rattle.outside.specs.Blame.{Blames};
 ghost use Rattle.view_def.specs.Query.{query_of};
 ghost use Rattle.view_stages.specs.Stages.{refusal_of, loaded_or_refused};
 ghost use Rattle.view_stages.specs.Stages.{DefinitionOrRefusal};
 ghost use Rattle.view_stages.specs.Opening.{IsDefinition, definition_bytes, opening, with_catalogue, with_view};
 ghost use Rattle.view_answers.specs.Steps.{Opens, Views, IsFaultFieldsOf, IsFresh, IsRefusal};
-ghost use Rattle.run_course.specs.Idle.{IdleUnread};
+ghost use Rattle.course.specs.Idle.{IdleUnread};
 
 use crate::view::OpenView;
 use course::Verdict;
-use effects::Stop;
 use flow_law::EvalFault;
-use outside::{Folders, Sink};
+use outside::{Folders, Sink, Stop};
 use schema_model::Catalogue;
 use ss_print::{clash_fields, illegal_fields, refuse};
 use ss_text::{NoMemory, Row, Steps, Text};
@@ -38,7 +37,7 @@ pub enum Viewing {
 }
 
 /// Opens the view of this name: reads what it stands on, writes its folder and prints that it did.
-#[tactic(auto, using(effects::proofs::Following::following, crate::proofs::OpeningLemmas::nothing_opened, outside::proofs::ReadingLemmas::only_read_then, outside::proofs::ReadingLemmas::only_read_nothing, run_course::proofs::IdleLemmas::idle_read, run_course::proofs::IdleLemmas::idle_print, run_course::proofs::IdleLemmas::idle_later))]
+#[tactic(auto, using(outside::proofs::Following::following, crate::proofs::OpeningLemmas::nothing_opened, outside::proofs::ReadingLemmas::only_read_then, outside::proofs::ReadingLemmas::only_read_nothing, course::proofs::IdleLemmas::idle_read, course::proofs::IdleLemmas::idle_print, course::proofs::IdleLemmas::idle_later))]
 pub fn open<F: Folders, K: Sink, L: Ledger>(
     alloc: Global,
     store: &mut F,
@@ -68,7 +67,7 @@ pub fn open<F: Folders, K: Sink, L: Ledger>(
 }
 
 // Opens a view over the source relations.
-#[tactic(auto, using(effects::proofs::Following::following, crate::proofs::OpeningLemmas::nothing_opened, outside::proofs::ReadingLemmas::only_read_then, outside::proofs::ReadingLemmas::only_read_nothing, run_course::proofs::IdleLemmas::idle_read, run_course::proofs::IdleLemmas::idle_print, run_course::proofs::IdleLemmas::idle_later))]
+#[tactic(auto, using(outside::proofs::Following::following, crate::proofs::OpeningLemmas::nothing_opened, outside::proofs::ReadingLemmas::only_read_then, outside::proofs::ReadingLemmas::only_read_nothing, course::proofs::IdleLemmas::idle_read, course::proofs::IdleLemmas::idle_print, course::proofs::IdleLemmas::idle_later))]
 fn open_view<F: Folders, K: Sink, L: Ledger>(
     alloc: Global,
     store: &mut F,
@@ -99,7 +98,7 @@ fn open_view<F: Folders, K: Sink, L: Ledger>(
 }
 
 // Opens a view over a catalogue.
-#[tactic(auto, using(effects::proofs::Following::following, crate::proofs::OpeningLemmas::nothing_opened, crate::proofs::OpeningLemmas::views_fresh, outside::proofs::ReadingLemmas::only_read_then, outside::proofs::ReadingLemmas::only_read_nothing, run_course::proofs::IdleLemmas::idle_read, run_course::proofs::IdleLemmas::idle_print, run_course::proofs::IdleLemmas::idle_later))]
+#[tactic(auto, using(outside::proofs::Following::following, crate::proofs::OpeningLemmas::nothing_opened, crate::proofs::OpeningLemmas::views_fresh, outside::proofs::ReadingLemmas::only_read_then, outside::proofs::ReadingLemmas::only_read_nothing, course::proofs::IdleLemmas::idle_read, course::proofs::IdleLemmas::idle_print, course::proofs::IdleLemmas::idle_later))]
 fn open_session<F: Folders, K: Sink, L: Ledger>(
     alloc: Global,
     store: &mut F,

@@ -4,9 +4,9 @@ ghost use Rattle.std.specs.List.{list_any};
 ghost use Rattle.std.specs.List.Sorted.{IsStrictlySortedBy};
 ghost use Rattle.ss_text.specs.Texts.{is_in, text_cmp};
 ghost use Rattle.tab_lines.specs.Lines.{has_feed};
-ghost use Rattle.effects.specs.Effects.{Does, world_of};
-ghost use Rattle.effects.specs.Blame.{Blames, SinkBlames};
-ghost use Rattle.effects.specs.Performing.{Performs};
+ghost use Rattle.outside.specs.Effects.{Does, world_of};
+ghost use Rattle.outside.specs.Blame.{Blames, SinkBlames};
+ghost use Rattle.outside.specs.Performing.{Performs};
 ghost use Rattle.schema_model.specs.Changes.{is_well_formed};
 ghost use Rattle.schema_model.specs.Reading.{change_of};
 ghost use Rattle.schema_model.specs.Refusals.{fault};
@@ -25,7 +25,7 @@ ghost use Rattle.outside.specs.Tree.{Tree, files_of};
 ghost use Rattle.view_stages.specs.Opening.{opening_effects};
 ghost use Rattle.view_stages.specs.Stages.{files_of_view};
 ghost use Rattle.view_answers.specs.Steps.{IsFieldsOf};
-ghost use Rattle.run_course.specs.Idle.{IdleUnread};
+ghost use Rattle.course.specs.Idle.{IdleUnread};
 ghost use Rattle.view_stages.specs.Records.{HasRecords};
 ghost use Rattle.view_answers.specs.Limits as limits;
 ghost use Rattle.view_answers.specs.Limits.{IsWithin};
@@ -35,8 +35,7 @@ ghost use Rattle.view_stages.specs.Syncs.{sync_effects, view_effects, sync_count
 use crate::word::word_of;
 use course::{LineHandler, LineStop, NoDisk, Verdict};
 use csv_catalog::save_changed;
-use effects::Stop;
-use outside::{Folders, Sink};
+use outside::{Folders, Sink, Stop};
 use schema_model::{Change, ChangeFault};
 use ss_print::{
     clash_fields, escape_fields, illegal_fields, line_fields, print_script, print_synced,
@@ -130,7 +129,7 @@ impl OpenView {
     }
 
     /// Writes the folder of a view that was just opened, and prints that it did.
-    #[tactic(auto, using(effects::proofs::Following::following, effects::proofs::EffectLemmas::partly_more, effects::proofs::EffectLemmas::partly_later, effects::proofs::EffectLemmas::performed_append, view_stages::proofs::StageLemmas::meaning_fits, run_course::proofs::IdleLemmas::idle_first, run_course::proofs::IdleLemmas::idle_print), unfolding(view_stages::specs::Stages::files_of_view))]
+    #[tactic(auto, using(outside::proofs::Following::following, outside::proofs::EffectLemmas::partly_more, outside::proofs::EffectLemmas::partly_later, outside::proofs::EffectLemmas::performed_append, view_stages::proofs::StageLemmas::meaning_fits, course::proofs::IdleLemmas::idle_first, course::proofs::IdleLemmas::idle_print), unfolding(view_stages::specs::Stages::files_of_view))]
     pub fn fill_folder<F: Folders, K: Sink>(
         &self,
         alloc: Global,
@@ -179,7 +178,7 @@ impl OpenView {
     }
 
     /// Refuses a line.
-    #[tactic(auto, using(effects::proofs::Following::following))]
+    #[tactic(auto, using(outside::proofs::Following::following))]
     pub fn refuse<K: Sink>(
         &mut self,
         alloc: Global,
@@ -231,7 +230,7 @@ impl OpenView {
     }
 
     /// Syncs the files of the labels that were named, and prints how many they are.
-    #[tactic(auto, using(effects::proofs::Following::following, effects::proofs::EffectLemmas::partly_more, effects::proofs::EffectLemmas::partly_later, effects::proofs::EffectLemmas::performed_append, view_stages::proofs::StageLemmas::meaning_fits))]
+    #[tactic(auto, using(outside::proofs::Following::following, outside::proofs::EffectLemmas::partly_more, outside::proofs::EffectLemmas::partly_later, outside::proofs::EffectLemmas::performed_append, view_stages::proofs::StageLemmas::meaning_fits))]
     pub fn write_named<F: Folders, K: Sink>(
         &self,
         alloc: Global,
@@ -270,7 +269,7 @@ impl OpenView {
     }
 
     /// Saves the sources that were named, and then syncs the view's files.
-    #[tactic(auto, using(effects::proofs::Following::following, effects::proofs::EffectLemmas::partly_more, effects::proofs::EffectLemmas::partly_later, effects::proofs::EffectLemmas::performed_append))]
+    #[tactic(auto, using(outside::proofs::Following::following, outside::proofs::EffectLemmas::partly_more, outside::proofs::EffectLemmas::partly_later, outside::proofs::EffectLemmas::performed_append))]
     pub fn write_changed<F: Folders, K: Sink>(
         &self,
         alloc: Global,
@@ -287,7 +286,7 @@ impl OpenView {
     }
 
     /// Refuses an open group at the end of the input, and syncs.
-    #[tactic(auto, using(effects::proofs::Following::following, effects::proofs::EffectLemmas::partly_more, effects::proofs::EffectLemmas::partly_later, effects::proofs::EffectLemmas::performed_append))]
+    #[tactic(auto, using(outside::proofs::Following::following, outside::proofs::EffectLemmas::partly_more, outside::proofs::EffectLemmas::partly_later, outside::proofs::EffectLemmas::performed_append))]
     pub fn end_input<F: Folders, K: Sink>(
         &mut self,
         alloc: Global,
@@ -314,7 +313,7 @@ impl OpenView {
     }
 
     /// A sync, which saves the sources.
-    #[tactic(auto, using(effects::proofs::Following::following))]
+    #[tactic(auto, using(outside::proofs::Following::following))]
     pub fn sync<F: Folders, K: Sink>(
         &mut self,
         alloc: Global,
@@ -333,7 +332,7 @@ impl OpenView {
     }
 
     /// A sync of the view's files, which leaves the sources as they are.
-    #[tactic(auto, using(effects::proofs::Following::following))]
+    #[tactic(auto, using(outside::proofs::Following::following))]
     pub fn sync_view<F: Folders, K: Sink>(
         &mut self,
         alloc: Global,
@@ -352,7 +351,7 @@ impl OpenView {
     }
 
     // Answers a change where no group is open.
-    #[tactic(auto, using(effects::proofs::Following::following, crate::proofs::AnswerLemmas::accepted_view, crate::proofs::AnswerLemmas::refused_view))]
+    #[tactic(auto, using(outside::proofs::Following::following, crate::proofs::AnswerLemmas::accepted_view, crate::proofs::AnswerLemmas::refused_view))]
     fn apply<K: Sink, L: Ledger>(
         &mut self,
         alloc: Global,
@@ -401,7 +400,7 @@ impl OpenView {
     }
 
     /// Answers a line that begins with no word that stands alone.
-    #[tactic(auto, using(effects::proofs::Following::following, crate::proofs::AnswerLemmas::unread_view))]
+    #[tactic(auto, using(outside::proofs::Following::following, crate::proofs::AnswerLemmas::unread_view))]
     pub fn change_line<K: Sink, L: Ledger>(
         &mut self,
         alloc: Global,
@@ -425,7 +424,7 @@ impl OpenView {
     }
 
     /// Answers the row of a line.
-    #[tactic(auto, using(effects::proofs::Following::following, crate::proofs::AnswerLemmas::words_does))]
+    #[tactic(auto, using(outside::proofs::Following::following, crate::proofs::AnswerLemmas::words_does))]
     pub fn row<F: Folders, K: Sink, L: Ledger>(
         &mut self,
         alloc: Global,
@@ -448,7 +447,7 @@ impl OpenView {
     }
 
     /// Answers a line.
-    #[tactic(auto, using(effects::proofs::Following::following, crate::proofs::AnswerLemmas::spelled_does, crate::proofs::AnswerLemmas::unspelled_does))]
+    #[tactic(auto, using(outside::proofs::Following::following, crate::proofs::AnswerLemmas::spelled_does, crate::proofs::AnswerLemmas::unspelled_does))]
     pub fn answer<F: Folders, K: Sink, L: Ledger>(
         &mut self,
         alloc: Global,

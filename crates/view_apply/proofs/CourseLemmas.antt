@@ -8,7 +8,7 @@ use Rattle.ss_text.specs.Ascending.{with_element, ascending}
 use Rattle.ss_text.proofs.KeyLemmas.{text_order}
 use Rattle.ss_text.proofs.SetLemmas.{ascending_of_same}
 use Rattle.tab_lines.specs.Spelling.{unspell}
-use Rattle.effects.specs.Effects.{Effect}
+use Rattle.outside.specs.Effects.{Effect}
 use Rattle.course.specs.declared.status.Verdict.{Verdict}
 use Rattle.course.specs.declared.status.Verdict.TheVariants as verdict
 use Rattle.course.specs.Answering.{Reply, Continues, Finishes, prefixed, follow, ending, course}

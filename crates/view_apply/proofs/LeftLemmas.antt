@@ -3,8 +3,8 @@ use Rattle.std.proofs.Common.{◌≡◌, ◌∷◌, ◌∙◌, [], Option, Some,
 use Rattle.outside.specs.States.{StoreState}
 use Rattle.outside.specs.Streams.{with_bytes}
 use Rattle.outside.specs.Tree.{Tree}
-use Rattle.effects.specs.Effects.{World, Stored, Contents, contents, stored_of, world_of, Replace, after, performed}
-use Rattle.effects.proofs.EffectLemmas.{told_tree}
+use Rattle.outside.specs.Effects.{World, Stored, Contents, contents, stored_of, world_of, Replace, after, performed}
+use Rattle.outside.proofs.EffectLemmas.{told_tree}
 use Rattle.view_folder.specs.Files.{view_folder}
 use Rattle.view_folder.specs.Sync.{later_edits}
 use Rattle.view_folder.proofs.LaterLemmas.{later, later_replaced, edits_held}

@@ -5,12 +5,12 @@ use Rattle.ss_text.specs.Texts.{Text, Row}
 use Rattle.outside.specs.States.{StoreState, SinkState}
 use Rattle.outside.specs.Reading.{OnlyRead}
 use Rattle.outside.specs.Tree.{Tree}
-use Rattle.effects.specs.Effects.{Effect, Contents, world_of, contents, performed, Partly}
-use Rattle.effects.specs.declared.stop.Stop.{Stop}
-use Rattle.effects.specs.declared.stop.Stop.TheVariants as stop
-use Rattle.effects.specs.Blame.{Steady, SinkBlames, Blames}
-use Rattle.effects.proofs.EffectLemmas.{only_read_does, unmoved}
-use Rattle.effects.proofs.BlameLemmas.{sheet_blamed}
+use Rattle.outside.specs.Effects.{Effect, Contents, world_of, contents, performed, Partly}
+use Rattle.outside.specs.declared.stop.Stop.{Stop}
+use Rattle.outside.specs.declared.stop.Stop.TheVariants as stop
+use Rattle.outside.specs.Blame.{Steady, SinkBlames, Blames}
+use Rattle.outside.proofs.EffectLemmas.{only_read_does, unmoved}
+use Rattle.outside.proofs.BlameLemmas.{sheet_blamed}
 use Rattle.course.specs.Answering.{Reply, Continues, Finishes}
 use Rattle.flow_law.specs.declared.shape.Shape.{Shape}
 use Rattle.flow_law.specs.Tables.{TablesValue}

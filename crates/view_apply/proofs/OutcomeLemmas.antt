@@ -2,9 +2,9 @@
 use Rattle.std.proofs.Common.{◌≡◌, List, ℕ, [], ◌∷◌, refl, sym, ap, ◌∙◌, subst}
 use Rattle.std.specs.Prelude.{Result, Ok, Err, None, Some}
 use Rattle.ss_text.specs.Texts.{Row}
-use Rattle.effects.specs.Effects.{Effect, World, contents, performed, Partly, Does}
-use Rattle.effects.specs.declared.stop.Stop.{Stop}
-use Rattle.effects.proofs.EffectLemmas.{partly_more, then_off}
+use Rattle.outside.specs.Effects.{Effect, World, contents, performed, Partly, Does}
+use Rattle.outside.specs.declared.stop.Stop.{Stop}
+use Rattle.outside.proofs.EffectLemmas.{partly_more, then_off}
 use Rattle.course.specs.declared.status.Verdict.TheVariants as verdict
 use Rattle.course.specs.declared.status.LineStop.TheVariants as line_stop
 use Rattle.course.specs.Answering.{Answered}

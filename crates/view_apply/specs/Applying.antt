@@ -4,7 +4,7 @@ use Rattle.ss_text.specs.Texts.{Text, Row, text_cmp, is_in}
 use Rattle.ss_text.specs.Ascending.{with_element}
 use Rattle.tab_lines.specs.Spelling.{unspell}
 use Rattle.outside.specs.Tree.{Tree}
-use Rattle.effects.specs.Effects.{Replace}
+use Rattle.outside.specs.Effects.{Replace}
 use Rattle.course.specs.declared.status.Verdict.TheVariants as verdict
 use Rattle.course.specs.Answering.{Reply, Continues, Finishes, Ending}
 use Rattle.flow_law.specs.declared.shape.Shape.{Shape}

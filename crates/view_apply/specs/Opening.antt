@@ -1,7 +1,7 @@
 -- What the opening of a view folder did.
 use Rattle.std.specs.Prelude.{◌≡◌, Result, Ok, Err}
-use Rattle.effects.specs.Effects.{World, contents, performed, Partly}
-use Rattle.effects.specs.declared.stop.Stop.{Stop}
+use Rattle.outside.specs.Effects.{World, contents, performed, Partly}
+use Rattle.outside.specs.declared.stop.Stop.{Stop}
 use Rattle.course.specs.declared.status.Verdict.TheVariants as verdict
 use Rattle.course.specs.Answering.{Reply, Continues, Finishes, effects_of}
 use Rattle.view_apply.specs.Applying.{ApplyState}

@@ -4,9 +4,9 @@ ghost use Rattle.std.specs.List.Sorted.{IsStrictlySortedBy};
 ghost use Rattle.ss_text.specs.Texts.{is_in, text_cmp};
 ghost use Rattle.ss_text.specs.Ascending.{with_element};
 ghost use Rattle.tab_lines.specs.Lines.{has_feed};
-ghost use Rattle.effects.specs.Effects.{Replace, Does, world_of};
-ghost use Rattle.effects.specs.Performing.{Performs};
-ghost use Rattle.effects.specs.Blame.{Blames, SinkBlames};
+ghost use Rattle.outside.specs.Effects.{Replace, Does, world_of};
+ghost use Rattle.outside.specs.Performing.{Performs};
+ghost use Rattle.outside.specs.Blame.{Blames, SinkBlames};
 ghost use Rattle.flow_law.specs.Tables.{labels_of, table_of};
 ghost use Rattle.change_script.specs.Applied.{applied_line};
 ghost use Rattle.change_script.specs.Reading.{script_line_of};
@@ -19,9 +19,8 @@ ghost use Rattle.view_apply.specs.Applying.{just_read, by_applying, by_reading, 
 use crate::refused::{apply_fields, escape_fields, script_fields};
 use change_script::{ApplyFault, ScriptFault, ScriptLine, apply_line, read_script_line};
 use course::{LineHandler, LineStop, NoDisk, Verdict};
-use effects::Stop;
 use flow_law::{Shape, TableLine, Tables};
-use outside::{Folders, Sink};
+use outside::{Folders, Sink, Stop};
 use ss_print::{print_applied, refuse};
 use ss_text::{NoMemory, Row, Steps, Text};
 use std::alloc::Global;
@@ -213,7 +212,7 @@ impl Applying {
     }
 
     // Syncs the files of the labels that were named, and prints how many lines were applied.
-    #[tactic(auto, using(effects::proofs::Following::following))]
+    #[tactic(auto, using(outside::proofs::Following::following))]
     fn write_named<F: Folders, K: Sink>(
         &self,
         alloc: Global,
@@ -248,7 +247,7 @@ impl LineHandler<NoDisk> for Applying {
 
     ghost finish = { finish };
 
-    #[tactic(auto, using(effects::proofs::Following::following, crate::proofs::OutcomeLemmas::line_taken, crate::proofs::OutcomeLemmas::line_refused, crate::proofs::OutcomeLemmas::line_stopped, crate::proofs::OutcomeLemmas::refusal_stopped))]
+    #[tactic(auto, using(outside::proofs::Following::following, crate::proofs::OutcomeLemmas::line_taken, crate::proofs::OutcomeLemmas::line_refused, crate::proofs::OutcomeLemmas::line_stopped, crate::proofs::OutcomeLemmas::refusal_stopped))]
     fn line<F: Folders, K: Sink, L: Ledger>(
         &mut self,
         alloc: Global,

@@ -2,16 +2,15 @@
 ghost use Rattle.std.specs.Prelude.{◌≡◌, ◌≢◌, [], Some, IsErrOf};
 ghost use Rattle.outside.specs.Tree.{Tree};
 ghost use Rattle.outside.specs.Reading.{OnlyRead};
-ghost use Rattle.effects.specs.Effects.{world_of};
-ghost use Rattle.effects.specs.Blame.{Blames};
+ghost use Rattle.outside.specs.Effects.{world_of};
+ghost use Rattle.outside.specs.Blame.{Blames};
 ghost use Rattle.view_apply.specs.Applying.{opening};
 ghost use Rattle.view_apply.specs.Opening.{Opens};
 
 use crate::Applying;
 use crate::refused::tables_fields;
-use effects::Stop;
 use flow_law::Shape;
-use outside::{Folders, Sink};
+use outside::{Folders, Sink, Stop};
 use ss_print::refuse;
 use ss_text::Text;
 use std::alloc::Global;
@@ -25,7 +24,7 @@ pub enum OpenedFolder {
 }
 
 /// Reads the tables of the folder of a view's database, or prints why they are none of a view of this form.
-#[tactic(auto, using(effects::proofs::Following::following, crate::proofs::OpeningLemmas::opened, crate::proofs::OpeningLemmas::unread, crate::proofs::OpeningLemmas::unread_whole, crate::proofs::OpeningLemmas::refused_so, crate::proofs::OpeningLemmas::refusal_off, effects::proofs::BlameLemmas::sink_no_read))]
+#[tactic(auto, using(outside::proofs::Following::following, crate::proofs::OpeningLemmas::opened, crate::proofs::OpeningLemmas::unread, crate::proofs::OpeningLemmas::unread_whole, crate::proofs::OpeningLemmas::refused_so, crate::proofs::OpeningLemmas::refusal_off, outside::proofs::BlameLemmas::sink_no_read))]
 pub fn open_folder<F: Folders, K: Sink>(
     alloc: Global,
     store: &mut F,

@@ -25,7 +25,7 @@ use Rattle.view_engine.proofs.FactsFew.{facts_few}
 use Rattle.view_engine.proofs.FactsForm.{have_form, read_back, are_wide}
 use Rattle.operator_law.specs.declared.delta.Signed.{Signed}
 use Rattle.operator_law.specs.Bags.{MovesBag}
-use Rattle.net_moves.specs.Net.{IsNet}
+use Rattle.schema_delta.specs.Net.{IsNet}
 use Rattle.plan_law.specs.PlanMoves.{fact_rows}
 use Rattle.plan_translate.specs.Moves.{MovesFacts}
 use Rattle.unfold_op.specs.FactMoves.{facts_in, facts_moved}

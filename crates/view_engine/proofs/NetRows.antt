@@ -5,7 +5,7 @@ use Rattle.ss_text.specs.Texts.{Row, row_eq}
 use Rattle.operator_law.specs.declared.delta.Signed.{Signed}
 use Rattle.operator_law.specs.Bags.{weigh, come, go, is, MovesBag}
 use Rattle.operator_law.proofs.Counts.{row_eq-Decides}
-use Rattle.net_moves.specs.Net.{IsNet}
+use Rattle.schema_delta.specs.Net.{IsNet}
 use Rattle.plan_law.proofs.Net.{Tells}
 
 -- what holds of each row of a list holds of a row that is counted in it

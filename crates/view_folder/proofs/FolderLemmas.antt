@@ -18,8 +18,8 @@ use Rattle.outside.specs.Counts.{risen}
 use Rattle.outside.specs.Tree.{Tree, Place, place_cmp, file_at, files_of, names_in}
 use Rattle.outside.specs.WholeLaw.{place_exact, is_eq_true}
 use Rattle.outside.proofs.PlaceLemmas.{place_total, names_ascend}
-use Rattle.effects.specs.Effects.{Stored, performed, writing, removing}
-use Rattle.effects.proofs.EffectLemmas.{performed_append}
+use Rattle.outside.specs.Effects.{Stored, performed, writing, removing}
+use Rattle.outside.proofs.EffectLemmas.{performed_append}
 use Rattle.view_folder.specs.declared.file.File.{File}
 use Rattle.view_folder.specs.Files.{is_named, bytes_in, is_csv_name, other_names, AreViewFiles, Apart, AreThere}
 use Rattle.view_folder.specs.Sync.{written, removed, opening_sync, opening_count, HoldsExactly}

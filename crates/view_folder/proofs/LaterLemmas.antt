@@ -14,12 +14,12 @@ use Rattle.ss_text.specs.Texts.{Text, text_cmp, text_eq, is_in}
 use Rattle.ss_text.proofs.KeyLemmas.{text_order, equal_itself, equal_is}
 use Rattle.outside.specs.Counts.{risen}
 use Rattle.outside.specs.Tree.{Tree, Place, file_at}
-use Rattle.effects.specs.declared.stop.Stop.{Stop}
+use Rattle.outside.specs.declared.stop.Stop.{Stop}
 use Rattle.outside.specs.Edits.{edited, all_edited}
 use Rattle.outside.specs.declared.edit.Edit.TheVariants as edit
-use Rattle.effects.specs.Effects.{world_of, Does, Write, Remove, Replace, Stored, Contents, stored_of, contents, after, performed, writing, removing}
-use Rattle.effects.specs.Performing.{Performs}
-use Rattle.effects.proofs.EffectLemmas.{told_tree}
+use Rattle.outside.specs.Effects.{world_of, Does, Write, Remove, Replace, Stored, Contents, stored_of, contents, after, performed, writing, removing}
+use Rattle.outside.specs.Performing.{Performs}
+use Rattle.outside.proofs.EffectLemmas.{told_tree}
 use Rattle.outside.specs.States.{StoreState, SinkState}
 use Rattle.flow_law.specs.declared.shape.Shape.{Shape}
 use Rattle.flow_law.specs.Tables.{TableValue, TablesValue, table_of, labels_of}

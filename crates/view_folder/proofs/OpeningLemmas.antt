@@ -12,9 +12,9 @@ use Rattle.std.proofs.lemmas.List.Folds.{list_any-append}
 use Rattle.ss_text.specs.Texts.{Text, text_cmp, text_eq}
 use Rattle.outside.specs.States.{StoreState, SinkState}
 use Rattle.outside.specs.Tree.{Tree, file_at, files_of}
-use Rattle.effects.specs.declared.stop.Stop.{Stop}
-use Rattle.effects.specs.Effects.{World, world_of, Does, Remove, Stored, Contents, stored_of, contents, performed, removing}
-use Rattle.effects.proofs.EffectLemmas.{told_tree}
+use Rattle.outside.specs.declared.stop.Stop.{Stop}
+use Rattle.outside.specs.Effects.{World, world_of, Does, Remove, Stored, Contents, stored_of, contents, performed, removing}
+use Rattle.outside.proofs.EffectLemmas.{told_tree}
 use Rattle.flow_law.specs.declared.shape.Shape.{Shape}
 use Rattle.flow_law.specs.Tables.{TablesValue, labels_of}
 use Rattle.flow_law.specs.InOrder.{AreTables}

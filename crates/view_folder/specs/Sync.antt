@@ -6,7 +6,7 @@ use Rattle.ss_text.specs.Texts.{Text, is_in}
 use Rattle.outside.specs.Tree.{Tree, Place, file_at}
 use Rattle.outside.specs.declared.edit.Edit.{Edit}
 use Rattle.outside.specs.declared.edit.Edit.TheVariants as edit
-use Rattle.effects.specs.Effects.{Effect, Write, Remove}
+use Rattle.outside.specs.Effects.{Effect, Write, Remove}
 use Rattle.flow_law.specs.declared.shape.Shape.{Shape}
 use Rattle.flow_law.specs.Tables.{TablesValue, table_of}
 use Rattle.view_folder.specs.declared.file.File.{File}

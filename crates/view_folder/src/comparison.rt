@@ -5,15 +5,14 @@ ghost use Rattle.std.specs.BTreeMap.{get};
 ghost use Rattle.ss_text.specs.Texts.{text_eq, text_cmp};
 ghost use Rattle.outside.specs.Tree.{Tree, file_at};
 ghost use Rattle.outside.specs.Reading.{OnlyRead};
-ghost use Rattle.effects.specs.Effects.{Does, world_of};
-ghost use Rattle.effects.specs.Blame.{StoreBlames};
+ghost use Rattle.outside.specs.Effects.{Does, world_of};
+ghost use Rattle.outside.specs.Blame.{StoreBlames};
 ghost use Rattle.view_folder.specs.Files.{bytes_in, is_csv_name};
 ghost use Rattle.view_folder.specs.Comparison.{compared_names, difference, compared, comparison};
 
 use crate::File;
 use crate::file::is_csv_name;
-use effects::{Stop, list_files, read_file};
-use outside::Folders;
+use outside::{Folders, Stop, list_files, read_file};
 use ss_text::{NoMemory, Text, make_ascending};
 use std::alloc::Global;
 use std::collections::BTreeMap;
@@ -34,7 +33,7 @@ pub enum Comparison {
 
 /// Compares what the folder holds under the names of these files, and under every other name that ends in
 /// `.csv`, with these files. A file that is gone when it is read counts as missing.
-#[tactic(auto, using(effects::proofs::EffectLemmas::only_read_does, outside::proofs::ReadingLemmas::only_read_then))]
+#[tactic(auto, using(outside::proofs::EffectLemmas::only_read_does, outside::proofs::ReadingLemmas::only_read_then))]
 pub fn compare<F: Folders>(
     alloc: Global,
     store: &mut F,

@@ -4,24 +4,23 @@ ghost use Rattle.std.specs.List.Sorted.{IsStrictlySortedBy};
 ghost use Rattle.ss_text.specs.Texts.{text_cmp};
 ghost use Rattle.outside.specs.Counts.{risen};
 ghost use Rattle.outside.specs.Tree.{Tree};
-ghost use Rattle.effects.specs.Effects.{Replace};
-ghost use Rattle.effects.specs.Performing.{Performs};
+ghost use Rattle.outside.specs.Effects.{Replace};
+ghost use Rattle.outside.specs.Performing.{Performs};
 ghost use Rattle.view_folder.specs.Files.{view_folder, Apart};
 ghost use Rattle.view_folder.specs.TableFiles.{FitShape};
 ghost use Rattle.view_folder.specs.Sync.{has_table, tables_first, label_synced, later_sync, label_edit, later_edits, is_counted, later_count, HoldsNamed};
 
 use crate::TableTexts;
 use crate::file::{file_name, folder_of_view};
-use effects::{Stop, remove_file, replace, write_file};
 use flow_law::Shape;
-use outside::{Edit, Folders};
+use outside::{Edit, Folders, Stop, remove_file, replace, write_file};
 use ss_text::{NoMemory, Text};
 use std::alloc::Global;
 
 /// Syncs the files of these labels in the folder of a view's database: a label's file gets the text of its table, or is
 /// removed where the label has no table. All that is written comes before all that is removed. Answers how many files
 /// were written, or were there and removed.
-#[tactic(auto, using(effects::proofs::EffectLemmas::nothing_yet))]
+#[tactic(auto, using(outside::proofs::EffectLemmas::nothing_yet))]
 pub fn sync<F: Folders, T: TableTexts>(
     alloc: Global,
     store: &mut F,
@@ -45,7 +44,7 @@ pub fn sync<F: Folders, T: TableTexts>(
 
 /// Syncs the files of these labels as `sync` does, but all at once: where it stops, nothing was done; where a write
 /// failed, all may be done.
-#[tactic(auto, using(effects::proofs::EffectLemmas::nothing_yet))]
+#[tactic(auto, using(outside::proofs::EffectLemmas::nothing_yet))]
 pub fn sync_at_once<F: Folders, T: TableTexts>(
     alloc: Global,
     store: &mut F,
@@ -169,7 +168,7 @@ fn those_gone<T: TableTexts>(
 }
 
 // Syncs the files of these labels in a folder, in order.
-#[tactic(auto, using(effects::proofs::EffectLemmas::each_stops, effects::proofs::EffectLemmas::each_ends, effects::proofs::EffectLemmas::doing_all))]
+#[tactic(auto, using(outside::proofs::EffectLemmas::each_stops, outside::proofs::EffectLemmas::each_ends, outside::proofs::EffectLemmas::doing_all))]
 fn sync_labels<F: Folders, T: TableTexts>(
     alloc: Global,
     store: &mut F,
@@ -191,7 +190,7 @@ fn sync_labels<F: Folders, T: TableTexts>(
 }
 
 // Syncs the file of a label, and answers whether it was written, or was there and removed.
-#[tactic(auto, using(effects::proofs::EffectLemmas::none_off, effects::proofs::EffectLemmas::nothing_yet, crate::proofs::LaterLemmas::synced_write, crate::proofs::LaterLemmas::synced_remove))]
+#[tactic(auto, using(outside::proofs::EffectLemmas::none_off, outside::proofs::EffectLemmas::nothing_yet, crate::proofs::LaterLemmas::synced_write, crate::proofs::LaterLemmas::synced_remove))]
 fn sync_label<F: Folders, T: TableTexts>(
     alloc: Global,
     store: &mut F,

@@ -3,18 +3,17 @@ ghost use Rattle.std.specs.Prelude.{◌≡◌, List, ℕ, ◌≤◌, ◌&&◌, n
 ghost use Rattle.outside.specs.Counts.{risen};
 ghost use Rattle.outside.specs.Reading.{OnlyRead};
 ghost use Rattle.outside.specs.Tree.{Tree, files_of};
-ghost use Rattle.effects.specs.Effects.{Does, world_of};
-ghost use Rattle.effects.specs.Blame.{StoreBlames};
-ghost use Rattle.effects.specs.Performing.{Performs};
+ghost use Rattle.outside.specs.Effects.{Does, world_of};
+ghost use Rattle.outside.specs.Blame.{StoreBlames};
+ghost use Rattle.outside.specs.Performing.{Performs};
 ghost use Rattle.view_folder.specs.Files.{is_named, has_name, is_csv_name, other_names, view_folder, AreViewFiles, Apart, AreThere};
 ghost use Rattle.view_folder.specs.TableFiles.{FitShape, table_files};
 ghost use Rattle.view_folder.specs.Sync.{written, removed, opening_sync, opening_count, HoldsExactly};
 
 use crate::TableTexts;
 use crate::file::{File, folder_of_view, is_csv_name};
-use effects::{Stop, list_files, remove_file, write_file};
 use flow_law::Shape;
-use outside::Folders;
+use outside::{Folders, Stop, list_files, remove_file, write_file};
 use ss_text::{NoMemory, Text};
 use std::alloc::Global;
 use std::collections::HashSet;
@@ -22,7 +21,7 @@ use std::collections::HashSet;
 /// Brings the folder of a view's database to exactly these tables: the file of each is written, in the order of their
 /// labels, and then every other file of the folder whose name ends in `.csv` is removed, ascending. Answers how
 /// many files were written, or were there and removed. It reads before it writes.
-#[tactic(auto, using(effects::proofs::EffectLemmas::nothing_yet))]
+#[tactic(auto, using(outside::proofs::EffectLemmas::nothing_yet))]
 pub fn sync_all<F: Folders, T: TableTexts>(
     alloc: Global,
     store: &mut F,
@@ -49,7 +48,7 @@ pub fn sync_all<F: Folders, T: TableTexts>(
 /// Brings a folder to exactly these files: each is written, in order, and then every other file of the folder whose
 /// name ends in `.csv` is removed, ascending. Answers how many files were written, or were there and removed. It reads
 /// before it writes.
-#[tactic(auto, using(effects::proofs::EffectLemmas::partly_more, effects::proofs::EffectLemmas::partly_later, effects::proofs::EffectLemmas::performed_append, effects::proofs::EffectLemmas::none_off, effects::proofs::EffectLemmas::nothing_yet))]
+#[tactic(auto, using(outside::proofs::EffectLemmas::partly_more, outside::proofs::EffectLemmas::partly_later, outside::proofs::EffectLemmas::performed_append, outside::proofs::EffectLemmas::none_off, outside::proofs::EffectLemmas::nothing_yet))]
 pub fn sync_files<F: Folders>(
     alloc: Global,
     store: &mut F,
@@ -112,7 +111,7 @@ fn is_other(taken: &HashSet<&Text>, name: &Text) -> bool
 }
 
 // Writes these files, in order.
-#[tactic(auto, using(effects::proofs::EffectLemmas::each_stops, effects::proofs::EffectLemmas::each_ends, effects::proofs::EffectLemmas::doing_all))]
+#[tactic(auto, using(outside::proofs::EffectLemmas::each_stops, outside::proofs::EffectLemmas::each_ends, outside::proofs::EffectLemmas::doing_all))]
 fn write_files<F: Folders>(
     alloc: Global,
     store: &mut F,
@@ -129,7 +128,7 @@ fn write_files<F: Folders>(
 }
 
 // Removes these files, in order, and answers how many were there.
-#[tactic(auto, using(effects::proofs::EffectLemmas::each_stops, effects::proofs::EffectLemmas::each_ends, effects::proofs::EffectLemmas::doing_all))]
+#[tactic(auto, using(outside::proofs::EffectLemmas::each_stops, outside::proofs::EffectLemmas::each_ends, outside::proofs::EffectLemmas::doing_all))]
 fn remove_files<F: Folders>(
     alloc: Global,
     store: &mut F,

@@ -13,11 +13,11 @@ use Rattle.outside.specs.declared.edit.Edit.{Edit}
 use Rattle.outside.specs.declared.edit.Edit.TheVariants as edit
 use Rattle.outside.proofs.PlaceLemmas.{place_total}
 use Rattle.outside.proofs.TreeLemmas.{get_made}
-use Rattle.effects.specs.Effects.{Effect, Write, Remove, Replace, Print, Stored, Contents, after, performed, Off, Partly}
+use Rattle.outside.specs.Effects.{Effect, Write, Remove, Replace, Print, Stored, Contents, after, performed, Off, Partly}
 use Rattle.source_law.specs.Counted.{tree_edited, tree_replaced, tree_by, tree_after}
 use Rattle.source_law.proofs.AfterLemmas.{stored_by, stored_after, made_was, any_same}
 use Rattle.source_law.proofs.NamedLemmas.{same_text}
-use Rattle.run_course.proofs.FrontLemmas.{partly_split}
+use Rattle.course.proofs.FrontLemmas.{partly_split}
 use Rattle.view_stages.specs.Between.{IsBrokenBy, IsBetween, AllOrNothing}
 use Rattle.view_stages.specs.Places.{Exempt, OthersStay}
 use Rattle.view_stages.proofs.PlaceLemmas.{AllWithin, StaysIn, stays_told, performed_stays, partly_stays}

@@ -16,9 +16,9 @@ use Rattle.outside.proofs.TreeLemmas.{write_broke_off}
 use Rattle.outside.specs.Edits.{edited, all_edited}
 use Rattle.outside.specs.declared.edit.Edit.{Edit}
 use Rattle.outside.specs.declared.edit.Edit.TheVariants as edit
-use Rattle.effects.specs.Effects.{Effect, Write, Remove, Replace, Print, Stored, World, Contents, contents, after, performed, writing, removing, Off, Partly}
+use Rattle.outside.specs.Effects.{Effect, Write, Remove, Replace, Print, Stored, World, Contents, contents, after, performed, writing, removing, Off, Partly}
 use Rattle.source_law.proofs.AfterLemmas.{made_was}
-use Rattle.run_course.proofs.ToldLemmas.{contents_told}
+use Rattle.course.proofs.ToldLemmas.{contents_told}
 use Rattle.view_stages.specs.Places.{Exempt, is_exempt, is_exempt_folder, OthersStay}
 
 -- a folder lies on its own path

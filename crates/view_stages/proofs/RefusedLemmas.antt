@@ -3,17 +3,17 @@ use Rattle.std.proofs.Common.{◌≡◌, true, false, List, [], ◌∷◌, Optio
 use Rattle.std.specs.Prelude.{Result, Ok, Err}
 use Rattle.ss_text.specs.Texts.{Row}
 use Rattle.outside.specs.Tree.{Tree}
-use Rattle.effects.specs.Effects.{Effect, World, Contents, contents, performed}
+use Rattle.outside.specs.Effects.{Effect, World, Contents, contents, performed}
 use Rattle.schema_model.specs.Catalogue.{CatalogueValue}
 use Rattle.view_def.specs.Query.{Query}
 use Rattle.course.specs.declared.status.Verdict.{Verdict}
 use Rattle.course.specs.declared.status.Verdict.TheVariants as verdict
 use Rattle.course.specs.Answering.{Reply, Continues, Finishes, Ending}
 use Rattle.ss_print.specs.Printing.{refuses}
-use Rattle.run_course.specs.declared.status.Status.{Status}
-use Rattle.run_course.specs.Course.{Finished, verdict_status, is_refused_status}
-use Rattle.run_course.specs.Idle.{Unchanged}
-use Rattle.run_course.proofs.RefusedLemmas.{same_stored, not_so}
+use Rattle.course.specs.declared.exit.Status.{Status}
+use Rattle.course.specs.Course.{Finished, verdict_status, is_refused_status}
+use Rattle.course.specs.Idle.{Unchanged}
+use Rattle.course.proofs.RefusedLemmas.{same_stored, not_so}
 use Rattle.view_stages.specs.Open.{OpenValue}
 use Rattle.view_stages.specs.Stages.{DefinitionOrRefusal, loaded_or_refused, refusal_of}
 use Rattle.view_stages.specs.Opening.{opening, with_catalogue, with_view}

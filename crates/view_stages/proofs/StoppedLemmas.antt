@@ -1,7 +1,7 @@
 -- What was left of a store is between what is there before a stage and what is there behind it.
 use Rattle.std.proofs.Common.{◌≡◌, ℕ, List, [], ◌∷◌, Some, refl, ap}
 use Rattle.outside.specs.Tree.{Tree, files_of}
-use Rattle.effects.specs.Effects.{Effect, Print, Stored, Contents, Partly}
+use Rattle.outside.specs.Effects.{Effect, Print, Stored, Contents, Partly}
 use Rattle.schema_model.specs.Catalogue.{CatalogueValue}
 use Rattle.source_law.specs.Counted.{tree_after}
 use Rattle.view_stages.specs.Stages.{Accepted, files_of_view}

@@ -12,7 +12,7 @@ use Rattle.outside.specs.Tree.{Tree, place_cmp, folder_path, files_of}
 use Rattle.outside.proofs.PlaceLemmas.{place_total}
 use Rattle.outside.specs.declared.edit.Edit.{Edit}
 use Rattle.outside.specs.declared.edit.Edit.TheVariants as edit
-use Rattle.effects.specs.Effects.{Effect, Write, Remove, Replace}
+use Rattle.outside.specs.Effects.{Effect, Write, Remove, Replace}
 use Rattle.schema_model.specs.declared.pair.Pair.{Pair}
 use Rattle.schema_model.specs.Catalogue.{RelationValue, CatalogueValue, relation_of}
 use Rattle.csv_catalog.specs.Loaded.{database_folder}

@@ -3,7 +3,7 @@ use Rattle.std.specs.Prelude.{◌≡◌, ◌≢◌, List, [], ◌∷◌, ◌++�
 use Rattle.std.specs.FinMap as map_of
 use Rattle.ss_text.specs.Texts.{Text}
 use Rattle.outside.specs.Tree.{Tree, Place, has_folder}
-use Rattle.effects.specs.Effects.{Effect, Write, Remove, Replace, Print}
+use Rattle.outside.specs.Effects.{Effect, Write, Remove, Replace, Print}
 use Rattle.source_law.specs.Counted.{tree_after}
 use Rattle.view_stages.specs.Places.{Exempt, OthersStay}
 

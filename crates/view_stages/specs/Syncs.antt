@@ -1,7 +1,7 @@
 -- What a sync of an opened view writes and prints.
 use Rattle.std.specs.Prelude.{◌||◌, ℕ, ◌+◌, List, [], ◌∷◌, ◌++◌, length, filter}
 use Rattle.ss_text.specs.Texts.{is_in}
-use Rattle.effects.specs.Effects.{Effect}
+use Rattle.outside.specs.Effects.{Effect}
 use Rattle.flow_law.specs.Tables.{labels_of}
 use Rattle.valuation_meaning.specs.Meaning.{shape_of}
 use Rattle.view_folder.specs.Files.{view_folder}

@@ -3,8 +3,8 @@ ghost use Rattle.std.specs.Prelude.{◌≡◌, ◌≢◌, ◌∷◌, ◌++◌, [
 ghost use Rattle.ss_text.specs.Texts.{Row};
 ghost use Rattle.outside.specs.Reading.{OnlyRead};
 ghost use Rattle.outside.specs.Tree.{Tree};
-ghost use Rattle.effects.specs.Effects.{Does, world_of};
-ghost use Rattle.effects.specs.Blame.{StoreBlames};
+ghost use Rattle.outside.specs.Effects.{Does, world_of};
+ghost use Rattle.outside.specs.Blame.{StoreBlames};
 ghost use Rattle.view_def.specs.Tree.{tree_of};
 ghost use Rattle.view_def.specs.Written.{IsWritten};
 ghost use Rattle.view_stages.specs.Stages;
@@ -16,8 +16,7 @@ ghost use Rattle.var_typing.specs.declared.fault.TypeFault.TheVariants.{NoMemory
 ghost use Rattle.view_stages.specs.Steps.{definition_of};
 
 use crate::accepted::Definition;
-use effects::{Stop, read_file};
-use outside::Folders;
+use outside::{Folders, Stop, read_file};
 use ss_parser::{ParseFault, parse};
 use ss_print::{parse_fields, type_fields};
 use ss_text::{NoMemory, Row, Text};
@@ -33,7 +32,7 @@ pub enum Understood {
 }
 
 /// The definition of this name, or the fields of its refusal. Where a call fails or memory runs out, nothing was done.
-#[tactic(auto, using(effects::proofs::Following::following))]
+#[tactic(auto, using(outside::proofs::Following::following))]
 pub fn read_definition<F: Folders>(
     alloc: Global,
     store: &mut F,

@@ -2,14 +2,13 @@
 ghost use Rattle.std.specs.Prelude.{◌≡◌, [], Some, IfOk};
 ghost use Rattle.outside.specs.Reading.{OnlyRead};
 ghost use Rattle.outside.specs.Tree.{Tree};
-ghost use Rattle.effects.specs.Effects.{Does, world_of};
-ghost use Rattle.effects.specs.Blame.{StoreBlames};
+ghost use Rattle.outside.specs.Effects.{Does, world_of};
+ghost use Rattle.outside.specs.Blame.{StoreBlames};
 ghost use Rattle.view_stages.specs.Stages.{loaded_or_refused};
 ghost use Rattle.view_stages.specs.Steps.{loading_of};
 
 use csv_catalog::{LoadFault, load};
-use effects::Stop;
-use outside::Folders;
+use outside::{Folders, Stop};
 use schema_model::Catalogue;
 use ss_print::load_fields;
 use ss_text::Row;
@@ -24,7 +23,7 @@ pub enum Loading {
 
 /// Loads the source relations, or gives the fields of their refusal. Where a call fails or memory runs out, nothing
 /// was done.
-#[tactic(auto, using(effects::proofs::EffectLemmas::unmoved), unfolding(crate::specs::Stages::loaded_or_refused, effects::specs::Effects::contents))]
+#[tactic(auto, using(outside::proofs::EffectLemmas::unmoved), unfolding(crate::specs::Stages::loaded_or_refused, outside::specs::Effects::contents))]
 pub fn load_sources<F: Folders>(alloc: Global, store: &mut F) -> Result<Loading, Stop>
     ensures told { IfOk result (λ r. (t : Tree) → (F.state store.old).tree ≡ Some t → loading_of r ≡ loaded_or_refused t) }
     ensures does { (o : _) → Does [] (world_of (F.state store.old) o) (world_of (F.state store.new) o) result }

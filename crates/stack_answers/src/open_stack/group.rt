@@ -1,7 +1,7 @@
 //! Answers to the lines of a group, and to the words that stand alone.
 ghost use Rattle.std.specs.Prelude.{◌≡◌, ◌≢◌, ◌≤◌, ◌∷◌, ◌++◌, [], true, None, IfOk, IfErr, OnOk, OnErr, IsTrue, is_some, unwrap_or};
-ghost use Rattle.effects.specs.Effects.{Does, world_of};
-ghost use Rattle.effects.specs.Blame.{Blames, SinkBlames};
+ghost use Rattle.outside.specs.Effects.{Does, world_of};
+ghost use Rattle.outside.specs.Blame.{Blames, SinkBlames};
 ghost use Rattle.schema_model.specs.Changes.{after_all, is_well_formed};
 ghost use Rattle.schema_model.specs.Refusals.{fault};
 ghost use Rattle.change_draft.specs.Drafts.{StandsOver};
@@ -15,16 +15,14 @@ ghost use Rattle.stack_answers.specs.Answers.{by_fields, by_word, by_broken, by_
 
 use crate::open_stack::OpenStack;
 use change_draft::Draft;
-use effects::Stop;
-use outside::{Folders, Sink};
+use outside::{Folders, Sink, Stop};
 use schema_model::{Catalogue, Change, ChangeFault};
 use ss_print::{
     group_broken_fields, in_group_fields, line_fields, no_group_fields, open_group_fields,
-    print_aborted, print_begun, print_held,
+    print_aborted, print_begun, print_held, print_scripts, refuse_level,
 };
 use ss_text::{NoMemory, Row, Steps};
 use stack_levels::{LevelRefusal, LevelsRefused};
-use stack_print::{print_scripts, refuse_level};
 use std::alloc::Global;
 use std::sync::ledger::Ledger;
 use view_answers::{Word, held_fields};
@@ -32,7 +30,7 @@ use view_session::HoldRefused;
 
 impl OpenStack {
     // Refuses a line that does not stand in a group.
-    #[tactic(auto, using(effects::proofs::Following::following))]
+    #[tactic(auto, using(outside::proofs::Following::following))]
     fn refuse_inside<K: Sink>(
         &mut self,
         alloc: Global,
@@ -48,7 +46,7 @@ impl OpenStack {
     }
 
     // Refuses a line that stands only in a group.
-    #[tactic(auto, using(effects::proofs::Following::following))]
+    #[tactic(auto, using(outside::proofs::Following::following))]
     fn refuse_outside<K: Sink>(
         &mut self,
         alloc: Global,
@@ -64,7 +62,7 @@ impl OpenStack {
     }
 
     // Opens a group.
-    #[tactic(auto, using(effects::proofs::Following::following))]
+    #[tactic(auto, using(outside::proofs::Following::following))]
     fn begin_group<K: Sink>(&mut self, alloc: Global, output: &mut K) -> Result<(), Stop>
         requires { self.old.held ≡ None }
         ensures does { (s : _) → Does (beginning self.old).effects (world_of s (K.state output.old)) (world_of s (K.state output.new)) result }
@@ -96,7 +94,7 @@ impl OpenStack {
     }
 
     // Answers a change in a group.
-    #[tactic(auto, using(effects::proofs::Following::following, crate::proofs::AnswerLemmas::held_stack, crate::proofs::AnswerLemmas::unheld_stack))]
+    #[tactic(auto, using(outside::proofs::Following::following, crate::proofs::AnswerLemmas::held_stack, crate::proofs::AnswerLemmas::unheld_stack))]
     pub(super) fn hold<K: Sink>(
         &mut self,
         alloc: Global,
@@ -132,7 +130,7 @@ impl OpenStack {
     }
 
     // Gives a group up.
-    #[tactic(auto, using(effects::proofs::Following::following))]
+    #[tactic(auto, using(outside::proofs::Following::following))]
     fn abort_group<K: Sink>(&mut self, alloc: Global, output: &mut K) -> Result<(), Stop>
         ensures does { (s : _) → Does (aborting self.old).effects (world_of s (K.state output.old)) (world_of s (K.state output.new)) result }
         ensures stack { OnOk result (self.new ≡ (aborting self.old).stack) }
@@ -145,7 +143,7 @@ impl OpenStack {
     }
 
     // Refuses a group, as by this level, which gives it up.
-    #[tactic(auto, using(effects::proofs::Following::following))]
+    #[tactic(auto, using(outside::proofs::Following::following))]
     fn give_up_at<K: Sink>(
         &mut self,
         alloc: Global,
@@ -174,7 +172,7 @@ impl OpenStack {
     }
 
     // Makes the changes of a group at all levels, or refuses it.
-    #[tactic(auto, using(effects::proofs::Following::following, crate::proofs::AnswerLemmas::made_stack, crate::proofs::AnswerLemmas::stopped_stack))]
+    #[tactic(auto, using(outside::proofs::Following::following, crate::proofs::AnswerLemmas::made_stack, crate::proofs::AnswerLemmas::stopped_stack))]
     fn make_group<K: Sink, L: Ledger>(
         &mut self,
         alloc: Global,
@@ -200,7 +198,7 @@ impl OpenStack {
     }
 
     // Ends a group, which is refused where a line was.
-    #[tactic(auto, using(effects::proofs::Following::following, crate::proofs::AnswerLemmas::unbroken_stack, crate::proofs::AnswerLemmas::broken_stack, crate::proofs::AnswerLemmas::unbroken_does))]
+    #[tactic(auto, using(outside::proofs::Following::following, crate::proofs::AnswerLemmas::unbroken_stack, crate::proofs::AnswerLemmas::broken_stack, crate::proofs::AnswerLemmas::unbroken_does))]
     fn commit_group<K: Sink, L: Ledger>(
         &mut self,
         alloc: Global,
@@ -221,7 +219,7 @@ impl OpenStack {
     }
 
     // Answers `begin` alone.
-    #[tactic(auto, using(effects::proofs::Following::following, view_answers::proofs::ViewLemmas::none_open))]
+    #[tactic(auto, using(outside::proofs::Following::following, view_answers::proofs::ViewLemmas::none_open))]
     fn begin_line<K: Sink>(&mut self, alloc: Global, output: &mut K, row: &Row) -> Result<(), Stop>
         ensures does { (s : _) → Does (by_word self.old row.now word.Begin).effects (world_of s (K.state output.old)) (world_of s (K.state output.new)) result }
         ensures stack { OnOk result (self.new ≡ (by_word self.old row.now word.Begin).stack) }
@@ -235,7 +233,7 @@ impl OpenStack {
     }
 
     // Answers `commit` alone.
-    #[tactic(auto, using(effects::proofs::Following::following))]
+    #[tactic(auto, using(outside::proofs::Following::following))]
     fn commit_line<K: Sink, L: Ledger>(
         &mut self,
         alloc: Global,
@@ -256,7 +254,7 @@ impl OpenStack {
     }
 
     // Answers `abort` alone.
-    #[tactic(auto, using(effects::proofs::Following::following))]
+    #[tactic(auto, using(outside::proofs::Following::following))]
     fn abort_line<K: Sink>(&mut self, alloc: Global, output: &mut K, row: &Row) -> Result<(), Stop>
         ensures does { (s : _) → Does (by_word self.old row.now word.Abort).effects (world_of s (K.state output.old)) (world_of s (K.state output.new)) result }
         ensures stack { OnOk result (self.new ≡ (by_word self.old row.now word.Abort).stack) }
@@ -270,7 +268,7 @@ impl OpenStack {
     }
 
     // Answers `sync` alone.
-    #[tactic(auto, using(effects::proofs::Following::following))]
+    #[tactic(auto, using(outside::proofs::Following::following))]
     fn sync_line<F: Folders, K: Sink>(
         &mut self,
         alloc: Global,
@@ -291,7 +289,7 @@ impl OpenStack {
     }
 
     // Answers a word alone.
-    #[tactic(auto, using(effects::proofs::Following::following))]
+    #[tactic(auto, using(outside::proofs::Following::following))]
     fn word_alone<F: Folders, K: Sink, L: Ledger>(
         &mut self,
         alloc: Global,
@@ -316,7 +314,7 @@ impl OpenStack {
     }
 
     // Answers a line that begins with a word.
-    #[tactic(auto, using(effects::proofs::Following::following, crate::proofs::AnswerLemmas::one_word_does, crate::proofs::AnswerLemmas::one_word_stack, crate::proofs::AnswerLemmas::more_words_stack))]
+    #[tactic(auto, using(outside::proofs::Following::following, crate::proofs::AnswerLemmas::one_word_does, crate::proofs::AnswerLemmas::one_word_stack, crate::proofs::AnswerLemmas::more_words_stack))]
     pub(super) fn word_line<F: Folders, K: Sink, L: Ledger>(
         &mut self,
         alloc: Global,
@@ -341,7 +339,7 @@ impl OpenStack {
     }
 
     // Refuses an open group at the end of the input.
-    #[tactic(auto, using(effects::proofs::Following::following))]
+    #[tactic(auto, using(outside::proofs::Following::following))]
     pub(super) fn end_group<K: Sink>(&mut self, alloc: Global, output: &mut K) -> Result<(), Stop>
         ensures does { (s : _) → Does (end_effects self.old) (world_of s (K.state output.old)) (world_of s (K.state output.new)) result }
         ensures stack { OnOk result (self.new ≡ end_stack self.old) }

@@ -1,7 +1,7 @@
 //! Answers to the lines of a group, and to the words that stand alone.
 ghost use Rattle.std.specs.Prelude.{◌≡◌, ◌≢◌, ◌≤◌, ◌∷◌, [], length, true, None, Err, IfOk, IfErr, OnOk, IsTrue, is_some};
-ghost use Rattle.effects.specs.Effects.{Does, world_of};
-ghost use Rattle.effects.specs.Blame.{Blames, SinkBlames};
+ghost use Rattle.outside.specs.Effects.{Does, world_of};
+ghost use Rattle.outside.specs.Blame.{Blames, SinkBlames};
 ghost use Rattle.schema_model.specs.Changes.{is_well_formed};
 ghost use Rattle.schema_model.specs.Refusals.{fault};
 ghost use Rattle.view_session.specs.Session.{working};
@@ -17,8 +17,7 @@ ghost use Rattle.view_answers.specs.declared.word.Word.TheVariants as word;
 use crate::opening::fault_fields;
 use crate::view::OpenView;
 use crate::word::Word;
-use effects::Stop;
-use outside::{Folders, Sink};
+use outside::{Folders, Sink, Stop};
 use schema_model::{Change, ChangeFault};
 use ss_print::{
     group_broken_fields, in_group_fields, line_fields, no_group_fields, open_group_fields,
@@ -31,7 +30,7 @@ use view_session::HoldRefused;
 
 impl OpenView {
     /// Refuses a line that does not stand in a group.
-    #[tactic(auto, using(effects::proofs::Following::following))]
+    #[tactic(auto, using(outside::proofs::Following::following))]
     pub fn refuse_inside<K: Sink>(
         &mut self,
         alloc: Global,
@@ -47,7 +46,7 @@ impl OpenView {
     }
 
     /// Refuses a line that stands only in a group.
-    #[tactic(auto, using(effects::proofs::Following::following))]
+    #[tactic(auto, using(outside::proofs::Following::following))]
     pub fn refuse_outside<K: Sink>(
         &mut self,
         alloc: Global,
@@ -63,7 +62,7 @@ impl OpenView {
     }
 
     // Opens a group.
-    #[tactic(auto, using(effects::proofs::Following::following))]
+    #[tactic(auto, using(outside::proofs::Following::following))]
     fn begin_group<K: Sink>(&mut self, alloc: Global, output: &mut K) -> Result<(), Stop>
         requires { self.old.session.held ≡ None }
         ensures does { (s : _) → Does (beginning self.old).effects (world_of s (K.state output.old)) (world_of s (K.state output.new)) result }
@@ -77,7 +76,7 @@ impl OpenView {
     }
 
     /// Answers a change in a group.
-    #[tactic(auto, using(effects::proofs::Following::following, crate::proofs::AnswerLemmas::held_view, crate::proofs::AnswerLemmas::unheld_view))]
+    #[tactic(auto, using(outside::proofs::Following::following, crate::proofs::AnswerLemmas::held_view, crate::proofs::AnswerLemmas::unheld_view))]
     pub fn hold<K: Sink>(
         &mut self,
         alloc: Global,
@@ -100,7 +99,7 @@ impl OpenView {
     }
 
     // Gives a group up.
-    #[tactic(auto, using(effects::proofs::Following::following))]
+    #[tactic(auto, using(outside::proofs::Following::following))]
     fn abort_group<K: Sink>(&mut self, alloc: Global, output: &mut K) -> Result<(), Stop>
         requires { is_some self.old.session.held ≡ true }
         ensures does { (s : _) → Does (aborting self.old).effects (world_of s (K.state output.old)) (world_of s (K.state output.new)) result }
@@ -114,7 +113,7 @@ impl OpenView {
     }
 
     /// Refuses a group that has ended.
-    #[tactic(auto, using(effects::proofs::Following::following))]
+    #[tactic(auto, using(outside::proofs::Following::following))]
     pub fn refuse_group<K: Sink>(
         &mut self,
         alloc: Global,
@@ -132,7 +131,7 @@ impl OpenView {
     }
 
     /// Refuses a group, which gives it up.
-    #[tactic(auto, using(effects::proofs::Following::following))]
+    #[tactic(auto, using(outside::proofs::Following::following))]
     pub fn give_up<K: Sink>(
         &mut self,
         alloc: Global,
@@ -149,7 +148,7 @@ impl OpenView {
     }
 
     // Makes the changes of a group, or refuses it.
-    #[tactic(auto, using(effects::proofs::Following::following, crate::proofs::AnswerLemmas::made_view, crate::proofs::AnswerLemmas::stopped_view))]
+    #[tactic(auto, using(outside::proofs::Following::following, crate::proofs::AnswerLemmas::made_view, crate::proofs::AnswerLemmas::stopped_view))]
     fn make_group<K: Sink, L: Ledger>(
         &mut self,
         alloc: Global,
@@ -176,7 +175,7 @@ impl OpenView {
     }
 
     // Ends a group, which is refused where a line was.
-    #[tactic(auto, using(effects::proofs::Following::following, crate::proofs::AnswerLemmas::unbroken_view, crate::proofs::AnswerLemmas::broken_view, crate::proofs::AnswerLemmas::unbroken_does))]
+    #[tactic(auto, using(outside::proofs::Following::following, crate::proofs::AnswerLemmas::unbroken_view, crate::proofs::AnswerLemmas::broken_view, crate::proofs::AnswerLemmas::unbroken_does))]
     fn commit_group<K: Sink, L: Ledger>(
         &mut self,
         alloc: Global,
@@ -197,7 +196,7 @@ impl OpenView {
     }
 
     /// Answers `begin` alone.
-    #[tactic(auto, using(effects::proofs::Following::following, crate::proofs::ViewLemmas::none_open))]
+    #[tactic(auto, using(outside::proofs::Following::following, crate::proofs::ViewLemmas::none_open))]
     pub fn begin_line<K: Sink>(
         &mut self,
         alloc: Global,
@@ -216,7 +215,7 @@ impl OpenView {
     }
 
     // Answers `commit` alone.
-    #[tactic(auto, using(effects::proofs::Following::following))]
+    #[tactic(auto, using(outside::proofs::Following::following))]
     fn commit_line<K: Sink, L: Ledger>(
         &mut self,
         alloc: Global,
@@ -238,7 +237,7 @@ impl OpenView {
     }
 
     /// Answers `abort` alone.
-    #[tactic(auto, using(effects::proofs::Following::following))]
+    #[tactic(auto, using(outside::proofs::Following::following))]
     pub fn abort_line<K: Sink>(
         &mut self,
         alloc: Global,
@@ -257,7 +256,7 @@ impl OpenView {
     }
 
     // Answers `sync` alone.
-    #[tactic(auto, using(effects::proofs::Following::following, crate::proofs::ViewLemmas::none_open))]
+    #[tactic(auto, using(outside::proofs::Following::following, crate::proofs::ViewLemmas::none_open))]
     fn sync_line<F: Folders, K: Sink>(
         &mut self,
         alloc: Global,
@@ -278,7 +277,7 @@ impl OpenView {
     }
 
     // Answers a word alone.
-    #[tactic(auto, using(effects::proofs::Following::following))]
+    #[tactic(auto, using(outside::proofs::Following::following))]
     fn word_alone<F: Folders, K: Sink, L: Ledger>(
         &mut self,
         alloc: Global,
@@ -304,7 +303,7 @@ impl OpenView {
     }
 
     /// Answers a line that begins with a word.
-    #[tactic(auto, using(effects::proofs::Following::following, crate::proofs::AnswerLemmas::one_word_does, crate::proofs::AnswerLemmas::one_word_view, crate::proofs::AnswerLemmas::more_words_view))]
+    #[tactic(auto, using(outside::proofs::Following::following, crate::proofs::AnswerLemmas::one_word_does, crate::proofs::AnswerLemmas::one_word_view, crate::proofs::AnswerLemmas::more_words_view))]
     pub fn word_line<F: Folders, K: Sink, L: Ledger>(
         &mut self,
         alloc: Global,
@@ -330,7 +329,7 @@ impl OpenView {
     }
 
     /// Refuses an open group at the end of the input.
-    #[tactic(auto, using(effects::proofs::Following::following))]
+    #[tactic(auto, using(outside::proofs::Following::following))]
     pub fn end_group<K: Sink>(&mut self, alloc: Global, output: &mut K) -> Result<(), Stop>
         ensures does { (s : _) → Does (end_effects self.old) (world_of s (K.state output.old)) (world_of s (K.state output.new)) result }
         ensures view { OnOk result (self.new ≡ end_view self.old) }

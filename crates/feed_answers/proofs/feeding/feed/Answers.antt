@@ -1,5 +1,5 @@
 use Rattle.std.proofs.lemmas.Result.{err_from_is_err_and}
-use Rattle.effects.specs.Effects.{world_of}
+use Rattle.outside.specs.Effects.{world_of}
 use Rattle.tab_lines.specs.Lines.{lines_of}
 use Rattle.course.proofs.KeepingLemmas.{never_held_up}
 use Rattle.view_stages.specs.Opening.{opening}

@@ -1,5 +1,5 @@
 use Rattle.std.proofs.Common.{◌∙◌, Ok, sym}
-use Rattle.effects.specs.Effects.{world_of}
+use Rattle.outside.specs.Effects.{world_of}
 use Rattle.journal_answers.proofs.OpeningLemmas.{opened_defined}
 use Rattle.journal_answers.proofs.opening.open.Goals as goal
 

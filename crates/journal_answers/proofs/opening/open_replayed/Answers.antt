@@ -1,5 +1,5 @@
 use Rattle.std.proofs.Common.{refl, sym, subst}
-use Rattle.effects.specs.Effects.{world_of}
+use Rattle.outside.specs.Effects.{world_of}
 use Rattle.view_def.specs.Query.{query_of}
 use Rattle.view_answers.specs.Steps.{Begins}
 use Rattle.journal_answers.specs.declared.view.JournalView.{JournalView}

@@ -1,6 +1,6 @@
 use Rattle.std.proofs.Common.{Bool, List, true, Ok, Err, sym, subst, rules}
 use Rattle.course.specs.declared.status.LineStop.TheVariants as line_stop
-use Rattle.effects.specs.declared.stop.Stop.TheVariants as stop
+use Rattle.outside.specs.declared.stop.Stop.TheVariants as stop
 use Rattle.change_journal.specs.Lines.{lines_in}
 use Rattle.change_journal.specs.Spelled.{Group}
 use Rattle.journal_log.specs.Logs.{log_of, KeepsFirst}

@@ -1,5 +1,5 @@
 use Rattle.std.proofs.lemmas.Result.{err_from_is_err_and}
-use Rattle.effects.specs.Effects.{world_of}
+use Rattle.outside.specs.Effects.{world_of}
 use Rattle.course.proofs.KeepingLemmas.{never_held_up}
 use Rattle.plain_commands.specs.Applies.{apply_opening}
 use Rattle.plain_commands.proofs.ApplyLemmas.{opening_stopped, drove_whole, drove_can, took_applying, enough_applying, open_reads}

@@ -1,5 +1,5 @@
 use Rattle.std.proofs.Common.{◌∙◌, ap}
-use Rattle.effects.specs.Effects.{world_of}
+use Rattle.outside.specs.Effects.{world_of}
 use Rattle.ss_text.specs.Texts.{Text}
 use Rattle.view_folder.specs.Comparison.{comparison}
 use Rattle.plain_commands.proofs.VerifyLemmas.{compared_ends}

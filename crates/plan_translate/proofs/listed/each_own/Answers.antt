@@ -2,7 +2,7 @@ use Rattle.std.proofs.Common.{◌≡◌, ◌<◌, ◌++◌, ◌∷◌, [], ◌�
 use Rattle.std.specs.Global.{Global}
 use Rattle.std.proofs.lemmas.List.{length_push, map-append}
 use Rattle.ss_text.specs.Texts.{Row}
-use Rattle.plan_walk.specs.Fills.{rows_in}
+use Rattle.plan_translate.specs.ChainFills.{rows_in}
 use Rattle.plan_translate.specs.Parts.{own_tests}
 use Rattle.plan_translate.specs.Listed.{rows_passing, own_listed}
 use Rattle.schema_delta.specs.Flat.{flat}

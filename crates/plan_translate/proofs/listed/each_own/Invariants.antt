@@ -1,5 +1,5 @@
 use Rattle.std.proofs.Common.{◌≡◌, take, length}
-use Rattle.plan_walk.specs.Fills.{rows_in}
+use Rattle.plan_translate.specs.ChainFills.{rows_in}
 use Rattle.plan_translate.specs.Parts.{own_tests}
 use Rattle.plan_translate.specs.Listed.{own_listed}
 use Rattle.plan_translate.proofs.listed.each_own.Given as goal

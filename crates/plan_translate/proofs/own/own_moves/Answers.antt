@@ -2,7 +2,7 @@ use Rattle.std.proofs.Common.{◌≡◌, List, length, ap, sym, ◌∙◌, subst
 use Rattle.std.specs.List.{AllByRecursion}
 use Rattle.std.proofs.lemmas.List.{length-map}
 use Rattle.operator_law.specs.declared.delta.Signed.{Signed}
-use Rattle.net_moves.specs.Net.{SameNet, IsNet}
+use Rattle.schema_delta.specs.Net.{SameNet, IsNet}
 use Rattle.plan_translate.specs.Parts.{own_tests}
 use Rattle.plan_translate.proofs.Each.{zip_long}
 use Rattle.plan_translate.proofs.OwnMoves.{each_net, each_long}

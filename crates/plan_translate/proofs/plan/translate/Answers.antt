@@ -4,7 +4,7 @@ use Rattle.view_def.specs.Profile.{IsViewOfProfile}
 use Rattle.plan_law.specs.PlanRows.{specs_from, plan_joints}
 use Rattle.plan_form.specs.Bases.{BaseValue, base_value}
 use Rattle.plan_form.specs.Forms.{IsOutputOf}
-use Rattle.plan_walk.specs.Stages.{sides_in}
+use Rattle.plan_translate.specs.ChainStages.{sides_in}
 use Rattle.plan_translate.specs.Read.{reads_rows}
 use Rattle.plan_translate.specs.Plans.{JoinsStand}
 use Rattle.plan_translate.specs.Parts.{bases_of, fresh_join}

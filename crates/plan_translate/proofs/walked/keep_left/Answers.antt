@@ -1,6 +1,6 @@
 use Rattle.std.proofs.Common.{◌≡◌, ◌<◌, ◌++◌, List, length, map, take, drop, get_or, set, arith, ap, sym, ◌∙◌}
 use Rattle.operator_law.specs.declared.delta.Signed.{Signed}
-use Rattle.plan_walk.specs.Stages.{side_moves}
+use Rattle.plan_translate.specs.ChainStages.{side_moves}
 use Rattle.plan_translate.proofs.Each.{Pair, written}
 use Rattle.plan_translate.proofs.Emptied.{emptied, left_of, emptied_long, emptied_more, emptied_all}
 use Rattle.plan_translate.proofs.walked.keep_left.Goals as goal

@@ -1,4 +1,4 @@
-use Rattle.run_course.proofs.RunLemmas.{by_cause}
+use Rattle.course.proofs.RunLemmas.{by_cause}
 use Rattle.ss_top.specs.Commands.{asked_of, names_of}
 use Rattle.ss_top.proofs.DefinedLemmas.{all_defined}
 use Rattle.ss_top.proofs.WordLemmas.{asked_views}

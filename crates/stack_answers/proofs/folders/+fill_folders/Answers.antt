@@ -1,5 +1,5 @@
 use Rattle.std.proofs.lemmas.Result.{err_from_is_err_and}
-use Rattle.effects.proofs.EffectLemmas.{performs_as}
+use Rattle.outside.proofs.EffectLemmas.{performs_as}
 use Rattle.stack_answers.proofs.FolderLemmas.{first_filled}
 use Rattle.stack_answers.proofs.PerformingLemmas.{performs_front, performs_both, performs_done, performs_lacking}
 use Rattle.stack_answers.proofs.folders.+fill_folders.Goals as goal

@@ -1,5 +1,5 @@
 use Rattle.std.proofs.lemmas.Result.{err_from_is_err_and}
-use Rattle.effects.proofs.EffectLemmas.{performs_as}
+use Rattle.outside.proofs.EffectLemmas.{performs_as}
 use Rattle.stack_answers.proofs.FolderLemmas.{none_synced, first_synced}
 use Rattle.stack_answers.proofs.PerformingLemmas.{performs_none, performs_front, performs_both}
 use Rattle.stack_answers.proofs.folders.+sync_folders.Goals as goal

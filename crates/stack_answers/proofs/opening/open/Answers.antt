@@ -1,5 +1,5 @@
 use Rattle.std.proofs.Common.{◌∙◌, Ok}
-use Rattle.effects.specs.Effects.{world_of}
+use Rattle.outside.specs.Effects.{world_of}
 use Rattle.stack_levels.specs.Opening.{defined_views}
 use Rattle.stack_answers.specs.Opening.{all_accepted}
 use Rattle.stack_answers.proofs.OpeningLemmas.{defined_behind}

@@ -1,5 +1,5 @@
 use Rattle.std.proofs.Common.{Ok}
-use Rattle.effects.specs.Effects.{world_of}
+use Rattle.outside.specs.Effects.{world_of}
 use Rattle.stack_levels.specs.Opening.{defined_views}
 use Rattle.stack_answers.proofs.OpeningLemmas.{distinct_behind, twice_ended}
 use Rattle.stack_answers.proofs.opening.open_views.Goals as goal

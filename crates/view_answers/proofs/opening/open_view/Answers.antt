@@ -1,5 +1,5 @@
 use Rattle.std.proofs.Common.{◌∙◌, Ok, sym}
-use Rattle.effects.specs.Effects.{world_of}
+use Rattle.outside.specs.Effects.{world_of}
 use Rattle.view_def.specs.Query.{query_of}
 use Rattle.view_answers.proofs.OpeningLemmas.{opened_behind}
 use Rattle.view_answers.proofs.opening.open_view.Goals as goal

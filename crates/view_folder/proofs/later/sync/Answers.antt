@@ -1,5 +1,5 @@
 use Rattle.std.proofs.Common.{◌≡◌, ◌∙◌}
-use Rattle.effects.specs.Performing.{Performs}
+use Rattle.outside.specs.Performing.{Performs}
 use Rattle.view_folder.specs.Files.{view_folder}
 use Rattle.view_folder.specs.Sync.{later_sync, tables_first}
 use Rattle.view_folder.proofs.LaterLemmas.{named_hold, ordered_performs, ordered_counted}

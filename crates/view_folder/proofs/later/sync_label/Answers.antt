@@ -1,6 +1,6 @@
 use Rattle.std.proofs.Common.{◌≡◌, ◌∙◌, ◌∷◌, [], sym, ap}
-use Rattle.effects.specs.Effects.{Remove}
-use Rattle.effects.proofs.EffectLemmas.{performs_as}
+use Rattle.outside.specs.Effects.{Remove}
+use Rattle.outside.proofs.EffectLemmas.{performs_as}
 use Rattle.view_folder.specs.Sync.{label_synced}
 use Rattle.view_folder.proofs.LaterLemmas.{synced_remove}
 use Rattle.view_folder.proofs.later.sync_label.Goals as goal

@@ -1,7 +1,7 @@
 use Rattle.std.proofs.Common.{ap, None, arith}
 use Rattle.outside.specs.States.{SinkState}
-use Rattle.effects.specs.Effects.{Stored, stored_of}
-use Rattle.effects.proofs.EffectLemmas.{performing_starts, performing_more}
+use Rattle.outside.specs.Effects.{Stored, stored_of}
+use Rattle.outside.proofs.EffectLemmas.{performing_starts, performing_more}
 use Rattle.view_folder.specs.Sync.{label_synced}
 use Rattle.view_folder.proofs.LaterLemmas.{counting_starts, counting_more, counting_done, counted_more, few_more}
 use Rattle.view_folder.proofs.later.sync_labels.Goals as goal

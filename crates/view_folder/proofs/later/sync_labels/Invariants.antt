@@ -1,7 +1,7 @@
 use Rattle.std.proofs.Common.{◌≡◌, ◌≤◌, Some, map, drop}
 use Rattle.outside.specs.Counts.{risen}
-use Rattle.effects.specs.Effects.{Stored, stored_of}
-use Rattle.effects.specs.Performing.{Performing}
+use Rattle.outside.specs.Effects.{Stored, stored_of}
+use Rattle.outside.specs.Performing.{Performing}
 use Rattle.view_folder.specs.Sync.{label_synced}
 use Rattle.view_folder.proofs.LaterLemmas.{IsCounting}
 use Rattle.view_folder.proofs.later.sync_labels.Given as goal

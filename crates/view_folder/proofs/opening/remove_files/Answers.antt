@@ -1,8 +1,8 @@
 use Rattle.std.proofs.Common.{arith}
 use Rattle.outside.specs.States.{SinkState}
 use Rattle.std.specs.Prelude.{None}
-use Rattle.effects.specs.Effects.{Remove}
-use Rattle.effects.proofs.EffectLemmas.{performing_starts, performing_more}
+use Rattle.outside.specs.Effects.{Remove}
+use Rattle.outside.proofs.EffectLemmas.{performing_starts, performing_more}
 use Rattle.view_folder.proofs.LaterLemmas.{counted_more, few_more}
 use Rattle.view_folder.proofs.OpeningLemmas.{removing_starts, removing_more}
 use Rattle.view_folder.proofs.opening.remove_files.Goals as goal

@@ -1,8 +1,8 @@
 use Rattle.std.proofs.Common.{◌≡◌, drop, ◌≤◌, Some}
 use Rattle.outside.specs.Counts.{risen}
 use Rattle.outside.specs.Tree.{Tree}
-use Rattle.effects.specs.Effects.{stored_of}
-use Rattle.effects.specs.Performing.{Performing}
+use Rattle.outside.specs.Effects.{stored_of}
+use Rattle.outside.specs.Performing.{Performing}
 use Rattle.view_folder.specs.Files.{Apart, AreThere}
 use Rattle.view_folder.specs.Sync.{removed}
 use Rattle.view_folder.proofs.OpeningLemmas.{IsRemoving}

@@ -1,6 +1,6 @@
 use Rattle.std.proofs.Common.{◌≡◌, ◌∙◌, ap, sym}
-use Rattle.effects.specs.Effects.{contents, performed, world_of}
-use Rattle.effects.proofs.EffectLemmas.{performed_append}
+use Rattle.outside.specs.Effects.{contents, performed, world_of}
+use Rattle.outside.proofs.EffectLemmas.{performed_append}
 use Rattle.outside.specs.Tree.{files_of}
 use Rattle.view_folder.specs.Files.{other_names}
 use Rattle.view_folder.specs.Sync.{written, removed}

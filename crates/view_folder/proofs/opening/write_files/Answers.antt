@@ -1,6 +1,6 @@
 use Rattle.std.proofs.Common.{arith}
-use Rattle.effects.specs.Effects.{Write}
-use Rattle.effects.proofs.EffectLemmas.{performing_more}
+use Rattle.outside.specs.Effects.{Write}
+use Rattle.outside.proofs.EffectLemmas.{performing_more}
 use Rattle.view_folder.specs.declared.file.File.{File}
 use Rattle.view_folder.proofs.opening.write_files.Goals as goal
 

@@ -1,6 +1,6 @@
 use Rattle.std.proofs.Common.{◌≡◌, drop}
 use Rattle.outside.specs.Counts.{risen}
-use Rattle.effects.specs.Performing.{Performing}
+use Rattle.outside.specs.Performing.{Performing}
 use Rattle.view_folder.specs.Sync.{written}
 use Rattle.view_folder.proofs.opening.write_files.Given as goal
 

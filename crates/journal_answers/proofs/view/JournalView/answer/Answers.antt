@@ -1,5 +1,5 @@
 use Rattle.std.proofs.Common.{[], Ok, Err, refl, subst}
-use Rattle.effects.specs.Effects.{world_of}
+use Rattle.outside.specs.Effects.{world_of}
 use Rattle.ss_text.specs.Texts.{Row}
 use Rattle.view_answers.specs.Answers.{refusing}
 use Rattle.journal_answers.specs.Answers.{answer, made}

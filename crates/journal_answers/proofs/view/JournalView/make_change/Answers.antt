@@ -1,5 +1,5 @@
 use Rattle.std.proofs.Common.{[], ◌∷◌, refl}
-use Rattle.effects.specs.Effects.{world_of}
+use Rattle.outside.specs.Effects.{world_of}
 use Rattle.view_answers.specs.Answers.{refusing}
 use Rattle.journal_answers.specs.Answers.{made_by}
 use Rattle.journal_answers.specs.Steps.{judging}

@@ -1,6 +1,6 @@
 use Rattle.std.proofs.Common.{true, [], refl}
 use Rattle.std.specs.Prelude.{unwrap_or}
-use Rattle.effects.specs.Effects.{world_of}
+use Rattle.outside.specs.Effects.{world_of}
 use Rattle.view_session.specs.Session.{closed}
 use Rattle.view_answers.specs.Answers.{giving_up}
 use Rattle.journal_answers.specs.Answers.{made_by}

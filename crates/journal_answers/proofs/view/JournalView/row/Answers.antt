@@ -1,6 +1,6 @@
 use Rattle.std.proofs.Common.{[], ◌∷◌, Ok, refl, sym, ap, ◌∙◌}
 use Rattle.std.specs.Prelude.{unwrap_or}
-use Rattle.effects.specs.Effects.{world_of}
+use Rattle.outside.specs.Effects.{world_of}
 use Rattle.view_answers.specs.Answers.{Answer, by_row, syncing, syncing_view}
 use Rattle.journal_answers.specs.Answers.{asked_of, made_by}
 use Rattle.journal_answers.specs.Steps.{ending_group, judging, is_script}

@@ -3,11 +3,11 @@ use Rattle.std.specs.Global.{Global}
 use Rattle.std.proofs.lemmas.List.{length-map}
 use Rattle.ss_text.specs.Texts.{Row}
 use Rattle.join_delta.specs.Joins.{JoinValue}
-use Rattle.plan_walk.specs.Stages.{joint_in}
-use Rattle.plan_walk.specs.Fills.{Fills, rows_in}
+use Rattle.plan_translate.specs.ChainStages.{joint_in}
+use Rattle.plan_translate.specs.ChainFills.{Fills, rows_in}
 use Rattle.plan_translate.specs.Parts.{own_tests}
 use Rattle.plan_translate.specs.Listed.{own_listed}
-use Rattle.plan_translate.proofs.Filled.{specs_long, each_further, filled_in}
+use Rattle.plan_translate.proofs.PlanFilled.{specs_long, each_further, filled_in}
 use Rattle.plan_translate.proofs.plan.Plan.filled.Goals as goal
 
 pub listed-requires-clause-each : goal.listed-requires-clause-each

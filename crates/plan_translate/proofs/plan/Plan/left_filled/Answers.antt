@@ -2,11 +2,11 @@ use Rattle.std.proofs.Common.{◌≡◌, ◌∷◌, ◌++◌, [], List, None, ma
 use Rattle.ss_text.specs.Texts.{Row}
 use Rattle.schema_delta.specs.Flat.{flat}
 use Rattle.join_delta.specs.Joins.{JoinValue}
-use Rattle.plan_walk.specs.Stages.{joint_in, sides_in}
+use Rattle.plan_translate.specs.ChainStages.{joint_in, sides_in}
 use Rattle.plan_translate.specs.Listed.{rows_passing}
 use Rattle.plan_translate.specs.Plans.{query_in, JoinsStand}
 use Rattle.plan_translate.proofs.Moving.{one_in, joined_in}
-use Rattle.plan_translate.proofs.Filled.{left_joints, left_stand}
+use Rattle.plan_translate.proofs.PlanFilled.{left_joints, left_stand}
 use Rattle.plan_translate.proofs.plan.Plan.left_filled.Goals as goal
 
 pub index-requires-3 : goal.index-requires-3

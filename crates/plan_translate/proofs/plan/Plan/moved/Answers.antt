@@ -1,12 +1,12 @@
 use Rattle.std.proofs.Common.{◌≡◌, List, Bool, cond, length, map, ap, sym, ◌∙◌, subst}
 use Rattle.std.proofs.lemmas.List.{length-map}
 use Rattle.operator_law.specs.declared.delta.Signed.{Signed}
-use Rattle.net_moves.specs.Net.{SameNet}
+use Rattle.schema_delta.specs.Net.{SameNet}
 use Rattle.plan_law.specs.Chain.{SideMoves}
 use Rattle.plan_law.specs.PlanRows.{plan_joints}
 use Rattle.plan_law.specs.PlanMoves.{fact_moves}
-use Rattle.plan_walk.specs.Stages.{side_moves}
-use Rattle.plan_walk.specs.declared.walks.WalkMoves.{WalkMoves}
+use Rattle.plan_translate.specs.ChainStages.{side_moves}
+use Rattle.plan_translate.specs.declared.chain_walk.WalkMoves.{WalkMoves}
 use Rattle.plan_translate.specs.Read.{left_moves, kept_moves}
 use Rattle.plan_translate.specs.Plans.{PlanMoveValue, query_in}
 use Rattle.plan_translate.proofs.Moving.{output_in, reads_in, walked_by, counts_walk}

@@ -1,6 +1,6 @@
 use Rattle.std.proofs.Common.{◌≡◌, List, length, arith, ap, sym, ◌∙◌}
 use Rattle.operator_law.specs.declared.delta.Signed.{Signed}
-use Rattle.net_moves.specs.Net.{SameNet}
+use Rattle.schema_delta.specs.Net.{SameNet}
 use Rattle.plan_translate.specs.Parts.{own_tests, each_passing}
 use Rattle.plan_translate.proofs.Each.{zip_long}
 use Rattle.plan_translate.proofs.Moving.{profile_in, tests_in, joins_long, joined_in, split_in}

@@ -1,6 +1,6 @@
 use Rattle.std.proofs.Common.{◌≡◌, List, map, subst, ap, sym, ◌∙◌, Some, None}
 use Rattle.std.specs.List.{AllZip}
-use Rattle.plan_walk.specs.Stages.{side_moves}
+use Rattle.plan_translate.specs.ChainStages.{side_moves}
 use Rattle.plan_translate.specs.Sides.{CanMove}
 use Rattle.plan_translate.proofs.Each.{Pair}
 use Rattle.plan_translate.proofs.Commits.{all_can, stands_as, joints_alike}

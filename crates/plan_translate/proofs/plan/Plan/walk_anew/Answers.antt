@@ -1,7 +1,7 @@
 use Rattle.std.proofs.Common.{List, map, subst}
 use Rattle.join_delta.specs.Joins.{JoinValue}
-use Rattle.plan_walk.specs.Stages.{joint_in, sides_in}
-use Rattle.plan_walk.specs.Cost.{CostsWalk}
+use Rattle.plan_translate.specs.ChainStages.{joint_in, sides_in}
+use Rattle.plan_translate.specs.ChainCost.{CostsWalk}
 use Rattle.plan_translate.specs.Plans.{query_in}
 use Rattle.plan_translate.proofs.Within.{over_there, anew_costs}
 use Rattle.plan_translate.proofs.plan.Plan.walk_anew.Goals as goal

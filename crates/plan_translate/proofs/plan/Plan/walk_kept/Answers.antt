@@ -2,8 +2,8 @@ use Rattle.std.proofs.Common.{◌≤◌, ◌+◌, List, map, sym, subst}
 use Rattle.operator_law.specs.declared.delta.Signed.{Signed}
 use Rattle.join_delta.specs.Joins.{JoinValue}
 use Rattle.plan_law.specs.Chain.{SideMoves, Walks, walk_pairs}
-use Rattle.plan_walk.specs.Stages.{joint_in, sides_in, side_moves}
-use Rattle.plan_walk.specs.Cost.{CostsWalk}
+use Rattle.plan_translate.specs.ChainStages.{joint_in, sides_in, side_moves}
+use Rattle.plan_translate.specs.ChainCost.{CostsWalk}
 use Rattle.plan_translate.specs.Plans.{PlanValue, query_in, JoinsStand}
 use Rattle.plan_translate.proofs.Moving.{joints_in, one_in, kept_over}
 use Rattle.plan_translate.proofs.Within.{kept_costs}

@@ -1,7 +1,7 @@
 use Rattle.std.proofs.Common.{◌≡◌, Some}
 use Rattle.std.proofs.lemmas.Result.{err_from_is_err_and, IfOk-weaker}
 use Rattle.outside.specs.Tree.{Tree}
-use Rattle.effects.specs.Effects.{world_of}
+use Rattle.outside.specs.Effects.{world_of}
 use Rattle.stack_answers.specs.Stack.{queries_of}
 use Rattle.stack_answers.specs.Held.{held_in, stack_state}
 use Rattle.stack_answers.specs.Folders.{planned_in, label_count}

@@ -1,5 +1,5 @@
 use Rattle.std.proofs.Common.{◌∙◌, ap}
-use Rattle.effects.proofs.EffectLemmas.{performs_as}
+use Rattle.outside.proofs.EffectLemmas.{performs_as}
 use Rattle.view_session.specs.Named.{Names}
 use Rattle.stack_answers.specs.Held.{held_in}
 use Rattle.stack_answers.proofs.StackLemmas.{saves}

@@ -1,4 +1,4 @@
-use Rattle.effects.proofs.EffectLemmas.{performs_as}
+use Rattle.outside.proofs.EffectLemmas.{performs_as}
 use Rattle.stack_answers.specs.Held.{held_in}
 use Rattle.stack_answers.proofs.StackLemmas.{synced_effects}
 use Rattle.stack_answers.proofs.open_stack.OpenStack.sync_named.Goals as goal

@@ -1,4 +1,4 @@
-use Rattle.effects.proofs.EffectLemmas.{performs_as}
+use Rattle.outside.proofs.EffectLemmas.{performs_as}
 use Rattle.view_answers.proofs.AnswerLemmas.{saves}
 use Rattle.view_answers.proofs.view.OpenView.save_named.Goals as goal
 

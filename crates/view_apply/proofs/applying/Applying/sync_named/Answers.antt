@@ -1,6 +1,6 @@
 use Rattle.std.proofs.Common.{◌∷◌, [], ap, sym}
-use Rattle.effects.specs.Effects.{Replace}
-use Rattle.effects.proofs.EffectLemmas.{performs_as}
+use Rattle.outside.specs.Effects.{Replace}
+use Rattle.outside.proofs.EffectLemmas.{performs_as}
 use Rattle.view_folder.specs.Files.{view_folder}
 use Rattle.view_folder.specs.Sync.{later_edits}
 use Rattle.view_apply.proofs.applying.Applying.sync_named.Goals as goal

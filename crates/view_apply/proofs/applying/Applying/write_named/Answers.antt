@@ -1,5 +1,5 @@
 use Rattle.std.proofs.Common.{◌∷◌, []}
-use Rattle.effects.specs.Effects.{Replace, world_of}
+use Rattle.outside.specs.Effects.{Replace, world_of}
 use Rattle.view_folder.specs.Files.{view_folder}
 use Rattle.view_folder.specs.Sync.{later_edits}
 use Rattle.ss_print.specs.Printing.{prints_applied}

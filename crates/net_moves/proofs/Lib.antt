@@ -1,3 +1,0 @@
-pub mod NetLaw
-pub mod Cancelled
-pub mod Leftover

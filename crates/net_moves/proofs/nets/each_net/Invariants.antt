@@ -1,9 +1,0 @@
-use Rattle.std.specs.List.{AllZip, AllByRecursion}
-use Rattle.net_moves.specs.Net.{SameNet, IsNet}
-use Rattle.net_moves.proofs.nets.each_net.Given as goal
-
-abbrev pub invariant-loop-delta : goal.invariant-loop-delta
-invariant-loop-delta l = record {
-  same : AllZip SameNet l.yielded l.nets.items;
-  net : AllByRecursion IsNet l.nets.items;
-}

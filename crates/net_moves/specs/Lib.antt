@@ -1,2 +1,0 @@
-pub mod Net
-pub mod Cancelled

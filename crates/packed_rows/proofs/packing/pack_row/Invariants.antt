@@ -1,6 +1,0 @@
-use Rattle.std.proofs.Common.{◌≡◌, take}
-use Rattle.packed_rows.specs.Packed.{packed_row}
-use Rattle.packed_rows.proofs.packing.pack_row.Given as goal
-
-abbrev pub invariant-loop-text : goal.invariant-loop-text
-invariant-loop-text l = l.bytes.items ≡ packed_row (take l.text-index l.texts)

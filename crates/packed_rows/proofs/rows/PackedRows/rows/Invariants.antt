@@ -1,6 +1,0 @@
-use Rattle.std.proofs.Common.{◌≡◌, map, take}
-use Rattle.packed_rows.specs.Packed.{unpacked_row}
-use Rattle.packed_rows.proofs.rows.PackedRows.rows.Given as goal
-
-abbrev pub invariant-loop-row : goal.invariant-loop-row
-invariant-loop-row l = l.rows.items ≡ map unpacked_row (take l.row-index l.row-items)

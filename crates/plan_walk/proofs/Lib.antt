@@ -1,4 +1,0 @@
-pub mod Nets
-pub mod Stages
-pub mod Whole
-pub mod ChainFilled

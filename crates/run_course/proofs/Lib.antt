@@ -1,7 +1,0 @@
-pub mod DriveLemmas
-pub mod FrontLemmas
-pub mod IdleLemmas
-pub mod RefusedLemmas
-pub mod RunLemmas
-pub mod TakenLemmas
-pub mod ToldLemmas

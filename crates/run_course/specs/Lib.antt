@@ -1,4 +1,0 @@
-pub mod Course
-pub mod Exit
-pub mod Idle
-pub mod Statuses

@@ -1,6 +1,0 @@
-use Rattle.std.proofs.Common.{arith}
-use Rattle.stack_print.proofs.PrintingLemmas.{named_does}
-use Rattle.stack_print.proofs.printing.name_level.Goals as goal
-
-pub returns-clause-does : goal.returns-clause-does
-returns-clause-does g c = λ s. named_does c.args.level _ _ _ (omega arith) (c.say_level.ensures.does s)
