@@ -76,7 +76,7 @@ entries_said image groups e = by_read (read_journal image) refl e
         subst AllSaid same (all_said image 0 0 read is)
 
 -- groups that their lines say are told apart by them
-same_groups : (groups others : List Group) → AllSaid groups → AllSaid others → lines_in groups ≡ lines_in others → groups ≡ others
+pub same_groups : (groups others : List Group) → AllSaid groups → AllSaid others → lines_in groups ≡ lines_in others → groups ≡ others
 same_groups [] [] h k e = refl
 same_groups [] (other ∷ others) h k e = absurd (cc e)
 same_groups (group ∷ groups) [] h k e = absurd (cc e)

@@ -62,6 +62,7 @@ impl Journal {
     }
 
     /// Adds a group of changes. From `Ok` on every crash leaves an image that has it. After `DiskFault` the journal is shut.
+    /// After `Full` and `Shut` the disk was not called. After `NoMemory` the group is not there, and can be added again.
     pub fn append<D: Disk>(
         &mut self,
         alloc: Global,

@@ -27,7 +27,7 @@ pub trait Disk {
         ensures failed { OnErr result (Rose ((state self.old).faults) ((state self.new).faults)) }
         ensures steady { (state self.old).faults ≤ (state self.new).faults };
 
-    /// Reads as many bytes as the piece has, from a place on.
+    /// Reads as many bytes as the piece has, from a place on. After a failure the piece may hold anything.
     fn read_at(&mut self, at: u64, into: &mut [u8]) -> Result<(), Failed>
         requires { (held : Content) → (state self.old).content ≡ Some held → at + length into.old ≤ length held.bytes }
         ensures told { OnOk result ((held : Content) → (state self.old).content ≡ Some held → into.new ≡ take (length into.old) (drop at held.bytes)) }
@@ -36,8 +36,8 @@ pub trait Disk {
         ensures failed { OnErr result (Rose ((state self.old).faults) ((state self.new).faults)) }
         ensures steady { (state self.old).faults ≤ (state self.new).faults };
 
-    /// Writes over what is there, and past the end. A call that fails has written any part of it; one that found no
-    /// memory has written nothing.
+    /// Writes bytes from a place on, over what is there, and past the end. A call that fails has written any part of it; one
+    /// that found no memory has written nothing.
     fn write_at(&mut self, alloc: Global, at: u64, bytes: &[u8]) -> Result<(), StoreFault>
         requires within { (held : Content) → (state self.old).content ≡ Some held → at ≤ length held.bytes }
         requires fits { at + length bytes.now < 2 ^ 62 }
@@ -49,7 +49,8 @@ pub trait Disk {
         ensures failed { IsErrOf result StoreFault.Failed → Rose ((state self.old).faults) ((state self.new).faults) }
         ensures steady { (state self.old).faults ≤ (state self.new).faults };
 
-    /// After it a crash leaves what a read gives. A call that fails changes nothing of what is in doubt.
+    /// Makes stable all that was written: after it a crash leaves what a read gives. A call that fails changes nothing of what
+    /// is in doubt.
     fn sync(&mut self) -> Result<(), Failed>
         ensures ok { OnOk result ((state self.new).content ≡ option_map with_synced ((state self.old).content)) }
         ensures err { OnErr result ((state self.new).content ≡ (state self.old).content) }

@@ -10,17 +10,18 @@ use Rattle.view_session.specs.Verdicts.{standing_of}
 use Rattle.ss_print.specs.Printing.{prints_reply}
 use Rattle.view_stages.specs.Open.{OpenValue}
 use Rattle.view_answers.specs.Answers.{Answer}
+use Rattle.view_answers.proofs.AnswerLemmas.{made_moved}
 use Rattle.feed_core.specs.Arrivals.{arrivals_of, count_of, is_fresh, handled_at, same_change, by_handled}
 use Rattle.feed_core.specs.Replies.{ReplyValue, reply_to, taken_by}
 use Rattle.feed_core.specs.declared.arrival.Arrival.{Arrival}
 use Rattle.feed_core.specs.Handled.{Handled}
-use Rattle.feed_core.specs.declared.answer.Answer as core
-use Rattle.feed_core.specs.declared.answer.Answer.TheVariants.{Fresh, Kept, OtherChange}
+use Rattle.feed_core.specs.declared.outcome.Outcome.{Outcome}
+use Rattle.feed_core.specs.declared.outcome.Outcome.TheVariants.{Fresh, Kept, OtherChange}
 use Rattle.feed_answers.specs.declared.line.FeedLine.TheVariants.{Arrives}
 use Rattle.feed_answers.specs.declared.view.FeedView.{FeedView}
-use Rattle.feed_answers.specs.Answers.{handling, telling, repeating, by_turn, by_line, fed_by}
-use Rattle.feed_answers.specs.Steps.{Takes, told_by}
-use Rattle.feed_answers.proofs.ReplyLemmas.{replied, fresh_is, made_moved}
+use Rattle.feed_answers.specs.Answers.{handling, telling, repeating, by_turn, by_line, fed_by, told_by}
+use Rattle.feed_answers.specs.Steps.{Takes}
+use Rattle.feed_answers.proofs.ReplyLemmas.{replied, fresh_is}
 
 -- two answers do the same, and leave the same view
 record AreSame (x y : Answer) : Type 0 where
@@ -32,7 +33,7 @@ made_same : (o : OpenValue) (g : Change) (r : ReplyValue) → o.session.held ≡
 made_same o g (Ok lines) alone idle = record { effects = refl; view = ap (λ (s : SessionState). record o { session = s }) (made_moved o.session g alone idle) }
 made_same o g (Err e) alone idle = record { effects = refl; view = refl }
 
-module _ (f : FeedView) (a : Arrival) (n : FeedView) (x : core.Answer) (took : Takes f a n x) (alone : f.view.session.held ≡ None) where
+module _ (f : FeedView) (a : Arrival) (n : FeedView) (x : Outcome) (took : Takes f a n x) (alone : f.view.session.held ≡ None) where
   abbrev s : SessionState
   s = f.view.session
 
@@ -45,7 +46,7 @@ module _ (f : FeedView) (a : Arrival) (n : FeedView) (x : core.Answer) (took : T
   abbrev fresh : Bool
   fresh = is_fresh (arrivals_of f.feeds) a
 
-  abbrev again : core.Answer
+  abbrev again : Outcome
   again = by_handled a.change (suc (count_of a.source (arrivals_of f.feeds))) (handled_at a.source a.number f.feeds)
 
   abbrev taken : Bool → OpenValue
@@ -72,18 +73,18 @@ module _ (f : FeedView) (a : Arrival) (n : FeedView) (x : core.Answer) (took : T
       ap (λ (v : OpenValue). record { view = v; feeds = n.feeds }) (took.view ∙ ap taken e)
       ∙ ap (λ (hs : List Handled). record { view = f.view; feeds = hs }) (took.feeds ∙ ap (λ (b : Bool). cond b (f.feeds ++ one ∷ []) f.feeds) e)
 
-  same_again : (o : Option Handled) → (let y : core.Answer = by_handled a.change (suc (count_of a.source (arrivals_of f.feeds))) o in AreSame (told_by f a.source a.number y) (by_turn f a y))
+  same_again : (o : Option Handled) → (let y : Outcome = by_handled a.change (suc (count_of a.source (arrivals_of f.feeds))) o in AreSame (told_by f a.source a.number y) (by_turn f a y))
   same_again None = record { effects = refl; view = refl }
   same_again (Some h) = by_same (same_change a.change h.arrival.change)
     where
-      by_same : (b : Bool) → (let y : core.Answer = cond b Kept OtherChange in AreSame (told_by f a.source a.number y) (by_turn f a y))
+      by_same : (b : Bool) → (let y : Outcome = cond b Kept OtherChange in AreSame (told_by f a.source a.number y) (by_turn f a y))
       by_same true = record { effects = refl; view = refl }
       by_same false = record { effects = refl; view = refl }
 
   told_by_turn : (b : Bool) → fresh ≡ b → x ≡ cond b Fresh again → AreSame (told_by n a.source a.number x) (by_turn f a (cond b Fresh again))
-  told_by_turn true e is = subst (λ (y : core.Answer). AreSame (told_by n a.source a.number y) (handling f.view a)) (sym is) (told_fresh e is)
+  told_by_turn true e is = subst (λ (y : Outcome). AreSame (told_by n a.source a.number y) (handling f.view a)) (sym is) (told_fresh e is)
   told_by_turn false e is =
-      subst (λ (y : core.Answer). AreSame (told_by n a.source a.number y) (by_turn f a again)) (sym is)
+      subst (λ (y : Outcome). AreSame (told_by n a.source a.number y) (by_turn f a again)) (sym is)
       (subst (λ (m : FeedView). AreSame (told_by m a.source a.number again) (by_turn f a again)) (sym (stays e)) (same_again (handled_at a.source a.number f.feeds)))
 
   told_same : AreSame (told_by n a.source a.number x) (by_line f (Ok (Arrives a)))

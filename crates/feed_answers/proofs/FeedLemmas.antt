@@ -1,6 +1,6 @@
 -- From the opening of a view and the answers behind it to a run of `feed`.
-use Rattle.std.proofs.Common.{◌≡◌, ◌≢◌, ℕ, Bool, true, false, List, [], Option, Some, refl, sym, subst}
-use Rattle.std.specs.Prelude.{Result, Ok, Err, IfOk, IfErr, if◌then◌else◌}
+use Rattle.std.proofs.Common.{◌≡◌, ◌≢◌, ℕ, true, false, List, [], Option, Some, refl, sym, subst}
+use Rattle.std.specs.Prelude.{Result, Ok, Err, IfOk, IfErr}
 use Rattle.outside.specs.Effects.{Effect, World}
 use Rattle.outside.specs.declared.stop.Stop.{Stop}
 use Rattle.course.specs.declared.status.Verdict.{Verdict}
@@ -16,7 +16,7 @@ use Rattle.view_answers.specs.declared.opening.Opened.TheVariants as opened_as
 use Rattle.view_answers.specs.Steps.{Begins, Opens, starting}
 use Rattle.view_answers.specs.Limits.{IsWithin, StepsBy}
 use Rattle.view_answers.proofs.LimitLemmas.{drove_steps}
-use Rattle.view_answers.proofs.MaintainLemmas.{opening_ended, opening_stopped, opening_drove, ended_enough, enough_answering, open_reads, some_ended, some_stopped, some_drove, took_answering, drove_verdict, begins_with, ends_with, stops_with, stopped_can}
+use Rattle.view_answers.proofs.MaintainLemmas.{opening_ended, opening_stopped, opening_drove, ended_enough, enough_answering, open_reads, some_ended, some_stopped, some_drove, took_answering, drove_verdict, begins_with, ends_with, stops_with, stopped_can, done_can}
 use Rattle.feed_answers.specs.declared.view.FeedView.{FeedView}
 use Rattle.feed_answers.specs.Answers.{answer, fed, step, finish, at_first}
 use Rattle.feed_answers.specs.Limits.{limit}
@@ -68,10 +68,6 @@ module _ (r : Reply OpenValue) (old new : World) where
   some_fed_stopped e h = some_stopped step finish (starting at_first r) old new e (stops_with at_first r old new h)
 
 -- the statuses of `feed` are those of `maintain`
-done_can : (b : Bool) → can_maintain (verdict_status (if b then verdict.SomeRefused else verdict.Done)) ≡ true
-done_can true = refl
-done_can false = refl
-
 pub drove_can : (f : FeedView) (w v : World) (r : Result Verdict Halt) → AnsweredSome step finish f w v r → r ≢ Err halt.DiskFault → can_maintain (status_of r) ≡ true
 drove_can f w v (Ok s) h never = drove_verdict step finish goes (λ (x : Verdict). can_maintain (verdict_status x) ≡ true) (λ g. done_can g.view.refused) f w v s h
 drove_can f w v (Err halt.InputFault) h never = refl

@@ -13,7 +13,7 @@ use Rattle.flow_law.specs.declared.refused.Clash.{Clash}
 use Rattle.valuation_meaning.specs.Meaning.{facts, meaning, shape_of}
 use Rattle.apply_law.specs.Standing.{Idle}
 use Rattle.apply_law.specs.Verdicts.{Makes, IsIllegal, Clashes, tables_in}
-use Rattle.view_session.specs.Session.{SessionState, working, proposing, accepted, moved}
+use Rattle.view_session.specs.Session.{SessionState, working}
 use Rattle.view_session.specs.Verdicts.{standing_of, verdict_of, waiting_of, waiting_by}
 use Rattle.ss_print.specs.Fields.{illegal_fields, clash_fields}
 use Rattle.ss_print.specs.Printing.{prints_script}
@@ -22,7 +22,7 @@ use Rattle.view_stages.specs.Stages.{refusal_of}
 use Rattle.view_answers.specs.Answers.{Answer, Scripts, by_fault, by_view, changing, keeping, refusing}
 use Rattle.feed_core.specs.Replies.{ReplyValue, reply_to, by_verdict}
 use Rattle.feed_core.specs.Replies as reply
-use Rattle.feed_answers.specs.Fields.{refused_fields}
+use Rattle.feed_answers.specs.Fields.{reply_refused_fields}
 
 -- an idle session has no group, and nothing is proposed
 idle_parts : (held proposed : Option (List Change)) → waiting_by held proposed ≡ Idle → (held ≡ None) × (proposed ≡ None)
@@ -52,7 +52,7 @@ tables_are s ts e = made_tables (meaning s.catalogue s.query) ts (illegal (shape
 -- the answer by a reply
 abbrev pub replied : OpenValue → Change → ReplyValue → Answer
 replied o g (Ok lines) = record (changing o g) { said = Scripts lines; effects = prints_script lines ∷ [] }
-replied o g (Err e) = refusing o (refused_fields g e)
+replied o g (Err e) = refusing o (reply_refused_fields g e)
 
 module _ (o : OpenValue) (g : Change) (old : TablesValue) (is : old ≡ meaning o.session.catalogue o.session.query) where
   by_refusal : (i : Option IllegalLabel) (k : Option Clash)
@@ -75,9 +75,3 @@ pub fresh_is : (o : OpenValue) (g : Change) → o.session.held ≡ None → verd
 fresh_is o g none made =
     ap (λ (h : Option (List Change)). by_fault o g (fault (after_all o.session.catalogue (unwrap_or h [])) g)) none
     ∙ by_first o g (tables_in (verdict_of o.session.query o.session.catalogue)) (tables_are o.session (tables_in (verdict_of o.session.query o.session.catalogue)) made) (fault o.session.catalogue g) none
-
--- a session that made what it proposed has moved
-pub made_moved : (s : SessionState) (g : Change) → s.held ≡ None → s.proposed ≡ None → accepted (proposing s (g ∷ [])) ≡ moved s g
-made_moved s g alone idle =
-    ap (λ (h : Option (List Change)). record (moved s g) { held = h; proposed = None }) (sym alone)
-    ∙ ap (λ (p : Option (List Change)). record (moved s g) { held = s.held; proposed = p }) (sym idle)

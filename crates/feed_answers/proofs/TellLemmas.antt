@@ -2,9 +2,8 @@
 use Rattle.std.proofs.Common.{◌≡◌, ◌≢◌, ◌∷◌, ◌∙◌, ℕ, [], List, Option, None, Some, refl, sym, ap, subst}
 use Rattle.std.specs.Prelude.{Result, Ok, Err, OnOk, is_some, if◌then◌else◌}
 use Rattle.ss_text.specs.Texts.{Text, Row}
-use Rattle.outside.specs.Effects.{Effect, World, contents, performed, Does}
+use Rattle.outside.specs.Effects.{World, contents, performed, Does}
 use Rattle.outside.specs.declared.stop.Stop.{Stop}
-use Rattle.outside.proofs.EffectLemmas.{performed_append, partly_later}
 use Rattle.schema_model.specs.Changes.{after}
 use Rattle.schema_model.specs.Refusals.{fault}
 use Rattle.schema_model.specs.declared.change.Change.{Change}
@@ -17,63 +16,58 @@ use Rattle.ss_print.specs.Printing.{refuses, prints_reply, prints_script}
 use Rattle.view_stages.specs.Open.{OpenValue}
 use Rattle.view_stages.specs.Stages.{refusal_of}
 use Rattle.view_answers.specs.Answers.{by_fault, by_view, keeping}
+use Rattle.view_answers.proofs.AnswerLemmas.{behind}
 use Rattle.feed_core.specs.Arrivals.{handled_at, answer_to}
 use Rattle.feed_core.specs.Replies.{ReplyValue}
 use Rattle.feed_core.specs.declared.arrival.Arrival.{Arrival}
 use Rattle.feed_core.specs.Handled.{Handled}
-use Rattle.feed_core.specs.declared.answer.Answer as core
-use Rattle.feed_core.specs.declared.answer.Answer.TheVariants.{Fresh, Kept, Early, OtherChange}
+use Rattle.feed_core.specs.declared.outcome.Outcome.{Outcome}
+use Rattle.feed_core.specs.declared.outcome.Outcome.TheVariants.{Fresh, Kept, Early, OtherChange}
 use Rattle.feed_answers.specs.Lines.{Said, IsAnswer}
 use Rattle.feed_answers.specs.declared.fault.FeedFault.{FeedFault}
 use Rattle.feed_answers.specs.declared.fault.FeedFault.TheVariants as line
 use Rattle.feed_answers.specs.declared.line.FeedLine.{FeedLine}
 use Rattle.feed_answers.specs.declared.line.FeedLine.TheVariants.{Arrives}
 use Rattle.feed_answers.specs.declared.view.FeedView.{FeedView}
-use Rattle.feed_answers.specs.Answers.{telling, repeating, by_turn, by_line, fed_by}
-use Rattle.feed_answers.specs.Fields.{fault_fields, refused_fields}
-use Rattle.feed_answers.specs.Steps.{told_by}
-
--- effects behind a first one
-behind : {A : Type 0} (e : Effect) (es : List Effect) (before mid v : World) (r : Result A Stop) → contents mid ≡ performed (e ∷ []) (contents before) → Does es mid v r → Does (e ∷ es) before v r
-behind e es before mid v (Ok a) h d = d ∙ ap (performed es) h ∙ sym (performed_append (e ∷ []) es (contents before))
-behind e es before mid v (Err x) h d = partly_later (e ∷ []) es (contents before) (contents mid) (contents v) h d
+use Rattle.feed_answers.specs.Answers.{telling, repeating, by_turn, by_line, fed_by, told_by}
+use Rattle.feed_answers.specs.Fields.{line_fault_fields, reply_refused_fields}
 
 -- a reply is told behind its source and number
 module _ {A : Type 0} (before mid v : World) (r : Result A Stop) (o : OpenValue) (h : Handled) (head : contents mid ≡ performed (prints_reply h.arrival.source h.arrival.number ∷ []) (contents before)) where
   pub script_does : (lines : List TableLine) → h.reply ≡ Ok lines → Does (prints_script lines ∷ []) mid v r → Does (repeating o (Some h)).effects before v r
   script_does lines is d =
       subst (λ (x : ReplyValue). Does (prints_reply h.arrival.source h.arrival.number ∷ (telling o h.arrival.change x).effects) before v r) (sym is)
-      (behind (prints_reply h.arrival.source h.arrival.number) (prints_script lines ∷ []) before mid v r head d)
+      (behind (prints_reply h.arrival.source h.arrival.number ∷ []) (prints_script lines ∷ []) before mid v r head d)
 
-  pub refusal_does : (e : GroupRefused) (row : Row) → h.reply ≡ Err e → row ≡ refused_fields h.arrival.change e → Does (refuses row ∷ []) mid v r → Does (repeating o (Some h)).effects before v r
+  pub refusal_does : (e : GroupRefused) (row : Row) → h.reply ≡ Err e → row ≡ reply_refused_fields h.arrival.change e → Does (refuses row ∷ []) mid v r → Does (repeating o (Some h)).effects before v r
   refusal_does e row is fields d =
       subst (λ (x : ReplyValue). Does (prints_reply h.arrival.source h.arrival.number ∷ (telling o h.arrival.change x).effects) before v r) (sym is)
-      (behind (prints_reply h.arrival.source h.arrival.number) (refuses (refused_fields h.arrival.change e) ∷ []) before mid v r head (subst (λ (x : Row). Does (refuses x ∷ []) mid v r) fields d))
+      (behind (prints_reply h.arrival.source h.arrival.number ∷ []) (refuses (reply_refused_fields h.arrival.change e) ∷ []) before mid v r head (subst (λ (x : Row). Does (refuses x ∷ []) mid v r) fields d))
 
 module _ {A : Type 0} (before v : World) (r : Result A Stop) where
   pub kept_does : (o : OpenValue) (x : Option Handled) (h : Handled) → x ≡ Some h → Does (repeating o (Some h)).effects before v r → Does (repeating o x).effects before v r
   kept_does o x h is d = subst (λ (y : Option Handled). Does (repeating o y).effects before v r) (sym is) d
 
   -- an answer is told
-  pub fresh_does : (f : FeedView) (source : Text) (number : ℕ) (x : core.Answer) → x ≡ Fresh → Does (repeating f.view (handled_at source number f.feeds)).effects before v r → Does (told_by f source number x).effects before v r
-  fresh_does f source number x is d = subst (λ (y : core.Answer). Does (told_by f source number y).effects before v r) (sym is) d
+  pub fresh_does : (f : FeedView) (source : Text) (number : ℕ) (x : Outcome) → x ≡ Fresh → Does (repeating f.view (handled_at source number f.feeds)).effects before v r → Does (told_by f source number x).effects before v r
+  fresh_does f source number x is d = subst (λ (y : Outcome). Does (told_by f source number y).effects before v r) (sym is) d
 
-  pub again_does : (f : FeedView) (source : Text) (number : ℕ) (x : core.Answer) → x ≡ Kept → Does (repeating f.view (handled_at source number f.feeds)).effects before v r → Does (told_by f source number x).effects before v r
-  again_does f source number x is d = subst (λ (y : core.Answer). Does (told_by f source number y).effects before v r) (sym is) d
+  pub again_does : (f : FeedView) (source : Text) (number : ℕ) (x : Outcome) → x ≡ Kept → Does (repeating f.view (handled_at source number f.feeds)).effects before v r → Does (told_by f source number x).effects before v r
+  again_does f source number x is d = subst (λ (y : Outcome). Does (told_by f source number y).effects before v r) (sym is) d
 
-  pub early_does : (f : FeedView) (source : Text) (number want : ℕ) (x : core.Answer) (row : Row) → x ≡ Early want → row ≡ early_fields source want → Does (refuses row ∷ []) before v r → Does (told_by f source number x).effects before v r
+  pub early_does : (f : FeedView) (source : Text) (number want : ℕ) (x : Outcome) (row : Row) → x ≡ Early want → row ≡ early_fields source want → Does (refuses row ∷ []) before v r → Does (told_by f source number x).effects before v r
   early_does f source number want x row is fields d =
-      subst (λ (y : core.Answer). Does (told_by f source number y).effects before v r) (sym is) (subst (λ (y : Row). Does (refuses y ∷ []) before v r) fields d)
+      subst (λ (y : Outcome). Does (told_by f source number y).effects before v r) (sym is) (subst (λ (y : Row). Does (refuses y ∷ []) before v r) fields d)
 
-  pub other_does : (f : FeedView) (source : Text) (number : ℕ) (x : core.Answer) (row : Row) → x ≡ OtherChange → row ≡ other_change_fields source number → Does (refuses row ∷ []) before v r → Does (told_by f source number x).effects before v r
+  pub other_does : (f : FeedView) (source : Text) (number : ℕ) (x : Outcome) (row : Row) → x ≡ OtherChange → row ≡ other_change_fields source number → Does (refuses row ∷ []) before v r → Does (told_by f source number x).effects before v r
   other_does f source number x row is fields d =
-      subst (λ (y : core.Answer). Does (told_by f source number y).effects before v r) (sym is) (subst (λ (y : Row). Does (refuses y ∷ []) before v r) fields d)
+      subst (λ (y : Outcome). Does (told_by f source number y).effects before v r) (sym is) (subst (λ (y : Row). Does (refuses y ∷ []) before v r) fields d)
 
   -- a line is answered by what it says
   pub arrival_does : (f : FeedView) (said : Said) (y : FeedLine) (a : Arrival) → Ok y ≡ said → y ≡ Arrives a → Does (by_line f (Ok (Arrives a))).effects before v r → Does (by_line f said).effects before v r
   arrival_does f said y a is arrives d = subst (λ (x : Said). Does (by_line f x).effects before v r) (ap Ok (sym arrives) ∙ is) d
 
-  pub unsaid_does : (f : FeedView) (said : Said) (e : FeedFault) (row : Row) → IsAnswer said (Err e) → e ≢ line.NoMemory → row ≡ fault_fields e → Does (refuses row ∷ []) before v r → Does (by_line f said).effects before v r
+  pub unsaid_does : (f : FeedView) (said : Said) (e : FeedFault) (row : Row) → IsAnswer said (Err e) → e ≢ line.NoMemory → row ≡ line_fault_fields e → Does (refuses row ∷ []) before v r → Does (by_line f said).effects before v r
   unsaid_does f said e row h some fields d =
       subst (λ (x : Said). Does (by_line f x).effects before v r) (unsaid e h some) (subst (λ (y : Row). Does (refuses y ∷ []) before v r) fields d)
     where
@@ -105,7 +99,7 @@ repeat_alone o (Some h) alone = by_reply h.reply
     by_reply (Ok lines) = alone
     by_reply (Err e) = alone
 
-turn_alone : (f : FeedView) (a : Arrival) (x : core.Answer) → f.view.session.held ≡ None → (by_turn f a x).view.session.held ≡ None
+turn_alone : (f : FeedView) (a : Arrival) (x : Outcome) → f.view.session.held ≡ None → (by_turn f a x).view.session.held ≡ None
 turn_alone f a Fresh alone = fault_alone f.view a.change (fault (working f.view.session) a.change) alone
 turn_alone f a Kept alone = repeat_alone f.view (handled_at a.source a.number f.feeds) alone
 turn_alone f a (Early want) alone = alone

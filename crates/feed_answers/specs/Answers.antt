@@ -1,5 +1,6 @@
 -- How an opened view answers the lines of its feeds.
 use Rattle.std.specs.Prelude.{ℕ, List, [], ◌∷◌, Option, None, Some, Ok, Err, if◌then◌else◌}
+use Rattle.ss_text.specs.Texts.{Text}
 use Rattle.outside.specs.Effects.{Effect}
 use Rattle.schema_model.specs.Refusals.{fault}
 use Rattle.schema_model.specs.declared.change.Change.{Change}
@@ -16,12 +17,12 @@ use Rattle.feed_core.specs.Arrivals.{handled_at, answer_to, handled_after}
 use Rattle.feed_core.specs.Replies.{ReplyValue, reply_to}
 use Rattle.feed_core.specs.declared.arrival.Arrival.{Arrival}
 use Rattle.feed_core.specs.Handled.{Handled}
-use Rattle.feed_core.specs.declared.answer.Answer as core
-use Rattle.feed_core.specs.declared.answer.Answer.TheVariants.{Fresh, Kept, Early, OtherChange}
+use Rattle.feed_core.specs.declared.outcome.Outcome.{Outcome}
+use Rattle.feed_core.specs.declared.outcome.Outcome.TheVariants.{Fresh, Kept, Early, OtherChange}
 use Rattle.feed_answers.specs.Lines.{Said, said_by_line}
 use Rattle.feed_answers.specs.declared.line.FeedLine.TheVariants.{Sync, Arrives}
 use Rattle.feed_answers.specs.declared.view.FeedView.{FeedView}
-use Rattle.feed_answers.specs.Fields.{fault_fields, refused_fields}
+use Rattle.feed_answers.specs.Fields.{line_fault_fields, reply_refused_fields}
 
 -- an answer behind the source and number that it replies to
 abbrev pub replying : Arrival → Answer → Answer
@@ -38,23 +39,28 @@ printing o es = record { said = Tells; effects = es; view = o; writes = λ t. 0 
 -- what was replied to a change is told: a script is printed, or the line is refused
 abbrev pub telling : OpenValue → Change → ReplyValue → Answer
 telling o g (Ok lines) = printing o (prints_script lines ∷ [])
-telling o g (Err e) = refusing o (refused_fields g e)
+telling o g (Err e) = refusing o (reply_refused_fields g e)
 
 -- a reply that is kept is told again
 abbrev pub repeating : OpenValue → Option Handled → Answer
 repeating o (Some h) = replying h.arrival (telling o h.arrival.change h.reply)
 repeating o None = printing o []
 
--- an arrival is handled, gets the reply that is kept under its number, or is refused
-abbrev pub by_turn : FeedView → Arrival → core.Answer → Answer
+-- an answer that is told, from what is kept then under a number of a source
+abbrev pub told_by : FeedView → Text → ℕ → Outcome → Answer
+told_by f source number Fresh = repeating f.view (handled_at source number f.feeds)
+told_by f source number Kept = repeating f.view (handled_at source number f.feeds)
+told_by f source number (Early want) = refusing f.view (early_fields source want)
+told_by f source number OtherChange = refusing f.view (other_change_fields source number)
+
+-- an arrival is handled, or it is told what is kept under its number, or why it is refused
+abbrev pub by_turn : FeedView → Arrival → Outcome → Answer
 by_turn f a Fresh = handling f.view a
-by_turn f a Kept = repeating f.view (handled_at a.source a.number f.feeds)
-by_turn f a (Early want) = refusing f.view (early_fields a.source want)
-by_turn f a OtherChange = refusing f.view (other_change_fields a.source a.number)
+by_turn f a x = told_by f a.source a.number x
 
 -- a line says nothing, a sync or an arrival
 abbrev pub by_line : FeedView → Said → Answer
-by_line f (Err e) = refusing f.view (fault_fields e)
+by_line f (Err e) = refusing f.view (line_fault_fields e)
 by_line f (Ok Sync) = syncing f.view
 by_line f (Ok (Arrives a)) = by_turn f a (answer_to f.feeds a)
 

@@ -9,16 +9,16 @@ use Rattle.feed_answers.specs.declared.fault.FeedFault.{FeedFault}
 use Rattle.feed_answers.specs.declared.fault.FeedFault.TheVariants as line
 
 -- a line that says nothing; want of memory is no refusal
-abbrev pub fault_fields : FeedFault → Row
-fault_fields (line.BadEscape at) = escape_fields at
-fault_fields (line.UnknownVerb verb) = verb_fields verb
-fault_fields (line.FieldCount verb got) = count_fields verb got
-fault_fields (line.BadNumber number) = number_fields number
-fault_fields line.NoMemory = []
+abbrev pub line_fault_fields : FeedFault → Row
+line_fault_fields (line.BadEscape at) = escape_fields at
+line_fault_fields (line.UnknownVerb verb) = verb_fields verb
+line_fault_fields (line.FieldCount verb got) = count_fields verb got
+line_fault_fields (line.BadNumber number) = number_fields number
+line_fault_fields line.NoMemory = []
 
 -- a change that is not made; want of memory is no refusal
-abbrev pub refused_fields : Change → GroupRefused → Row
-refused_fields g (refused.Change place r) = refusal_fields g r
-refused_fields g (refused.Illegal label) = illegal_fields label
-refused_fields g (refused.Conflict clash) = clash_fields clash
-refused_fields g refused.NoMemory = []
+abbrev pub reply_refused_fields : Change → GroupRefused → Row
+reply_refused_fields g (refused.Change place r) = refusal_fields g r
+reply_refused_fields g (refused.Illegal label) = illegal_fields label
+reply_refused_fields g (refused.Conflict clash) = clash_fields clash
+reply_refused_fields g refused.NoMemory = []

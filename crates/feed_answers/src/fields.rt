@@ -1,7 +1,7 @@
 //! The fields of refusals.
 ghost use Rattle.std.specs.Prelude.{◌≡◌, ◌≢◌, IfOk, OnOk};
 ghost use Rattle.feed_answers.specs.declared.fault.FeedFault.TheVariants.{NoMemory as LacksMemory};
-ghost use Rattle.feed_answers.specs.Fields.{fault_fields, refused_fields};
+ghost use Rattle.feed_answers.specs.Fields.{line_fault_fields, reply_refused_fields};
 
 use crate::FeedFault;
 use apply_law::GroupRefused;
@@ -14,9 +14,9 @@ use ss_text::{NoMemory, Row};
 use std::alloc::Global;
 
 /// The name and the fields of a line that says nothing.
-pub(crate) fn fault_fields(alloc: Global, fault: &FeedFault) -> Result<Row, NoMemory>
+pub(crate) fn line_fault_fields(alloc: Global, fault: &FeedFault) -> Result<Row, NoMemory>
     ensures some { OnOk result (fault.now ≢ LacksMemory) }
-    ensures row { IfOk result (λ row. row ≡ fault_fields fault.now) }
+    ensures row { IfOk result (λ row. row ≡ line_fault_fields fault.now) }
 {
     match fault {
         FeedFault::BadEscape { at } => escape_fields(alloc, *at),
@@ -28,12 +28,12 @@ pub(crate) fn fault_fields(alloc: Global, fault: &FeedFault) -> Result<Row, NoMe
 }
 
 /// The name and the fields of a change that was not made.
-pub(crate) fn refused_fields(
+pub(crate) fn reply_refused_fields(
     alloc: Global,
     change: &Change,
     refused: &GroupRefused,
 ) -> Result<Row, NoMemory>
-    ensures { IfOk result (λ row. row ≡ refused_fields change.now refused.now) }
+    ensures { IfOk result (λ row. row ≡ reply_refused_fields change.now refused.now) }
 {
     match refused {
         GroupRefused::Change { place: _, refusal } => refusal_fields(alloc, change, *refusal),

@@ -10,15 +10,15 @@ ghost use Rattle.view_answers.specs.Limits.{IsWithin};
 ghost use Rattle.feed_core.specs.Arrivals.{handled_at};
 ghost use Rattle.feed_answers.specs.Lines.{said_by_line};
 ghost use Rattle.feed_answers.specs.declared.line.FeedLine.TheVariants.{Arrives};
-ghost use Rattle.feed_answers.specs.Answers.{answer, by_line, fed, fed_by, repeating};
-ghost use Rattle.feed_answers.specs.Steps.{Takes, told_by};
+ghost use Rattle.feed_answers.specs.Answers.{answer, by_line, fed, fed_by, repeating, told_by};
+ghost use Rattle.feed_answers.specs.Steps.{Takes};
 ghost use Rattle.feed_answers.specs.Limits as limits;
 
-use crate::fields::{fault_fields, refused_fields};
+use crate::fields::{line_fault_fields, reply_refused_fields};
 use crate::{FeedFault, FeedLine, read_feed_line};
 use apply_law::Applies;
 use course::{LineHandler, LineStop, NoDisk, Verdict};
-use feed_core::{Answer, Arrival, Feeds, Handled};
+use feed_core::{Arrival, Feeds, Handled, Outcome};
 use outside::{Folders, Sink, Stop};
 use ss_print::{early_fields, other_change_fields, print_reply, print_script};
 use ss_text::{NoMemory, Steps, Text};
@@ -80,7 +80,7 @@ impl FeedView {
         output: &mut K,
         source: &Text,
         number: u64,
-        answer: Answer,
+        answer: Outcome,
     ) -> Result<(), Stop>
         requires number { 1 ≤ number }
         ensures does { (s : _) → Does (told_by self.old source.now number answer).effects (world_of s (K.state output.old)) (world_of s (K.state output.new)) result }
@@ -89,13 +89,13 @@ impl FeedView {
         ensures blames { SinkBlames (K.state output.old) (K.state output.new) result }
     {
         match answer {
-            Answer::Fresh => self.repeat(alloc, output, source, number),
-            Answer::Kept => self.repeat(alloc, output, source, number),
-            Answer::Early { want } => {
+            Outcome::Fresh => self.repeat(alloc, output, source, number),
+            Outcome::Kept => self.repeat(alloc, output, source, number),
+            Outcome::Early { want } => {
                 let fields = early_fields(alloc, source, want)?;
                 self.view.refuse(alloc, output, &fields)
             }
-            Answer::OtherChange => {
+            Outcome::OtherChange => {
                 let fields = other_change_fields(alloc, source, number)?;
                 self.view.refuse(alloc, output, &fields)
             }
@@ -108,7 +108,7 @@ impl FeedView {
         alloc: Global,
         arrival: Arrival,
         steps: &mut Steps<L>,
-    ) -> Result<Answer, NoMemory>
+    ) -> Result<Outcome, NoMemory>
         requires number { 1 ≤ arrival.number }
         requires well_formed { IsTrue (is_well_formed arrival.change) }
         requires idle { self.old.view.session.held ≡ None }
@@ -169,7 +169,7 @@ impl FeedView {
             Ok(FeedLine::Arrives(arrival)) => self.arrive(alloc, output, arrival, steps),
             Ok(FeedLine::Sync) => self.view.sync(alloc, store, output),
             Err(fault) => {
-                let fields = fault_fields(alloc, &fault)?;
+                let fields = line_fault_fields(alloc, &fault)?;
                 self.view.refuse(alloc, output, &fields)
             }
         }
@@ -201,7 +201,7 @@ fn tell_again<K: Sink>(
         Ok(script) => print_script(alloc, output, script),
         Err(refused) => {
             let change = handled.change(alloc)?;
-            let fields = refused_fields(alloc, &change, refused)?;
+            let fields = reply_refused_fields(alloc, &change, refused)?;
             view.refuse(alloc, output, &fields)
         }
     }

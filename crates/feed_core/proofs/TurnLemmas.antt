@@ -7,13 +7,13 @@ use Rattle.std.specs.Prelude.{map, option_map}
 use Rattle.ss_text.specs.Texts.{Text}
 use Rattle.ss_text.proofs.KeyLemmas.{row_order, equal_itself}
 use Rattle.schema_model.specs.Catalogue.{CatalogueValue}
-use Rattle.schema_model.specs.Changes.{after, after_all}
 use Rattle.schema_model.specs.Reading.{line_of}
 use Rattle.schema_model.specs.declared.change.Change.{Change}
+use Rattle.schema_model.proofs.GroupLemmas.{after_last}
 use Rattle.apply_law.specs.Standing.{Standing, made}
 use Rattle.feed_core.specs.declared.arrival.Arrival.{Arrival}
 use Rattle.feed_core.specs.Handled.{Handled}
-use Rattle.feed_core.specs.declared.answer.Answer.TheVariants as answer
+use Rattle.feed_core.specs.declared.outcome.Outcome.TheVariants as outcome
 use Rattle.feed_core.specs.Replies.{ReplyValue, reply_to, standing_by}
 use Rattle.feed_core.specs.Arrivals.{count_of, is_fresh, arrivals_of, handled_at, reply_at, same_change, by_handled, answer_to}
 use Rattle.feed_core.specs.Numbered.{AreNumbered}
@@ -56,11 +56,7 @@ stands_more : (s : Standing) (gs : List Change) (g : Change) → standing_behind
 stands_more s [] g = refl
 stands_more s (x ∷ gs) g = stands_more (standing_by (reply_to s x) s x) gs g
 
--- changes that are accepted, and more behind them
-after_more : (c : CatalogueValue) (gs hs : List Change) → after_all c (gs ++ hs) ≡ after_all (after_all c gs) hs
-after_more c [] hs = refl
-after_more c (g ∷ gs) hs = after_more (after c g) gs hs
-
+-- changes that are accepted, and one more behind them
 accepted_more : (hs : List Handled) (h : Handled) → accepted_in (hs ++ h ∷ []) ≡ accepted_in hs ++ if_accepted h.reply h.arrival.change
 accepted_more [] h = append-nil (if_accepted h.reply h.arrival.change)
 accepted_more (k ∷ hs) h =
@@ -68,7 +64,7 @@ accepted_more (k ∷ hs) h =
 
 -- what one reply makes
 makes_one : (s : Standing) (gs : List Change) (r : ReplyValue) (g : Change) → standing_by r (made s gs) g ≡ made s (gs ++ if_accepted r g)
-makes_one s gs (Ok lines) g = ap (λ (c : CatalogueValue). record s { catalogue = c }) (sym (after_more s.catalogue gs (g ∷ [])))
+makes_one s gs (Ok lines) g = ap (λ (c : CatalogueValue). record s { catalogue = c }) (sym (after_last s.catalogue gs g))
 makes_one s gs (Err e) g = ap (λ hs. made s hs) (sym (append-nil gs))
 
 -- a state is what its changes give one after another
@@ -127,7 +123,7 @@ agrees f a sent numbered = by_test (is_fresh (arrivals_of f.handled) a) refl
     found h e same = record { kept = h; there = kept h e; change = same; reply = ap (λ (o : Option Handled). option_map (λ (h : Handled). h.reply) o) e }
 
     by_same : (h : Handled) → handled_at a.source a.number (arrived f a).handled ≡ Some h → (b : Bool) → same_change a.change h.arrival.change ≡ b
-        → AgreesBy (cond b answer.Kept answer.OtherChange) (reply_at a.source a.number (arrived f a).handled) (fed (arrived f a) sent).handled a
+        → AgreesBy (cond b outcome.Kept outcome.OtherChange) (reply_at a.source a.number (arrived f a).handled) (fed (arrived f a) sent).handled a
     by_same h e true same = found h e same
     by_same h e false same = record { kept = h; there = kept h e; change = same }
 
@@ -137,7 +133,7 @@ agrees f a sent numbered = by_test (is_fresh (arrivals_of f.handled) a) refl
     by_found same None e = ap (λ hs. reply_at a.source a.number hs) same ∙ ap (λ (o : Option Handled). option_map (λ (h : Handled). h.reply) o) e
 
     by_test : (b : Bool) → is_fresh (arrivals_of f.handled) a ≡ b
-        → AgreesBy (cond b answer.Fresh (by_handled a.change (suc (count_of a.source (arrivals_of f.handled))) (handled_at a.source a.number f.handled)))
+        → AgreesBy (cond b outcome.Fresh (by_handled a.change (suc (count_of a.source (arrivals_of f.handled))) (handled_at a.source a.number f.handled)))
         (reply_at a.source a.number (arrived f a).handled) (fed (arrived f a) sent).handled a
     by_test true e =
         let next : handled_at a.source a.number (f.handled ++ one_of f a ∷ []) ≡ Some (one_of f a) = handled_last f.handled (one_of f a) numbered (eqb-true a.number (suc (count_of a.source (arrivals_of f.handled))) e) in

@@ -7,8 +7,8 @@ use Rattle.apply_law.specs.Standing.{Standing}
 use Rattle.feed_core.specs.Replies.{ReplyValue, reply_to, standing_by, taken_by}
 use Rattle.feed_core.specs.declared.arrival.Arrival.{Arrival}
 use Rattle.feed_core.specs.Handled.{Handled}
-use Rattle.feed_core.specs.declared.answer.Answer.{Answer}
-use Rattle.feed_core.specs.declared.answer.Answer.TheVariants as answer
+use Rattle.feed_core.specs.declared.outcome.Outcome.{Outcome}
+use Rattle.feed_core.specs.declared.outcome.Outcome.TheVariants as outcome
 
 -- whether two changes are the same: so are their lines
 abbrev pub same_change : Change → Change → Bool
@@ -37,18 +37,18 @@ abbrev pub reply_at : Text → ℕ → List Handled → Option ReplyValue
 reply_at source number hs = option_map (λ (h : Handled). h.reply) (handled_at source number hs)
 
 -- where something was handled under its source and number, an arrival is that one again, or it has another change
-abbrev pub by_change : Change → Handled → Answer
-by_change g h = if same_change g h.arrival.change then answer.Kept else answer.OtherChange
+abbrev pub by_change : Change → Handled → Outcome
+by_change g h = if same_change g h.arrival.change then outcome.Kept else outcome.OtherChange
 
 -- and where nothing was, it comes too early: then this number is wanted
-abbrev pub by_handled : Change → ℕ → Option Handled → Answer
+abbrev pub by_handled : Change → ℕ → Option Handled → Outcome
 by_handled g want (Some h) = by_change g h
-by_handled g want None = answer.Early want
+by_handled g want None = outcome.Early want
 
 -- the answer to an arrival
-abbrev pub answer_to : List Handled → Arrival → Answer
+abbrev pub answer_to : List Handled → Arrival → Outcome
 answer_to hs a =
-    if is_fresh (arrivals_of hs) a then answer.Fresh
+    if is_fresh (arrivals_of hs) a then outcome.Fresh
     else by_handled a.change (suc (count_of a.source (arrivals_of hs))) (handled_at a.source a.number hs)
 
 -- what was handled after it, where this is replied to a fresh one

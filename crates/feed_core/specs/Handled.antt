@@ -72,7 +72,7 @@ abbrev pub reply_in : List Row → Option (Box KeptRefusal) → ReplyValue
 reply_in rows None = Ok (lines_in rows)
 reply_in rows (Some e) = Err (refusal_in e.value)
 
--- what was handled of a source under a number
+-- what is kept of an arrival, as what was handled
 abbrev pub handled_by : Text → ℕ → List Row → Option (Box KeptRefusal) → Handled
 handled_by source number rows e = record { arrival = record { source = source; number = number; change = change_in rows }; reply = reply_in rows e }
 

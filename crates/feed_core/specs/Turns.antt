@@ -5,8 +5,8 @@ use Rattle.schema_model.specs.declared.change.Change.{Change}
 use Rattle.apply_law.specs.Standing.{Standing, made}
 use Rattle.feed_core.specs.declared.arrival.Arrival.{Arrival}
 use Rattle.feed_core.specs.Handled.{Handled}
-use Rattle.feed_core.specs.declared.answer.Answer.{Answer}
-use Rattle.feed_core.specs.declared.answer.Answer.TheVariants as answer
+use Rattle.feed_core.specs.declared.outcome.Outcome.{Outcome}
+use Rattle.feed_core.specs.declared.outcome.Outcome.TheVariants as outcome
 use Rattle.feed_core.specs.Replies.{ReplyValue, reply_to, standing_by}
 use Rattle.feed_core.specs.Arrivals.{is_fresh, arrivals_of, handled_at, reply_at, same_change, answer_to, handled_after, standing_after}
 use Rattle.feed_core.specs.Numbered.{AreNumbered}
@@ -29,7 +29,7 @@ fed f (a ∷ sent) = fed (arrived f a) sent
 
 -- what an arrival is told: the answer, and the reply that is then found under its source and number
 pub record Told : Type 0 where
-  pub answer : Answer
+  pub answer : Outcome
   pub reply : Option ReplyValue
 
 abbrev pub told : FeedState → Arrival → Told
@@ -75,11 +75,11 @@ pub record IsOther (last : List Handled) (a : Arrival) : Type 0 where
   pub change : same_change a.change kept.arrival.change ≡ false
 
 -- what an arrival is told agrees with what was handled in the end
-abbrev pub AgreesBy : Answer → Option ReplyValue → List Handled → Arrival → Type 0
-AgreesBy answer.Fresh r last a = IsKeptReply last a r
-AgreesBy answer.Kept r last a = IsKeptReply last a r
-AgreesBy (answer.Early want) r last a = r ≡ None
-AgreesBy answer.OtherChange r last a = IsOther last a
+abbrev pub AgreesBy : Outcome → Option ReplyValue → List Handled → Arrival → Type 0
+AgreesBy outcome.Fresh r last a = IsKeptReply last a r
+AgreesBy outcome.Kept r last a = IsKeptReply last a r
+AgreesBy (outcome.Early want) r last a = r ≡ None
+AgreesBy outcome.OtherChange r last a = IsOther last a
 
 abbrev pub EachAgrees : List Handled → List Arrival → List Told → Type 0
 EachAgrees last (a ∷ sent) (t ∷ ts) = AgreesBy t.answer t.reply last a × EachAgrees last sent ts

@@ -8,7 +8,7 @@ ghost use Rattle.feed_core.specs.Arrivals.{arrivals_of, is_fresh, count_of, hand
 
 use crate::places::{add_place, make_room, place_in};
 use crate::replying::handle;
-use crate::{Answer, Arrival, Handled};
+use crate::{Arrival, Handled, Outcome};
 use apply_law::Applies;
 use indexmap::IndexMap;
 use ss_text::{NoMemory, Steps, Text};
@@ -56,13 +56,13 @@ impl Feeds {
         to: &mut A,
         arrival: Arrival,
         steps: &mut Steps<L>,
-    ) -> Result<Answer, NoMemory>
+    ) -> Result<Outcome, NoMemory>
         requires number { 1 ≤ arrival.number }
         requires well_formed { IsTrue (is_well_formed arrival.change) }
         requires idle { A.waits to.old ≡ Idle }
         ensures answer { IfOk result (λ answer. answer ≡ answer_to self.old arrival) }
         ensures handled { OnOk result (self.new ≡ handled_after (reply_to (A.state to.old) arrival.change) self.old arrival) }
-        ensures found { IfOk result (λ answer. answer ≡ Answer.Fresh
+        ensures found { IfOk result (λ answer. answer ≡ Outcome.Fresh
             → handled_at arrival.source arrival.number self.new ≡ Some (record { arrival = arrival; reply = reply_to (A.state to.old) arrival.change })) }
         ensures stands { OnOk result (A.state to.new ≡ standing_after (A.state to.old) self.old arrival) }
         ensures taken { OnOk result (to.new ≡ taken_after A.after_propose A.after_accept (A.state to.old) to.old self.old arrival) }
@@ -73,7 +73,7 @@ impl Feeds {
 
         // Only one that is handled counts steps, as its change does.
         ensures within { ForSome ((A.state to.old).limit (A.state to.old).catalogue arrival.change) (λ n. steps.new ≤ steps.old + n) }
-        ensures none { IfOk result (λ answer. answer ≢ Answer.Fresh → steps.new ≡ steps.old) }
+        ensures none { IfOk result (λ answer. answer ≢ Outcome.Fresh → steps.new ≡ steps.old) }
         ensures rises { steps.old ≤ steps.new }
     {
         let count = self.count(&arrival.source);
@@ -83,10 +83,10 @@ impl Feeds {
             return Ok(answer);
         }
         self.handle(alloc, to, arrival, steps)?;
-        Ok(Answer::Fresh)
+        Ok(Outcome::Fresh)
     }
 
-    /// What was handled of a source under a number, with its reply. It is found without a walk.
+    /// What was handled of a source under a number, with its reply; none where nothing was. It is found without a walk.
     pub fn handled(&self, source: &Text, number: u64) -> Option<&Handled>
         requires { 1 ≤ number }
         ensures { option_copied result ≡ handled_at source.now number self.now }
@@ -117,14 +117,14 @@ impl Feeds {
     }
 
     // The answer to an arrival that is not the next of its source, of which this number is wanted.
-    fn answer_again(&self, arrival: &Arrival, want: u64) -> Answer
+    fn answer_again(&self, arrival: &Arrival, want: u64) -> Outcome
         requires { 1 ≤ arrival.now.number }
         ensures { result ≡ by_handled arrival.now.change want (handled_at arrival.now.source arrival.now.number self.now) }
     {
         match self.handled(&arrival.source, arrival.number) {
-            Some(handled) if handled.has_change(&arrival.change) => Answer::Kept,
-            Some(_) => Answer::OtherChange,
-            None => Answer::Early { want },
+            Some(handled) if handled.has_change(&arrival.change) => Outcome::Kept,
+            Some(_) => Outcome::OtherChange,
+            None => Outcome::Early { want },
         }
     }
 

@@ -114,7 +114,7 @@ impl Handled {
         is_line(&self.rows, change)
     }
 
-    /// Its change.
+    /// A copy of its change.
     pub fn change(&self, alloc: Global) -> Result<Change, NoMemory>
         ensures { IfOk result (λ change. change ≡ self.now.arrival.change) }
     {
@@ -129,7 +129,7 @@ impl Handled {
         }
     }
 
-    /// What was replied.
+    /// A copy of what was replied.
     pub fn reply(&self, alloc: Global) -> Result<Reply, NoMemory>
         ensures { IfOk result (λ reply. reply ≡ self.now.reply) }
     {

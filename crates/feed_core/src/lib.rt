@@ -6,12 +6,12 @@
 //! spelled, of files or of what takes the changes.
 #![tactic(auto)]
 
-mod answer;
 mod arrival;
 mod feeds;
 mod handled;
 mod law;
 mod line;
+mod outcome;
 mod packed_reading;
 mod packed_rows;
 mod packing;
@@ -20,10 +20,10 @@ mod refusal;
 mod reply;
 mod replying;
 
-pub use answer::Answer;
 pub use arrival::Arrival;
 pub use feeds::Feeds;
 pub use handled::Handled;
 pub use law::arrivals_are_handled_in_turn;
+pub use outcome::Outcome;
 pub use packed_rows::PackedRows;
 pub use reply::Reply;

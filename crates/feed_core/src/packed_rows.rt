@@ -9,7 +9,7 @@ use std::alloc::Global;
 use std::marker::Model;
 
 /// Rows, which contracts see as the list of them. They take one piece of memory: their bytes, one more for each text and
-/// each row, and nine more for one of 255 bytes or more.
+/// each row, or nine for one of 255 bytes or more.
 #[derive(Debug, Drop)]
 pub struct PackedRows {
     bytes: Vec<u8>,

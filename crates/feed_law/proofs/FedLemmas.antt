@@ -26,7 +26,7 @@ use Rattle.upkeep_law.specs.Given.{AreGiven}
 use Rattle.upkeep_law.specs.Lists.{last_shown, last_synced}
 use Rattle.upkeep_law.specs.Promises.{IsUpheld, opening_of, effects_so_far}
 use Rattle.upkeep_law.proofs.LineLemmas.{shown_is_saved}
-use Rattle.upkeep_law.proofs.TakeLemmas.{definition_of_profile}
+use Rattle.upkeep_law.proofs.MaintainedLemmas.{profile_of}
 use Rattle.upkeep_law.proofs.UpheldLemmas.{answers_upheld}
 use Rattle.feed_answers.specs.declared.view.FeedView.{FeedView}
 use Rattle.feed_answers.specs.Answers.{step, finish, at_first, answers_to}
@@ -104,9 +104,6 @@ module _ (old new : World) (t : Tree) (told : old.store.tree ≡ Some t) (whole 
   by_definition : (x : DefinitionOrRefusal) → d ≡ x → Finished ((by_lines step finish (starting at_first (opening t x))).whole (lines_of bytes)) old new s → IsFed d t (lines_of bytes) old new s
   by_definition (Err fields) is f = absurd (cc (f.status))
   by_definition (Ok a) is f = by_catalogue a (loaded_or_refused t) is refl f
-
-profile_of : (name : Text) (t : Tree) (d : DefinitionOrRefusal) → IsDefinition name (definition_bytes t name) d → (a : Accepted) → d ≡ Ok a → IsViewOfProfile a.query
-profile_of name t d defined a is = definition_of_profile name (definition_bytes t name) a (subst (IsDefinition name (definition_bytes t name)) is defined)
 
 -- the run of `feed` by its course
 pub did_feed : (name : Text) (t : Tree) (bytes : List ℕ) (d : DefinitionOrRefusal) (rest : Option (List ℕ)) (old new : World) (s : Status) → IsDefinition name (definition_bytes t name) d → old.store.tree ≡ Some t → IsWhole t → is_done_status s ≡ true → Did (by_lines step finish (starting at_first (opening t d))) bytes rest old new s → IsFed d t (lines_of bytes) old new s

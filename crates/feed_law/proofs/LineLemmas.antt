@@ -28,14 +28,14 @@ use Rattle.feed_core.specs.Arrivals.{handled_at, answer_to}
 use Rattle.feed_core.specs.Replies.{ReplyValue}
 use Rattle.feed_core.specs.declared.arrival.Arrival.{Arrival}
 use Rattle.feed_core.specs.Handled.{Handled}
-use Rattle.feed_core.specs.declared.answer.Answer as core
-use Rattle.feed_core.specs.declared.answer.Answer.TheVariants.{Fresh, Kept, Early, OtherChange}
+use Rattle.feed_core.specs.declared.outcome.Outcome.{Outcome}
+use Rattle.feed_core.specs.declared.outcome.Outcome.TheVariants.{Fresh, Kept, Early, OtherChange}
 use Rattle.feed_answers.specs.Lines.{Said, sync_of, feed_of, by_number, by_read, said_by_row, by_spelling, said_by_line}
 use Rattle.feed_answers.specs.declared.fault.FeedFault.TheVariants as line
 use Rattle.feed_answers.specs.declared.line.FeedLine.TheVariants.{Sync, Arrives}
 use Rattle.feed_answers.specs.declared.view.FeedView.{FeedView}
 use Rattle.feed_answers.specs.Answers.{replying, telling, repeating, by_turn, by_line, answer, fed, answers_to, step, finish}
-use Rattle.feed_answers.specs.Fields.{fault_fields, refused_fields}
+use Rattle.feed_answers.specs.Fields.{line_fault_fields, reply_refused_fields}
 use Rattle.feed_law.specs.Promises.{view_behind, all_answers, saved_at_end}
 
 -- the change of an arrival that a line says is well formed
@@ -120,7 +120,7 @@ module _ (o : OpenValue) (alone : o.session.held ≡ None) where
   -- a reply that is told again
   told_given : (a : Arrival) (g : Change) (r : ReplyValue) → IsGiven o (replying a (telling o g r))
   told_given a g (Ok lines) = record { may = record { prints = (tt, (tt, tt)); alike = record { query = refl; catalogue = refl; changed = refl; synced = refl }; writes = λ t. refl }; alone = alone }
-  told_given a g (Err e) = refused_behind a (refused_fields g e)
+  told_given a g (Err e) = refused_behind a (reply_refused_fields g e)
 
   repeat_given : (h : Option Handled) → IsGiven o (repeating o h)
   repeat_given (Some h) = told_given h.arrival h.arrival.change h.reply
@@ -128,14 +128,14 @@ module _ (o : OpenValue) (alone : o.session.held ≡ None) where
 
 -- a line
 module _ (f : FeedView) (alone : f.view.session.held ≡ None) where
-  turn_given : (a : Arrival) → IsTrue (is_well_formed a.change) → (x : core.Answer) → IsGiven f.view (by_turn f a x)
+  turn_given : (a : Arrival) → IsTrue (is_well_formed a.change) → (x : Outcome) → IsGiven f.view (by_turn f a x)
   turn_given a well Fresh = judged f.view alone a well (fault (working f.view.session) a.change) refl
   turn_given a well Kept = repeat_given f.view alone (handled_at a.source a.number f.feeds)
   turn_given a well (Early want) = refused_given f.view alone (early_fields a.source want)
   turn_given a well OtherChange = refused_given f.view alone (other_change_fields a.source a.number)
 
   said_given : (said : Said) → Formed said → IsGiven f.view (by_line f said)
-  said_given (Err e) h = refused_given f.view alone (fault_fields e)
+  said_given (Err e) h = refused_given f.view alone (line_fault_fields e)
   said_given (Ok Sync) h = sync_given f.view alone
   said_given (Ok (Arrives a)) h = turn_given a h (answer_to f.feeds a)
 

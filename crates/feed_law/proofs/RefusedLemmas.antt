@@ -1,17 +1,13 @@
 -- The lines of feeds end no run with a refusal.
-use Rattle.std.proofs.Common.{◌≡◌, ℕ, Bool, true, false, List, [], ◌∷◌, ◌++◌, refl}
-use Rattle.std.specs.Prelude.{if◌then◌else◌}
+use Rattle.std.proofs.Common.{◌≡◌, ℕ, false, List, [], ◌∷◌, ◌++◌}
 use Rattle.outside.specs.Effects.{Effect}
 use Rattle.course.specs.declared.status.Verdict.TheVariants as verdict
 use Rattle.course.specs.Answering.{Continues, ending, follow}
 use Rattle.course.specs.Course.{verdict_status, is_refused_status}
 use Rattle.view_stages.specs.Open.{OpenValue}
+use Rattle.upkeep_law.proofs.RefusedLemmas.{end_unrefused}
 use Rattle.feed_answers.specs.declared.view.FeedView.{FeedView}
 use Rattle.feed_answers.specs.Answers.{step, finish, at_first, answer, fed}
-
-end_unrefused : (b : Bool) → is_refused_status (verdict_status (if b then verdict.SomeRefused else verdict.Done)) ≡ false
-end_unrefused true = refl
-end_unrefused false = refl
 
 -- the end of the input refuses nothing, whatever the lines were
 fed_unrefused : (lines : List (List ℕ)) (es : List Effect) (f : FeedView) → is_refused_status (verdict_status (ending finish (follow step lines (Continues es f))).status) ≡ false

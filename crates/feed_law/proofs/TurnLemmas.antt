@@ -33,8 +33,8 @@ use Rattle.feed_core.specs.Replies.{ReplyValue, reply_to, standing_by}
 use Rattle.feed_core.specs.Turns.{FeedState, unfed, arrived, fed as all_fed, in_turn, changes_of, replies_to, accepted_in, AreHandled}
 use Rattle.feed_core.specs.declared.arrival.Arrival.{Arrival}
 use Rattle.feed_core.specs.Handled.{Handled}
-use Rattle.feed_core.specs.declared.answer.Answer as core
-use Rattle.feed_core.specs.declared.answer.Answer.TheVariants.{Fresh, Kept, OtherChange}
+use Rattle.feed_core.specs.declared.outcome.Outcome.{Outcome}
+use Rattle.feed_core.specs.declared.outcome.Outcome.TheVariants.{Fresh, Kept, OtherChange}
 use Rattle.feed_core.proofs.KeptLemmas.{numbered_more, handled_more, handled_last}
 use Rattle.feed_core.proofs.TurnLemmas.{all_handled}
 use Rattle.feed_answers.specs.Lines.{Said, said_by_line}
@@ -191,11 +191,11 @@ module _ (f : FeedView) (h : Stands f.view) (numbered : AreNumbered (arrivals_of
   there_still k e is = stays k (ap (λ (b : Bool). handled_at a.source a.number (grown f a b)) e ∙ is)
 
   told_again : is_fresh (arrivals_of hs) a ≡ false → (o : Option Handled) → handled_at a.source a.number hs ≡ o
-      → (let x : core.Answer = by_handled a.change (suc (count_of a.source (arrivals_of hs))) o in IsTold x last a (by_turn f a x).effects)
+      → (let x : Outcome = by_handled a.change (suc (count_of a.source (arrivals_of hs))) o in IsTold x last a (by_turn f a x).effects)
   told_again e None is = refl
   told_again e (Some k) is = by_same (same_change a.change k.arrival.change) refl
     where
-      by_same : (b : Bool) → same_change a.change k.arrival.change ≡ b → (let x : core.Answer = cond b Kept OtherChange in IsTold x last a (by_turn f a x).effects)
+      by_same : (b : Bool) → same_change a.change k.arrival.change ≡ b → (let x : Outcome = cond b Kept OtherChange in IsTold x last a (by_turn f a x).effects)
       by_same true same = record { kept = k; there = there_still k e is; change = same; printed = ap (λ (o : Option Handled). (repeating f.view o).effects) is ∙ repeat_printed f.view k }
       by_same false same = (record { kept = k; there = there_still k e is; change = same }, refl)
 
@@ -203,7 +203,7 @@ module _ (f : FeedView) (h : Stands f.view) (numbered : AreNumbered (arrivals_of
   told_turn = by_test (is_fresh (arrivals_of hs) a) refl
     where
       by_test : (b : Bool) → is_fresh (arrivals_of hs) a ≡ b
-          → (let x : core.Answer = cond b Fresh (by_handled a.change (suc (count_of a.source (arrivals_of hs))) (handled_at a.source a.number hs)) in IsTold x last a (by_turn f a x).effects)
+          → (let x : Outcome = cond b Fresh (by_handled a.change (suc (count_of a.source (arrivals_of hs))) (handled_at a.source a.number hs)) in IsTold x last a (by_turn f a x).effects)
       by_test true e = told_fresh e
       by_test false e = told_again e (handled_at a.source a.number hs) refl
 

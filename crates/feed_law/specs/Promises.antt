@@ -25,13 +25,13 @@ use Rattle.feed_core.specs.Replies.{ReplyValue}
 use Rattle.feed_core.specs.Turns.{in_turn, changes_of, replies_to, accepted_in, IsOther}
 use Rattle.feed_core.specs.declared.arrival.Arrival.{Arrival}
 use Rattle.feed_core.specs.Handled.{Handled}
-use Rattle.feed_core.specs.declared.answer.Answer as core
-use Rattle.feed_core.specs.declared.answer.Answer.TheVariants.{Fresh, Kept, Early, OtherChange}
+use Rattle.feed_core.specs.declared.outcome.Outcome.{Outcome}
+use Rattle.feed_core.specs.declared.outcome.Outcome.TheVariants.{Fresh, Kept, Early, OtherChange}
 use Rattle.feed_answers.specs.Lines.{Said, said_by_line}
 use Rattle.feed_answers.specs.declared.line.FeedLine.TheVariants.{Arrives}
 use Rattle.feed_answers.specs.declared.view.FeedView.{FeedView}
 use Rattle.feed_answers.specs.Answers.{step, finish, at_first, answer, fed, answers_to}
-use Rattle.feed_answers.specs.Fields.{refused_fields}
+use Rattle.feed_answers.specs.Fields.{reply_refused_fields}
 
 -- the arrivals that lines say, in order
 abbrev pub arrivals_by : Said → List Arrival
@@ -44,7 +44,7 @@ arrivals_in lines = flat_map (λ line. arrivals_by (said_by_line line)) lines
 -- what is printed of a change that was handled: its source and number, and then its script or its refusal
 abbrev pub prints_of : Change → ReplyValue → Effect
 prints_of g (Ok lines) = prints_script lines
-prints_of g (Err e) = refuses (refused_fields g e)
+prints_of g (Err e) = refuses (reply_refused_fields g e)
 
 abbrev pub reply_effects : Handled → List Effect
 reply_effects h = prints_reply h.arrival.source h.arrival.number ∷ prints_of h.arrival.change h.reply ∷ []
@@ -57,7 +57,7 @@ pub record GetsReply (last : List Handled) (a : Arrival) (es : List Effect) : Ty
   pub printed : es ≡ reply_effects kept
 
 -- it is that reply, or a refusal of an arrival that is too early or under whose number another change is kept
-abbrev pub IsTold : core.Answer → List Handled → Arrival → List Effect → Type 0
+abbrev pub IsTold : Outcome → List Handled → Arrival → List Effect → Type 0
 IsTold Fresh last a es = GetsReply last a es
 IsTold Kept last a es = GetsReply last a es
 IsTold (Early want) last a es = es ≡ refuses (early_fields a.source want) ∷ []

@@ -5,7 +5,7 @@ ghost use Rattle.apply_law.specs.Standing.{Idle};
 
 use crate::Plain;
 use apply_law::Applies;
-use feed_core::{Answer, Arrival, Feeds};
+use feed_core::{Arrival, Feeds, Outcome};
 use flow_law::Shape;
 use schema_model::{Catalogue, Change};
 use ss_text::{Row, Steps, Text};
@@ -15,7 +15,7 @@ use std::sync::ledger::{Blank, Ledger};
 use std::test::Fail;
 
 // A source, a number, the fields of a change, parted by spaces, what is answered, and whether its reply is a refusal.
-type Sent = (&'static str, u64, &'static str, Answer, bool);
+type Sent = (&'static str, u64, &'static str, Outcome, bool);
 
 const SENT: [Sent; 11] = [
     // The second of a source before its first, and its first twice.
@@ -23,21 +23,27 @@ const SENT: [Sent; 11] = [
         "hr",
         2,
         "create-relation d r a",
-        Answer::Early { want: 1 },
+        Outcome::Early { want: 1 },
         false,
     ),
-    ("hr", 1, "create-database d", Answer::Fresh, false),
-    ("hr", 1, "create-database d", Answer::Kept, false),
+    ("hr", 1, "create-database d", Outcome::Fresh, false),
+    ("hr", 1, "create-database d", Outcome::Kept, false),
     // Another source has numbers of its own. What is refused has used its number.
-    ("pay", 1, "create-database d", Answer::Fresh, true),
-    ("pay", 1, "create-database d", Answer::Kept, true),
-    ("pay", 1, "create-database e", Answer::OtherChange, true),
-    ("pay", 2, "create-database e", Answer::Fresh, false),
+    ("pay", 1, "create-database d", Outcome::Fresh, true),
+    ("pay", 1, "create-database d", Outcome::Kept, true),
+    ("pay", 1, "create-database e", Outcome::OtherChange, true),
+    ("pay", 2, "create-database e", Outcome::Fresh, false),
     // What came first does not change what is kept.
-    ("hr", 2, "drop-database d", Answer::Fresh, false),
-    ("pay", 1, "create-database d", Answer::Kept, true),
-    ("hr", 1, "create-database d", Answer::Kept, false),
-    ("hr", 4, "drop-database e", Answer::Early { want: 3 }, false),
+    ("hr", 2, "drop-database d", Outcome::Fresh, false),
+    ("pay", 1, "create-database d", Outcome::Kept, true),
+    ("hr", 1, "create-database d", Outcome::Kept, false),
+    (
+        "hr",
+        4,
+        "drop-database e",
+        Outcome::Early { want: 3 },
+        false,
+    ),
 ];
 
 // The change that a line says, its fields parted by spaces.
@@ -60,7 +66,7 @@ fn replied<A: Applies, L: Ledger>(
     number: u64,
     line: &str,
     steps: &mut Steps<L>,
-) -> Result<(Answer, bool), Fail>
+) -> Result<(Outcome, bool), Fail>
     requires number { 1 ≤ number }
     requires idle { A.waits to.old ≡ Idle }
     ensures { A.waits to.new ≡ Idle }

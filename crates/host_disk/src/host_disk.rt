@@ -1,5 +1,5 @@
 //! A file below the current folder as a disk, which tells nothing of what it holds.
-ghost use Rattle.std.specs.Prelude.{◌≤◌};
+ghost use Rattle.std.specs.Prelude.{◌≡◌, ◌≤◌};
 ghost use Rattle.outside.specs.Counts.{Rose};
 
 use disk::Disk;
@@ -28,7 +28,9 @@ pub struct HostDisk<R: Files<File = File> + Drop> {
 
 impl<R: Files<File = File> + Drop> HostDisk<R> {
     /// The disk, on which no call has failed.
-    pub fn of(rt: R) -> Self {
+    pub fn of(rt: R) -> Self
+        ensures { result.faults ≡ 0 }
+    {
         HostDisk {
             rt,
             file: None,

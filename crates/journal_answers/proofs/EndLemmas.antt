@@ -1,19 +1,14 @@
 -- What is done at the end of the input.
-use Rattle.std.proofs.Common.{◌≡◌, ◌++◌, ◌∙◌, List, Ok, Err, sym, ap, subst}
+use Rattle.std.proofs.Common.{◌≡◌, subst}
 use Rattle.std.specs.Prelude.{Result}
-use Rattle.outside.specs.Effects.{World, Effect, contents, performed, Does}
+use Rattle.outside.specs.Effects.{World, contents, performed, Does}
 use Rattle.outside.specs.declared.stop.Stop.{Stop}
-use Rattle.outside.proofs.EffectLemmas.{performed_append, partly_later}
 use Rattle.view_stages.specs.Open.{OpenValue}
 use Rattle.view_stages.specs.Syncs.{view_effects}
 use Rattle.view_answers.specs.Answers.{end_effects, end_view}
+use Rattle.view_answers.proofs.AnswerLemmas.{behind}
 use Rattle.journal_answers.specs.declared.view.JournalView.{JournalView}
 use Rattle.journal_answers.specs.Answers.{finish}
-
--- effects behind others
-behind : {A : Type 0} (es fs : List Effect) (before mid v : World) (r : Result A Stop) → contents mid ≡ performed es (contents before) → Does fs mid v r → Does (es ++ fs) before v r
-behind es fs before mid v (Ok a) h d = d ∙ ap (performed fs) h ∙ sym (performed_append es fs (contents before))
-behind es fs before mid v (Err e) h d = partly_later es fs (contents before) (contents mid) (contents v) h d
 
 -- an open group was refused, and then the view's files were synced
 pub ended_does : {A : Type 0} (f : JournalView) (p : OpenValue) (before mid v : World) (r : Result A Stop)

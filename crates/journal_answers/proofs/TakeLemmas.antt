@@ -23,7 +23,7 @@ use Rattle.ss_print.specs.Printing.{prints_script}
 use Rattle.view_stages.specs.Open.{OpenValue}
 use Rattle.view_answers.specs.Answers.{Answer, Said, Tells, Scripts, Syncs, giving_up, refusing}
 use Rattle.view_answers.specs.Steps.{IsFieldsOf, IsFaultFieldsOf}
-use Rattle.view_answers.proofs.AnswerLemmas.{accepted_is, refused_is, made_is, stopped_is}
+use Rattle.view_answers.proofs.AnswerLemmas.{accepted_is, refused_is, made_is, stopped_is, made_moved}
 use Rattle.journal_answers.specs.declared.view.JournalView.{JournalView}
 use Rattle.journal_answers.specs.Answers.{asked_of, made_by}
 use Rattle.journal_answers.specs.Steps.{TakesScript, TakesNone, judging, ending_group, is_script}
@@ -41,12 +41,6 @@ group_asked o row inside = by_held o.session.held inside
     by_held : (h : Option (List Change)) → is_some h ≡ true → unwrap_or h [] ≡ unwrap_or h (option_to_list (said_by_row row))
     by_held None e = absurd (cc e)
     by_held (Some gs) e = refl
-
--- a session that made the one change that it proposed has moved
-pub made_moved : (s : SessionState) (g : Change) → s.held ≡ None → s.proposed ≡ None → accepted (proposing s (g ∷ [])) ≡ moved s g
-made_moved s g alone idle =
-    ap (λ (h : Option (List Change)). record (moved s g) { held = h; proposed = None }) (sym alone)
-    ∙ ap (λ (p : Option (List Change)). record (moved s g) { held = s.held; proposed = p }) (sym idle)
 
 -- whether there was room
 has_room : (end : ℕ) (group gs : Group) (b : Bool) → not b ≡ lacks_room end group → b ≡ true → group ≡ gs → lacks_room end gs ≡ false

@@ -2,8 +2,8 @@
 ghost use Rattle.std.specs.Prelude.{◌≡◌, ◌∷◌, [], IfOk, decimal};
 ghost use Rattle.journal_answers.specs.Fields.{journal_fields};
 
-use itoa::Buffer;
 use journal_log::JournalRefusal;
+use ss_print::number_text;
 use ss_text::{NoMemory, Row, Text};
 use std::alloc::Global;
 
@@ -21,9 +21,8 @@ pub(crate) fn journal_fields(alloc: Global, refusal: JournalRefusal) -> Result<R
 fn numbered(alloc: Global, name: &[u8], number: u64) -> Result<Row, NoMemory>
     ensures { IfOk result (λ row. row ≡ name.now ∷ decimal number ∷ []) }
 {
-    let mut buffer = Buffer::new();
     let mut fields = Vec::new(alloc);
     fields.push(Text::of(alloc, name)?)?;
-    fields.push(Text::of(alloc, buffer.format(number).as_bytes())?)?;
+    fields.push(number_text(alloc, number as usize)?)?;
     Ok(Row::of(fields))
 }

@@ -60,7 +60,6 @@ pub(crate) fn open<F: Folders, K: Sink, D: Disk, L: Ledger>(
     ensures steady { (D.state disk.old).faults ≤ (D.state disk.new).faults }
     ensures idle { IdleUnread result (world_of (F.state store.old) (K.state output.old)) (world_of (F.state store.new) (K.state output.new)) }
     ensures blames { Blames (world_of (F.state store.old) (K.state output.old)) (world_of (F.state store.new) (K.state output.new)) result }
-    ensures rises { steps.old ≤ steps.new }
     ensures steps { steps.new ≡ steps.old }
 {
     match read_definition(alloc, store, name)? {
@@ -96,7 +95,6 @@ fn open_defined<F: Folders, K: Sink, D: Disk, L: Ledger>(
     ensures steady { (D.state disk.old).faults ≤ (D.state disk.new).faults }
     ensures idle { IdleUnread result (world_of (F.state store.old) (K.state output.old)) (world_of (F.state store.new) (K.state output.new)) }
     ensures blames { Blames (world_of (F.state store.old) (K.state output.old)) (world_of (F.state store.new) (K.state output.new)) result }
-    ensures rises { steps.old ≤ steps.new }
     ensures steps { steps.new ≡ steps.old }
 {
     match load_sources(alloc, store)? {
@@ -133,7 +131,6 @@ fn open_loaded<F: Folders, K: Sink, D: Disk, L: Ledger>(
     ensures steady { (D.state disk.old).faults ≤ (D.state disk.new).faults }
     ensures idle { IdleUnread result (world_of (F.state store.old) (K.state output.old)) (world_of (F.state store.new) (K.state output.new)) }
     ensures blames { Blames (world_of (F.state store.old) (K.state output.old)) (world_of (F.state store.new) (K.state output.new)) result }
-    ensures rises { steps.old ≤ steps.new }
     ensures steps { steps.new ≡ steps.old }
 {
     match replay(alloc, disk, &mut catalogue) {
@@ -166,7 +163,6 @@ fn open_replayed<F: Folders, K: Sink, L: Ledger>(
     ensures same { IfOk result (HasJournal journal) }
     ensures idle { IdleUnread result (world_of (F.state store.old) (K.state output.old)) (world_of (F.state store.new) (K.state output.new)) }
     ensures blames { Blames (world_of (F.state store.old) (K.state output.old)) (world_of (F.state store.new) (K.state output.new)) result }
-    ensures rises { steps.old ≤ steps.new }
     ensures steps { steps.new ≡ steps.old }
 {
     match view_over(alloc, definition, catalogue, steps)? {

@@ -43,6 +43,8 @@ pub(crate) fn settle<D: Disk>(
     ensures room { IfOk result (λ has_room. not has_room ≡ lacks_room journal.old.end group.now) }
     ensures made { IfOk result (λ has_room. IsTrue has_room → session.new ≡ accepted session.old) }
     ensures journal { IfOk result (λ has_room. IsTrue has_room → journal.new ≡ grown group.now journal.old) }
+    ensures full { IfOk result (λ has_room. has_room ≡ false → journal.new ≡ journal.old) }
+    ensures unwritten { IfOk result (λ has_room. has_room ≡ false → disk.new ≡ disk.old) }
     ensures dropped { IfOk result (λ has_room. has_room ≡ false → session.new ≡ dismissed session.old) }
     ensures same { OnErr result (session.new ≡ dismissed session.old) }
     ensures query { session.new.query ≡ session.old.query }

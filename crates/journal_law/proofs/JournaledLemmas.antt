@@ -2,7 +2,6 @@
 use Rattle.std.proofs.Common.{◌≡◌, inl, inr, ℕ, Bool, true, false, List, [], ◌++◌, Option, None, Some, refl, sym, ap, ◌∙◌, subst}
 use Rattle.std.specs.Prelude.{Ok, if◌then◌else◌}
 use Rattle.std.proofs.lemmas.Bool.{false≢true}
-use Rattle.ss_text.specs.Texts.{Text}
 use Rattle.outside.specs.Tree.{Tree}
 use Rattle.outside.specs.Whole.{IsWhole}
 use Rattle.outside.specs.Effects.{Effect, World, contents, performed}
@@ -21,14 +20,13 @@ use Rattle.course.specs.declared.exit.Status.TheVariants as status
 use Rattle.course.specs.Course.{Finished, GaveOut, HeldUp, by_lines, first as first_course, goes_so_far, verdict_status, is_done_status, is_refused_status}
 use Rattle.view_stages.specs.Open.{OpenValue}
 use Rattle.view_stages.specs.Stages.{DefinitionOrRefusal, Accepted, by_loading, loaded_or_refused}
-use Rattle.view_stages.specs.Opening.{IsDefinition, definition_bytes}
 use Rattle.view_answers.specs.Answers.{Answer, end_view}
 use Rattle.upkeep_law.specs.Given.{AreGiven}
 use Rattle.upkeep_law.specs.Lists.{last_shown}
 use Rattle.upkeep_law.specs.Promises.{IsUpheld, opening_of, effects_so_far}
 use Rattle.upkeep_law.proofs.GroupLemmas.{no_group}
 use Rattle.upkeep_law.proofs.LineLemmas.{lines_given}
-use Rattle.upkeep_law.proofs.TakeLemmas.{definition_of_profile}
+use Rattle.upkeep_law.proofs.MaintainedLemmas.{profile_of}
 use Rattle.upkeep_law.proofs.UpheldLemmas.{answers_upheld}
 use Rattle.journal_answers.specs.declared.view.JournalView.{JournalView}
 use Rattle.journal_answers.specs.Answers.{step, finish}
@@ -154,9 +152,6 @@ module _ (old new : World) (t : Tree) (told : old.store.tree ≡ Some t) (whole 
     gave_out_journaled rest = opening_case t held d (λ x. GaveOut (by_lines step finish x) bytes rest old new → IsJournalCutOff d t held bytes rest old new)
         (λ fields v refused g. absurd (cc (g.meant)))
         (λ r g. record { replayed = r; taken = g.taken; left = g.left; split = g.split; remains = g.remains; done = answered_so_far r (whole_lines g.taken) g.effects g.meant g.done })
-
-profile_of : (name : Text) (t : Tree) (d : DefinitionOrRefusal) → IsDefinition name (definition_bytes t name) d → (a : Accepted) → d ≡ Ok a → IsViewOfProfile a.query
-profile_of name t d defined a is = definition_of_profile name (definition_bytes t name) a (subst (IsDefinition name (definition_bytes t name)) is defined)
 
 -- the laws
 pub did_journal : DoneIsJournaled

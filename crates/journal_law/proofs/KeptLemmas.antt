@@ -20,7 +20,7 @@ use Rattle.change_journal.specs.States.{JournalState}
 use Rattle.change_journal.specs.Entries.{entries, size_of}
 use Rattle.change_journal.specs.Lines.{lines_in, read_lines}
 use Rattle.change_journal.proofs.Appends.{self_image}
-use Rattle.change_journal.proofs.LineLemmas.{AllSaid, IsSaid, entries_said}
+use Rattle.change_journal.proofs.LineLemmas.{AllSaid, IsSaid, entries_said, same_groups}
 use Rattle.change_journal.proofs.Readings.{read_is}
 use Rattle.change_journal.proofs.Spellings.{parts_clear, lines_spelled, group_read}
 use Rattle.journal_log.specs.Logs.{log_of}
@@ -42,22 +42,11 @@ use Rattle.journal_law.proofs.LineLemmas.{answered, journal_behind, lacks, AllFi
 use Rattle.journal_law.proofs.MakeLemmas.{line_makes}
 use Rattle.journal_law.proofs.OpeningLemmas.{all_made, replay_holds}
 
--- changes that lines say are what their lines say, and groups of such changes are told apart by their lines
+-- changes that lines say are what their lines say
 lines_say : (group : Group) → 0 < length group → AllByRecursion (λ g. IsTrue (is_well_formed g)) group → IsSaid group
 lines_say group some formed =
     let read : group_of (group_text group) ≡ Some group = group_read group (spellable group some formed) in
     ap said_by_lines (sym (lines_spelled (parts_at 10 (group_text group)) group (parts_clear (group_text group)) read).0) ∙ read
-
-told_apart : (groups others : List Group) → AllSaid groups → AllSaid others → lines_in groups ≡ lines_in others → groups ≡ others
-told_apart [] [] h k e = refl
-told_apart [] (other ∷ others) h k e = absurd (cc e)
-told_apart (group ∷ groups) [] h k e = absurd (cc e)
-told_apart (group ∷ groups) (other ∷ others) h k e =
-    let first : map spelled group ≡ map spelled other = cc e in
-    let rest : lines_in groups ≡ lines_in others = cc e in
-    let both : Some group ≡ Some other = sym h.0 ∙ ap said_by_lines first ∙ k.0 in
-    let same : group ≡ other = cc both in
-    ap (λ (g : Group). g ∷ groups) same ∙ ap (λ (gs : List Group). other ∷ gs) (told_apart groups others h.1 k.1 rest)
 
 -- groups take a catalogue to that of a view, and its journal ends where they do
 record Stands (c : CatalogueValue) (q : Query) (f : JournalView) (groups : List Group) : Type 0 where
@@ -115,7 +104,7 @@ module _ (c : CatalogueValue) (q : Query) where
 
     found_none : (lines : List (List ℕ)) (es : List Effect) (f : JournalView) (groups : List Group) → Stands c q f groups → lines_in gs ≡ lines_in groups ++ [] → IsFound gs lines es f []
     found_none lines es f groups h read =
-        let same : gs ≡ groups = told_apart gs groups said h.said (read ∙ append-nil (lines_in groups)) in
+        let same : gs ≡ groups = same_groups gs groups said h.said (read ∙ append-nil (lines_in groups)) in
         record { before = []; later = lines; are = refl; fit = tt; kept = refl; stands = subst (Stands c q f) (sym same) h }
 
     -- the entry of a line, where it keeps one

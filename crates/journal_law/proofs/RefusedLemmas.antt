@@ -1,6 +1,5 @@
 -- A run of `journal` that was refused changed nothing.
-use Rattle.std.proofs.Common.{◌≡◌, ℕ, Bool, true, false, List, Some, refl, ap}
-use Rattle.std.specs.Prelude.{if◌then◌else◌}
+use Rattle.std.proofs.Common.{◌≡◌, ℕ, true, false, List, Some, refl, ap}
 use Rattle.outside.specs.Tree.{Tree}
 use Rattle.outside.specs.Effects.{World, Contents}
 use Rattle.course.specs.declared.status.Verdict.TheVariants as verdict
@@ -11,16 +10,13 @@ use Rattle.course.specs.Idle.{Unchanged}
 use Rattle.course.proofs.RefusedLemmas.{same_stored, not_so}
 use Rattle.view_stages.specs.Stages.{DefinitionOrRefusal}
 use Rattle.view_answers.specs.Answers.{end_view}
+use Rattle.upkeep_law.proofs.RefusedLemmas.{end_unrefused}
 use Rattle.journal_answers.specs.declared.view.JournalView.{JournalView}
 use Rattle.journal_answers.specs.Answers.{step, finish}
 use Rattle.journal_answers.specs.Opening.{opening}
 use Rattle.journal_answers.proofs.JournalLemmas.{course_verdict, only_full}
 use Rattle.journal_law.specs.Promises.{journal_at_first}
 use Rattle.journal_law.proofs.OpeningLemmas.{opening_case}
-
-end_unrefused : (b : Bool) → is_refused_status (verdict_status (if b then verdict.SomeRefused else verdict.Done)) ≡ false
-end_unrefused true = refl
-end_unrefused false = refl
 
 -- its lines and its end refuse nothing
 lines_unrefused : (lines : List (List ℕ)) (f : JournalView) → is_refused_status (verdict_status (course step finish f lines).status) ≡ false

@@ -1,9 +1,9 @@
 //! What a view that is opened with a journal and answers lines comes to: laws without code.
 //!
-//! Its contract: where its course was done, its input gave out, its disk failed or its journal is full, the files of the view
-//! are those of its meaning over the catalogue after the journal and the changes that were kept, and no source was written;
-//! and a journal that holds the first few of these changes opens the view over just that. It knows nothing of words or of how
-//! a disk is called.
+//! Its contract: where its course was done, the files of the view are those of its meaning over the catalogue after the
+//! journal and the changes that were kept; where its input gave out, its disk failed at a line or its journal is full, over
+//! that catalogue at the last sync; and no source was written. A journal that holds the first few of these changes opens the
+//! view over just that. It knows nothing of words or of how a disk is called.
 #![tactic(auto)]
 
 ghost use Rattle.journal_law.specs.Law.{DoneIsJournaled, CutOffIsJournaled, HeldUpIsJournaled, FullIsJournaled, KeptAreMade};

@@ -1,5 +1,5 @@
 //! Changes are appended to a journal.
-ghost use Rattle.std.specs.Prelude.{◌≡◌, ◌⊎◌, ◌<◌, List, length, not, IfOk, IfErr, OnOk, IsTrue};
+ghost use Rattle.std.specs.Prelude.{◌≡◌, ◌⊎◌, ◌<◌, List, length, false, not, IfOk, IfErr, OnOk, IsTrue};
 ghost use Rattle.std.specs.List.{AllByRecursion};
 ghost use Rattle.schema_model.specs.Changes.{is_well_formed};
 ghost use Rattle.course.specs.Keeping.{Entry, LeavesNow, LineBlamesDisk};
@@ -14,7 +14,8 @@ use outside::Stop;
 use schema_model::Change;
 use std::alloc::Global;
 
-/// Appends changes to a journal, and answers whether it has room for them. No change is no group.
+/// Keeps changes as one entry, and answers true; or false where the journal has no room, and then nothing is written. Without
+/// changes it answers true and adds nothing. After `DiskFault` the journal is shut.
 pub fn append<D: Disk>(
     alloc: Global,
     journal: &mut Journal,
@@ -25,6 +26,8 @@ pub fn append<D: Disk>(
     requires ready { IsReady journal.old (D.state disk.old) }
     ensures room { IfOk result (λ has_room. not has_room ≡ lacks_room journal.old.end group.now) }
     ensures journal { IfOk result (λ has_room. IsTrue has_room → journal.new ≡ grown group.now journal.old) }
+    ensures full { IfOk result (λ has_room. has_room ≡ false → journal.new ≡ journal.old) }
+    ensures unwritten { IfOk result (λ has_room. has_room ≡ false → disk.new ≡ disk.old) }
     ensures keeps { (es : List Entry) → LeavesNow (log_of D.state D.left_since) es disk.old
         → KeepsFirst (log_of D.state D.left_since) es (lines_in (appended_to journal.old.end group.now)) disk.old disk.new result }
     ensures ready { OnOk result (IsReady journal.new (D.state disk.new)) }
@@ -49,6 +52,8 @@ fn append_some<D: Disk>(
     requires ready { IsReady journal.old (D.state disk.old) }
     ensures room { IfOk result (λ has_room. not has_room ≡ lacks_room journal.old.end group.now) }
     ensures journal { IfOk result (λ has_room. IsTrue has_room → journal.new ≡ grown group.now journal.old) }
+    ensures full { IfOk result (λ has_room. has_room ≡ false → journal.new ≡ journal.old) }
+    ensures unwritten { IfOk result (λ has_room. has_room ≡ false → disk.new ≡ disk.old) }
     ensures keeps { (es : List Entry) → LeavesNow (log_of D.state D.left_since) es disk.old
         → KeepsFirst (log_of D.state D.left_since) es (lines_in (appended_to journal.old.end group.now)) disk.old disk.new result }
     ensures ready { OnOk result (IsReady journal.new (D.state disk.new)) }

@@ -19,7 +19,7 @@ use ss_text::NoMemory;
 use std::alloc::Global;
 
 /// Makes the changes of the journal of a disk, entry by entry, and opens the journal. The whole journal is read before it is
-/// refused for a change. It writes nothing.
+/// refused for a change. It writes nothing. After a fault nothing is said of the catalogue.
 pub fn replay<D: Disk>(
     alloc: Global,
     disk: &mut D,

@@ -1,6 +1,6 @@
 -- The cells of a row under names.
-use Rattle.std.proofs.Common.{◌≡◌, ◌||◌, ◌∙◌, ◌+◌, ℕ, suc, Bool, true, false, cond, List, [], ◌∷◌, ◌++◌, Some, None, length, map, refl, sym, ap, arith}
-use Rattle.std.specs.Prelude.{◌&&◌, slice_get, option_and_then, nat_lt, bytes_eq}
+use Rattle.std.proofs.Common.{◌≡◌, ◌||◌, ◌∙◌, ◌+◌, Bool, true, false, List, [], ◌∷◌, ◌++◌, Some, length, map, refl, sym, ap, arith}
+use Rattle.std.specs.Prelude.{◌&&◌, nat_lt, bytes_eq}
 use Rattle.std.specs.List.{position_or_len, list_all, AllByRecursion, IsDistinct}
 use Rattle.ss_text.specs.Texts.{Text, Row, text_eq, is_in}
 use Rattle.ss_text.proofs.KeyLemmas.{text_order, equal_itself}
@@ -9,14 +9,8 @@ use Rattle.ss_text.proofs.GroupLemmas.{map_agree}
 use Rattle.valuation_meaning.specs.Elements.{cell_under}
 use Rattle.valuation_meaning.specs.Meaning.{given}
 use Rattle.valuation_meaning.specs.Orders.{text_under, row_under}
-use Rattle.view_stack.proofs.StandsLemmas.{first_there, one_later}
-
-one_more : (n : ℕ) → 1 + n ≡ suc n
-one_more n = omega arith
-
-next_place : (b : Bool) (p : ℕ) (cell : Text) (row : Row) → option_and_then (slice_get (cell ∷ row)) (cond b (Some (suc p)) None) ≡ option_and_then (slice_get row) (cond b (Some p) None)
-next_place true p cell row = refl
-next_place false p cell row = refl
+use Rattle.view_stack.proofs.SaysLemmas.{one_more}
+use Rattle.view_stack.proofs.StandsLemmas.{first_there, one_later, next_place}
 
 pub cell_here : (x : Text) (ns : Row) (cell : Text) (row : Row) (a : Text) → text_eq a x ≡ true → cell_under (x ∷ ns) a (cell ∷ row) ≡ Some cell
 cell_here x ns cell row a e = rw (e, first_there (length ns)) refl

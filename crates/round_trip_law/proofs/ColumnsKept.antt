@@ -15,9 +15,9 @@ use Rattle.flow_law.proofs.FactTableLemmas.{constant_tables}
 use Rattle.valuation_meaning.specs.Elements.{cell_under}
 use Rattle.valuation_meaning.specs.Meaning.{given, facts, shape_of, meaning}
 use Rattle.valuation_meaning.specs.Orders.{text_under, row_under}
-use Rattle.view_stack.specs.Stands.{spliced, records_of, catalogue_for}
+use Rattle.view_stack.specs.Stands.{spliced, records_of, catalogue_for, given_by}
 use Rattle.round_trip_law.specs.Forms.{Named, Parts, Source, from_columns, to_columns}
-use Rattle.round_trip_law.specs.Kept.{catalogue_by, has_text, says}
+use Rattle.round_trip_law.specs.Kept.{has_text, says}
 use Rattle.round_trip_law.proofs.CellLemmas.{cell_here, cell_later, cell_behind, own_texts, mapped_twice}
 use Rattle.round_trip_law.proofs.Entries.{Entry, AreFull, column_fact, said}
 use Rattle.round_trip_law.proofs.Members.{In, all_by, in_all, list_all_by, in_any, in_append, append_in, in_map, map_in, in_kept, kept_in, in_ascending, ascending_in, same_by, flat_in, in_flat}
@@ -82,7 +82,7 @@ module _ (p : Parts) (to : Named) (es : List Entry) where
       unfolding meaning
       tables_are = ap (tables (shape_of (to_columns p to s))) is ∙ constant_tables to.rel (shape_of (to_columns p to s)) facts_made refl (all_bear es)
 
-      pub columns_made : catalogue_by c (to_columns p to s) ≡ database_value to.db (relation_made ∷ []) ∷ []
+      pub columns_made : given_by c (to_columns p to s) ≡ database_value to.db (relation_made ∷ []) ∷ []
       columns_made =
           let keys : List Row = ascending row_cmp (map (λ (f : Fact). f.key) facts_made) in
           let same_keys : keys ≡ keys_made = ap (ascending row_cmp) (mapped_twice (λ (f : Fact). f.key) (column_fact to) es) in
@@ -168,7 +168,7 @@ module _ (p : Parts) (to : Named) (es : List Entry) where
     there : relation_of (database_value to.db (relation_made ∷ []) ∷ []) to.db to.rel ≡ Some relation_made
     there = rw (equal_itself text_order to.db, equal_itself text_order to.rel) refl
 
-    pub columns_say : (c : CatalogueValue) (s : Source) → facts c (to_columns p to s) ≡ facts_made → said (catalogue_by c (to_columns p to s)) (from_columns p to) ≡ read_columns
+    pub columns_say : (c : CatalogueValue) (s : Source) → facts c (to_columns p to s) ≡ facts_made → said (given_by c (to_columns p to s)) (from_columns p to) ≡ read_columns
     columns_say c s is =
         ap (λ (d : CatalogueValue). said d (from_columns p to)) (columns_made full c s is)
         ∙ columns_said p to (database_value to.db (relation_made ∷ []) ∷ []) relation_made there all_fit keys_there

@@ -10,8 +10,9 @@ use Rattle.ss_text.proofs.SetLemmas.{same_map, ascending_of_same}
 use Rattle.schema_model.specs.Catalogue.{RelationValue, CatalogueValue, relation_value, database_value}
 use Rattle.valuation_meaning.specs.Meaning.{facts}
 use Rattle.valuation_meaning.specs.Orders.{text_under, rows_under}
+use Rattle.view_stack.specs.Stands.{given_by}
 use Rattle.round_trip_law.specs.Forms.{Named, Parts, header, from_values, from_columns, to_values, to_columns}
-use Rattle.round_trip_law.specs.Kept.{catalogue_by, there_and_back, is_refused, alone, has_text, with_values, clash, some_clash}
+use Rattle.round_trip_law.specs.Kept.{there_and_back, is_refused, alone, has_text, with_values, clash, some_clash}
 use Rattle.round_trip_law.specs.Law.{HasParts, ColumnsKeepValues}
 use Rattle.round_trip_law.proofs.CellLemmas.{IsApart, apart}
 use Rattle.round_trip_law.proofs.ColumnsKept.{read_columns, columns_same, columns_say}
@@ -65,7 +66,7 @@ module _ (p : Parts) (at middle to : Named) (c : CatalogueValue) (r : RelationVa
   rows unrefused =
       let back = read_columns p middle es full parts_apart.keys_apart in
       let same = columns_same p middle es full parts_apart.keys_apart (names_apart p middle legal c (from_values p at) es are unrefused) (no_clash p middle legal c (from_values p at) es are unrefused) in
-      let c2 : CatalogueValue = catalogue_by c (to_columns p middle (from_values p at)) in
+      let c2 : CatalogueValue = given_by c (to_columns p middle (from_values p at)) in
       values_made p to c2 (from_columns p middle) back
       (facts_are c2 (from_columns p middle) (to_values p to (from_columns p middle)) (value_fact to) (makes_values p (from_columns p middle) to) (columns_named p middle c2)
       ∙ ap (map (value_fact to)) (columns_say p middle es full parts_apart.keys_apart c (from_values p at) are))

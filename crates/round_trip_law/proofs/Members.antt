@@ -8,6 +8,8 @@ use Rattle.ss_text.proofs.KeyLemmas.{IsKeyOrder, equal_itself, equal_is}
 use Rattle.ss_text.proofs.PairLemmas.{any_ascending}
 use Rattle.ss_text.proofs.SetLemmas.{SameElements}
 use Rattle.view_stack.proofs.SaysLemmas.{or_right}
+use Rattle.view_stack.proofs.ScriptLemmas.{all_append}
+use Rattle.view_stack.proofs.StandsLemmas.{both_true}
 
 abbrev pub In : {A : Type 0} → A → List A → Type 0
 In x [] = ⊥
@@ -30,12 +32,6 @@ any_in {A} p (y ∷ ys) h = by_first (any_or (p y) (list_any p ys) h) (any_in p 
     by_first (inl e) rest = (y, inl refl, e)
     by_first (inr e) rest = let r = rest e in (r.0, inr r.1, r.2)
 
-pub both_true : (a b : Bool) → (a ≡ true → b ≡ true) → (b ≡ true → a ≡ true) → a ≡ b
-both_true true true f g = refl
-both_true true false f g = sym (f refl)
-both_true false true f g = g refl
-both_true false false f g = refl
-
 -- lists of which each has the elements of the other
 pub same_by : {A : Type 0} (xs ys : List A) → ((x : A) → In x xs → In x ys) → ((x : A) → In x ys → In x xs) → SameElements xs ys
 same_by xs ys f g = record { same = λ p. both_true (list_any p xs) (list_any p ys) (half p xs ys f) (half p ys xs g) }
@@ -55,10 +51,6 @@ all_by P (x ∷ xs) h = (h x (inl refl), all_by P xs (λ y i. h y (inr i)))
 pub all_of : {A : Type 0} (P : A → Type 0) → ((x : A) → P x) → (xs : List A) → AllByRecursion P xs
 all_of P h [] = tt
 all_of P h (x ∷ xs) = (h x, all_of P h xs)
-
-pub all_append : {A : Type 0} (P : A → Type 0) (xs ys : List A) → AllByRecursion P xs → AllByRecursion P ys → AllByRecursion P (xs ++ ys)
-all_append P [] ys h k = k
-all_append P (x ∷ xs) ys h k = (h.0, all_append P xs ys h.1 k)
 
 pub all_flat : {A B : Type 0} (P : B → Type 0) (f : A → List B) (xs : List A) → AllByRecursion (λ x. AllByRecursion P (f x)) xs → AllByRecursion P (flat_map f xs)
 all_flat P f [] h = tt

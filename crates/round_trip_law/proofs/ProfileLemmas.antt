@@ -13,10 +13,11 @@ use Rattle.view_def.specs.declared.typed.Term.TheVariants as term
 use Rattle.view_def.specs.Conditions.{AllOf}
 use Rattle.view_def.specs.Profile.{IsViewOfProfile, is_term_over, is_text_variable, are_ranges_after, ranges_over_rows, is_column_over, are_well_joined, is_well_joined_filter, range_folds, term_folds}
 use Rattle.view_def.specs.Terms.{terms_of_each, terms_of_filter, terms_of_view}
+use Rattle.view_stack.proofs.ScriptLemmas.{all_append}
 use Rattle.round_trip_law.specs.Forms.{Named, Parts, Source, cell, no_key_nor_empty, from_values, from_columns, from_tables, to_values, to_columns, to_tables}
 use Rattle.round_trip_law.specs.Law.{AreLegal, AreViews, FormsAreViews}
 use Rattle.round_trip_law.proofs.CellLemmas.{apart}
-use Rattle.round_trip_law.proofs.Members.{all_append, all_flat}
+use Rattle.round_trip_law.proofs.Members.{all_flat}
 
 -- ---- lists
 all_true : {A : Type 0} (test : A → Bool) (xs : List A) → AllByRecursion (λ x. test x ≡ true) xs → list_all test xs ≡ true

@@ -11,8 +11,8 @@ use Rattle.schema_model.specs.Catalogue.{RelationValue, CatalogueValue, database
 use Rattle.flow_law.specs.Facts.{Fact, facts_of}
 use Rattle.valuation_meaning.specs.Meaning.{facts}
 use Rattle.valuation_meaning.specs.Orders.{text_under, row_under}
+use Rattle.view_stack.specs.Stands.{given_by}
 use Rattle.round_trip_law.specs.Forms.{Parts, header, Source, from_tables, to_tables}
-use Rattle.round_trip_law.specs.Kept.{catalogue_by}
 use Rattle.round_trip_law.proofs.CellLemmas.{own_texts, text_next, IsApart, apart}
 use Rattle.round_trip_law.proofs.Entries.{Entry, AreFull, table_fact, said}
 use Rattle.round_trip_law.proofs.Members.{In, all_by, in_all, list_all_by, in_any, in_append, map_in, kept_in, ascending_in, regrouped}
@@ -80,7 +80,7 @@ module _ (p : Parts) (db : Text) (distinct : IsDistinct bytes_eq (header p)) whe
     db_there ts = rw (equal_itself text_order db) refl
 
     -- the tables that a view makes of entries say these
-    pub tables_say : (c : CatalogueValue) (s : Source) → facts c (to_tables p db s) ≡ fs → said (catalogue_by c (to_tables p db s)) (from_tables p db) ≡ again
+    pub tables_say : (c : CatalogueValue) (s : Source) → facts c (to_tables p db s) ≡ fs → said (given_by c (to_tables p db s)) (from_tables p db) ≡ again
     tables_say c s are =
         let ts = map (table_of_name p db fs) (names_of p db fs) in
         ap (λ (d : CatalogueValue). said d (from_tables p db)) (tables_made p db c s fs are)

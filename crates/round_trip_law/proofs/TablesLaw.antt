@@ -10,8 +10,9 @@ use Rattle.ss_text.proofs.SetLemmas.{same_map, ascending_of_same}
 use Rattle.schema_model.specs.Catalogue.{RelationValue, CatalogueValue, relation_value, database_value}
 use Rattle.valuation_meaning.specs.Meaning.{facts}
 use Rattle.valuation_meaning.specs.Orders.{text_under, rows_under}
+use Rattle.view_stack.specs.Stands.{given_by}
 use Rattle.round_trip_law.specs.Forms.{Named, Parts, header, from_values, from_tables, to_values, to_tables}
-use Rattle.round_trip_law.specs.Kept.{catalogue_by, there_and_back, is_refused, alone}
+use Rattle.round_trip_law.specs.Kept.{there_and_back, is_refused, alone}
 use Rattle.round_trip_law.specs.Law.{HasParts, TablesKeepRows}
 use Rattle.round_trip_law.proofs.Entries.{Entry, AreFull, entry_row, value_fact, table_fact, facts_are, makes_values, makes_tables}
 use Rattle.round_trip_law.proofs.RefusedLemmas.{bare_refused, any_mapped}
@@ -35,7 +36,7 @@ module _ (p : Parts) (at : Named) (middle : Text) (to : Named) (c : CatalogueVal
 
   rows : there_and_back c (to_tables p middle (from_values p at)) (to_values p to (from_tables p middle)) ≡ alone p to (rows_under (header p) r)
   rows =
-      let c2 : CatalogueValue = catalogue_by c (to_tables p middle (from_values p at)) in
+      let c2 : CatalogueValue = given_by c (to_tables p middle (from_values p at)) in
       let back : List Entry = again p middle has.distinct es full in
       values_made p to c2 (from_tables p middle) back
       (facts_are c2 (from_tables p middle) (to_values p to (from_tables p middle)) (value_fact to) (makes_values p (from_tables p middle) to) (tables_named p middle c2)

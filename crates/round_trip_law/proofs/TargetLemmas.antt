@@ -12,9 +12,9 @@ use Rattle.flow_law.specs.Labelled.{AllBear}
 use Rattle.flow_law.specs.Tables.{TableValue}
 use Rattle.flow_law.proofs.FactTableLemmas.{constant_tables, variable_tables}
 use Rattle.valuation_meaning.specs.Meaning.{facts, shape_of, meaning}
-use Rattle.view_stack.specs.Stands.{records_of, relation_for, catalogue_for}
+use Rattle.view_stack.specs.Stands.{records_of, relation_for, catalogue_for, given_by}
 use Rattle.round_trip_law.specs.Forms.{Named, Parts, header, Source, to_values, to_tables}
-use Rattle.round_trip_law.specs.Kept.{catalogue_by, alone}
+use Rattle.round_trip_law.specs.Kept.{alone}
 use Rattle.round_trip_law.proofs.CellLemmas.{mapped_twice}
 use Rattle.round_trip_law.proofs.Entries.{Entry, entry_row, value_fact}
 
@@ -34,7 +34,7 @@ module _ (p : Parts) (to : Named) where
     unfolding meaning
     tables_are = ap (tables (shape_of (to_values p to s))) is ∙ constant_tables to.rel (shape_of (to_values p to s)) (map (value_fact to) es) refl (all_bear es)
 
-    pub values_made : catalogue_by c (to_values p to s) ≡ alone p to (map entry_row es)
+    pub values_made : given_by c (to_values p to s) ≡ alone p to (map entry_row es)
     values_made =
         ap (catalogue_for to.db (shape_of (to_values p to s))) tables_are
         ∙ ap (λ (rows : List Row). database_value to.db (relation_value to.rel (header p) rows ∷ []) ∷ [])
@@ -59,7 +59,7 @@ module _ (p : Parts) (db : Text) where
         let first = keys_back _ (ascending row_cmp (map (λ (f : Fact). f.key) (facts_of name fs))) in
         λ i. relation_value name rest (first i) ∷ made fs names i
 
-    pub tables_made : (fs : List Fact) → facts c (to_tables p db s) ≡ fs → catalogue_by c (to_tables p db s) ≡ database_value db (map (table_of_name fs) (names_of fs)) ∷ []
+    pub tables_made : (fs : List Fact) → facts c (to_tables p db s) ≡ fs → given_by c (to_tables p db s) ≡ database_value db (map (table_of_name fs) (names_of fs)) ∷ []
     unfolding meaning
     tables_made fs is =
         ap (λ (gs : List Fact). catalogue_for db (shape_of (to_tables p db s)) (tables (shape_of (to_tables p db s)) gs)) is

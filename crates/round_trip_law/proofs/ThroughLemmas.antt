@@ -22,8 +22,9 @@ use Rattle.valuation_meaning.specs.Meaning.{given, facts, shape_of, meaning}
 use Rattle.valuation_meaning.specs.Refusal.{refusal}
 use Rattle.valuation_meaning.specs.Terms.{value_of}
 use Rattle.valuation_meaning.specs.Valuations.{assignments}
+use Rattle.view_stack.specs.Stands.{given_by}
 use Rattle.round_trip_law.specs.Forms.{Named, Parts, header, Source, cell, from_values, from_columns, from_tables, to_values, to_columns, to_tables}
-use Rattle.round_trip_law.specs.Kept.{catalogue_by, alone}
+use Rattle.round_trip_law.specs.Kept.{alone}
 use Rattle.round_trip_law.specs.Law.{IsThroughValues, AreThroughValues, ThroughValues}
 use Rattle.round_trip_law.proofs.CellLemmas.{own_texts, text_next, text_last, IsApart, apart}
 use Rattle.round_trip_law.proofs.Entries.{Entry, AreFull, entry_row, value_fact, column_fact, table_fact, counted, entry_of, said, AreNamed, Makes, makes_values, makes_columns, makes_tables, facts_are}
@@ -120,7 +121,7 @@ module _ (p : Parts) (middle : Named) (distinct : IsDistinct bytes_eq (header p)
   full = full_said (filter (λ v. counted s (value_of v)) (assignments c [] s.decls))
 
   abbrev values : CatalogueValue
-  values = catalogue_by c (to_values p middle s)
+  values = given_by c (to_values p middle s)
 
   values_are : values ≡ alone p middle (map entry_row es)
   values_are = values_made p middle c s es (facts_are c s (to_values p middle s) (value_fact middle) (makes_values p s middle) named)

@@ -11,9 +11,9 @@ use Rattle.schema_model.specs.Sound.{IsRelation}
 use Rattle.flow_law.specs.FactTables.{value_for}
 use Rattle.valuation_meaning.specs.Meaning.{facts, shape_of}
 use Rattle.valuation_meaning.specs.Orders.{text_under}
-use Rattle.view_stack.specs.Stands.{catalogue_for}
+use Rattle.view_stack.specs.Stands.{catalogue_for, given_by}
 use Rattle.round_trip_law.specs.Forms.{Named, Parts, from_values, from_columns, to_values, to_columns}
-use Rattle.round_trip_law.specs.Kept.{catalogue_by, there_and_back, is_refused, says, kept_names, kept_keys, text_for, some_clash_under, wide}
+use Rattle.round_trip_law.specs.Kept.{there_and_back, is_refused, says, kept_names, kept_keys, text_for, some_clash_under, wide}
 use Rattle.round_trip_law.specs.Law.{HasKeys, IsThroughValues, ValuesKeepTexts}
 use Rattle.round_trip_law.proofs.ColumnsKept.{facts_made, row_made, columns_made}
 use Rattle.round_trip_law.proofs.Entries.{Entry, AreFull, column_fact, facts_are, makes_columns}
@@ -47,7 +47,7 @@ module _ (p : Parts) (at middle to : Named) (c : CatalogueValue) (r : RelationVa
       let row = map_in (column_entry p r.attributes name.0) e (filter (says p r.attributes name.0) r.rows) name.2 in
       ap (λ (f : Entry). length f.key) row.2 ∙ length-map p.keys (text_under r.attributes row.0))
 
-  refused : is_refused (catalogue_by c (to_values p middle (from_columns p at))) (to_columns p to (from_values p middle)) ≡ (list_any (λ a. not (is_column_label a p.keys)) (kept_names p r) || some_clash_under p r)
+  refused : is_refused (given_by c (to_values p middle (from_columns p at))) (to_columns p to (from_values p middle)) ≡ (list_any (λ a. not (is_column_label a p.keys)) (kept_names p r) || some_clash_under p r)
   refused = ap is_some through.refused ∙ columns_refused p to legal c (from_columns p at) es are ∙ (λ i. illegal_is p r to i || clash_is p r i)
 
   row_is : (key : Row) → row_made p to es key ≡ key ++ map (text_for p r key) (kept_names p r)

@@ -10,8 +10,9 @@ use Rattle.flow_law.specs.FactTables.{tables}
 use Rattle.valuation_meaning.specs.Valuations.{valuations, counts}
 use Rattle.valuation_meaning.specs.Meaning.{meaning, facts}
 use Rattle.valuation_meaning.specs.Refusal.{refusal}
+use Rattle.view_stack.specs.Stands.{given_by}
 use Rattle.round_trip_law.specs.Forms.{Named, Parts, from_values, from_columns, from_tables, to_values, to_columns, to_tables}
-use Rattle.round_trip_law.specs.Kept.{catalogue_by, is_refused, alone}
+use Rattle.round_trip_law.specs.Kept.{is_refused, alone}
 
 abbrev three : Text → Text → Text → Row
 three a b c = a ∷ b ∷ c ∷ []
@@ -35,13 +36,13 @@ abbrev row : Text → Text → Text → Row
 row category dept floor = three dept floor category
 
 abbrev to_tables_and_back : CatalogueValue → CatalogueValue
-to_tables_and_back c = catalogue_by (catalogue_by c (to_tables parts (codes "C") (from_values parts (at (codes "A"))))) (to_values parts (at (codes "D")) (from_tables parts (codes "C")))
+to_tables_and_back c = given_by (given_by c (to_tables parts (codes "C") (from_values parts (at (codes "A"))))) (to_values parts (at (codes "D")) (from_tables parts (codes "C")))
 
 abbrev to_columns_and_back : CatalogueValue → CatalogueValue
-to_columns_and_back c = catalogue_by (catalogue_by c (to_columns parts (at (codes "B")) (from_values parts (at (codes "A"))))) (to_values parts (at (codes "D")) (from_columns parts (at (codes "B"))))
+to_columns_and_back c = given_by (given_by c (to_columns parts (at (codes "B")) (from_values parts (at (codes "A"))))) (to_values parts (at (codes "D")) (from_columns parts (at (codes "B"))))
 
 abbrev to_values_and_back : Parts → CatalogueValue → CatalogueValue
-to_values_and_back p c = catalogue_by (catalogue_by c (to_values p (at (codes "B")) (from_columns p (at (codes "A"))))) (to_columns p (at (codes "D")) (from_values p (at (codes "B"))))
+to_values_and_back p c = given_by (given_by c (to_values p (at (codes "B")) (from_columns p (at (codes "A"))))) (to_columns p (at (codes "D")) (from_values p (at (codes "B"))))
 
 -- ---- a row that stands twice, and one without a value
 abbrev salaries : CatalogueValue

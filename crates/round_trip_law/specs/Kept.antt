@@ -5,19 +5,14 @@ use Rattle.ss_text.specs.Texts.{Text, Row, text_cmp, row_cmp, text_eq, row_eq, i
 use Rattle.ss_text.specs.Ascending.{ascending, least}
 use Rattle.schema_model.specs.Catalogue.{RelationValue, CatalogueValue, relation_value, database_value}
 use Rattle.view_def.specs.Query.{Query}
-use Rattle.valuation_meaning.specs.Meaning.{shape_of, meaning}
 use Rattle.valuation_meaning.specs.Orders.{text_under, row_under}
 use Rattle.valuation_meaning.specs.Refusal.{refusal}
-use Rattle.view_stack.specs.Stands.{catalogue_for}
+use Rattle.view_stack.specs.Stands.{given_by}
 use Rattle.round_trip_law.specs.Forms.{Named, Parts, header}
 
--- the catalogue that the tables of a view are, over which a view back stands
-abbrev pub catalogue_by : CatalogueValue → Query → CatalogueValue
-catalogue_by c q = catalogue_for q.view_db (shape_of q) (meaning c q)
-
--- the catalogue that the tables of the view back are
+-- the catalogue that the tables of the view back are, which stands over the one that the view there gives
 abbrev pub there_and_back : CatalogueValue → Query → Query → CatalogueValue
-there_and_back c there back = catalogue_by (catalogue_by c there) back
+there_and_back c there back = given_by (given_by c there) back
 
 abbrev pub is_refused : CatalogueValue → Query → Bool
 is_refused c q = is_some (refusal c q)

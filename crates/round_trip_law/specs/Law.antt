@@ -10,8 +10,9 @@ use Rattle.view_def.specs.Query.{Query}
 use Rattle.valuation_meaning.specs.Meaning.{meaning}
 use Rattle.valuation_meaning.specs.Orders.{text_under, rows_under}
 use Rattle.valuation_meaning.specs.Refusal.{refusal}
+use Rattle.view_stack.specs.Stands.{given_by}
 use Rattle.round_trip_law.specs.Forms.{Named, Parts, header, Source, from_values, from_columns, from_tables, to_values, to_columns, to_tables}
-use Rattle.round_trip_law.specs.Kept.{catalogue_by, there_and_back, is_refused, alone, with_values, some_clash, kept_names, some_clash_under, wide}
+use Rattle.round_trip_law.specs.Kept.{there_and_back, is_refused, alone, with_values, some_clash, kept_names, some_clash_under, wide}
 
 -- ---- the views
 -- attributes that are all different, with a key among them, and legal labels
@@ -71,7 +72,7 @@ pub record HasKeys (p : Parts) (at : Named) (c : CatalogueValue) (r : RelationVa
 
 -- the view back is refused where a name that has a text is no legal column, or two rows clash; and it has each text
 pub record KeepsByValues (p : Parts) (at middle to : Named) (c : CatalogueValue) (r : RelationValue) : Type 0 where
-  pub refused : is_refused (catalogue_by c (to_values p middle (from_columns p at))) (to_columns p to (from_values p middle))
+  pub refused : is_refused (given_by c (to_values p middle (from_columns p at))) (to_columns p to (from_values p middle))
       ≡ (list_any (λ name. not (is_column_label name p.keys)) (kept_names p r) || some_clash_under p r)
   pub rows : there_and_back c (to_values p middle (from_columns p at)) (to_columns p to (from_values p middle)) ≡ wide p to r
 
@@ -81,8 +82,8 @@ ValuesKeepTexts = (p : Parts) (at middle to : Named) (c : CatalogueValue) (r : R
 -- ---- columns to tables, tables to columns
 -- a view over a source is the one over the values that are made of the source
 pub record IsThroughValues (p : Parts) (middle : Named) (c : CatalogueValue) (s : Source) (to : Source → Query) : Type 0 where
-  pub tables : meaning (catalogue_by c (to_values p middle s)) (to (from_values p middle)) ≡ meaning c (to s)
-  pub refused : refusal (catalogue_by c (to_values p middle s)) (to (from_values p middle)) ≡ refusal c (to s)
+  pub tables : meaning (given_by c (to_values p middle s)) (to (from_values p middle)) ≡ meaning c (to s)
+  pub refused : refusal (given_by c (to_values p middle s)) (to (from_values p middle)) ≡ refusal c (to s)
 
 pub record AreThroughValues (p : Parts) (middle to : Named) (c : CatalogueValue) (s : Source) : Type 0 where
   pub columns : IsThroughValues p middle c s (to_columns p to)

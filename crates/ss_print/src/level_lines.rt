@@ -1,21 +1,18 @@
 //! The lines that a stack prints.
-ghost use Rattle.std.specs.Prelude.{◌≡◌, ◌≢◌, ◌≤◌, ◌+◌, ◌++◌, ◌∷◌, [], map, length, codes, decimal, IfOk, OnOk};
-ghost use Rattle.std.specs.List.{All};
-ghost use Rattle.tab_lines.specs.Spelling.{spell};
+ghost use Rattle.std.specs.Prelude.{◌≡◌, ◌≤◌, ◌+◌, ◌++◌, ◌∷◌, [], map, length, codes, decimal, IfOk, OnOk};
 ghost use Rattle.outside.specs.Effects.{Does, world_of};
 ghost use Rattle.outside.specs.Blame.{SinkBlames};
 ghost use Rattle.change_script.specs.Printed.{printed};
 ghost use Rattle.ss_print.specs.Printing.{says, lines_text};
 ghost use Rattle.ss_print.specs.LevelLines.{level_row, names_level, refuses_at, rows_from, line_count, stack_rows, prints_scripts};
 
-use crate::{number_text, refuse, say};
+use crate::printing::{counted_row, lines_text, refuse, say};
 use change_script::{Script, script_lines};
 use outside::{Sink, Stop, print};
-use ss_text::{NoMemory, Row, Text};
+use ss_text::{NoMemory, Row};
 use std::alloc::Global;
-use tab_lines::write_line;
 
-/// Prints a refusal by a level, behind its number where that is not the lowest.
+/// Prints a refusal by a level, behind its number where that is not the lowest. Levels count from 1, the lowest.
 #[tactic(auto, using(outside::proofs::Following::following, outside::proofs::EffectLemmas::partly_more, outside::proofs::EffectLemmas::partly_later, outside::proofs::EffectLemmas::performed_append))]
 pub fn refuse_level<K: Sink>(
     alloc: Global,
@@ -136,37 +133,4 @@ fn line_count(all: &[Script]) -> Result<usize, NoMemory>
         Some(count) => Ok(count),
         None => Err(NoMemory),
     }
-}
-
-// A word and a number.
-fn counted_row(alloc: Global, word: &[u8], count: usize) -> Result<Row, NoMemory>
-    ensures { IfOk result (λ row. row ≡ word.now ∷ decimal count ∷ []) }
-{
-    let mut row = Vec::new(alloc);
-    row.push(Text::of(alloc, word)?)?;
-    row.push(number_text(alloc, count)?)?;
-    Ok(Row::of(row))
-}
-
-// Rows as lines, each with its LF.
-fn lines_text(alloc: Global, rows: &[Row]) -> Result<Vec<u8>, NoMemory>
-    requires { All (λ row. row ≢ []) rows.now }
-    ensures { IfOk result (λ text. text.items ≡ lines_text rows.now) }
-{
-    let mut text = Vec::new(alloc);
-    for row in rows {
-        text.extend_from_slice(line_of(alloc, row)?.as_slice())?;
-    }
-    Ok(text)
-}
-
-// The line of a row, with its LF.
-fn line_of(alloc: Global, row: &Row) -> Result<Vec<u8>, NoMemory>
-    requires { row.now ≢ [] }
-    ensures { IfOk result (λ line. line.items ≡ spell row.now ++ 10 ∷ []) }
-{
-    let text = write_line(alloc, row)?;
-    let mut line = Vec::from_slice(alloc, text.as_slice())?;
-    line.push(b'\n')?;
-    Ok(line)
 }

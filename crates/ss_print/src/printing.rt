@@ -196,7 +196,7 @@ fn script_text(alloc: Global, script: &Script) -> Result<Vec<u8>, NoMemory>
 }
 
 // Rows as lines, each with its LF.
-fn lines_text(alloc: Global, rows: &[Row]) -> Result<Vec<u8>, NoMemory>
+pub(crate) fn lines_text(alloc: Global, rows: &[Row]) -> Result<Vec<u8>, NoMemory>
     requires { All (λ row. row ≢ []) rows.now }
     ensures { IfOk result (λ text. text.items ≡ lines_text rows.now) }
 {
@@ -208,7 +208,7 @@ fn lines_text(alloc: Global, rows: &[Row]) -> Result<Vec<u8>, NoMemory>
 }
 
 // A word and a number.
-fn counted_row(alloc: Global, word: &[u8], count: usize) -> Result<Row, NoMemory>
+pub(crate) fn counted_row(alloc: Global, word: &[u8], count: usize) -> Result<Row, NoMemory>
     ensures { IfOk result (λ row. row ≡ word.now ∷ decimal count ∷ []) }
 {
     let mut row = Vec::new(alloc);

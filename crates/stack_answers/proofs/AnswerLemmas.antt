@@ -28,7 +28,7 @@ use Rattle.ss_print.specs.LevelLines.{refuses_at, prints_scripts}
 use Rattle.view_answers.specs.declared.word.Word.{Word}
 use Rattle.view_answers.specs.Answers.{word_in}
 use Rattle.view_answers.specs.Steps.{IsHoldFieldsOf}
-use Rattle.view_answers.proofs.AnswerLemmas.{unread}
+use Rattle.view_answers.proofs.AnswerLemmas.{unread, behind}
 use Rattle.stack_levels.specs.Levels.{lines_over, changing_refusal}
 use Rattle.stack_levels.specs.Taking.{AreRefused}
 use Rattle.stack_levels.specs.declared.refusal.LevelRefusal.{LevelRefusal}
@@ -37,7 +37,6 @@ use Rattle.stack_levels.specs.declared.refusal.LevelsRefused.TheVariants as refu
 use Rattle.stack_answers.specs.Stack.{StackState, queries_of, working}
 use Rattle.stack_answers.specs.Held.{held_in}
 use Rattle.stack_answers.specs.Steps.{IsRefusalOf, IsRefusedBy}
-use Rattle.stack_answers.proofs.PerformingLemmas.{behind}
 use Rattle.stack_answers.specs.Answers.{Answer, answer, by_spelling, by_row, by_first, by_fields, by_word, by_broken, by_levels, by_open, by_change, by_fault, judged, refusing, plainly, giving_up, keeping, making, end_effects, end_stack, sync_effects, finish}
 
 -- a group is open where there is a draft

@@ -23,7 +23,8 @@ use Rattle.view_folder.specs.Sync.{has_table, tables_first, label_synced, later_
 use Rattle.view_folder.proofs.LaterLemmas.{same_file}
 use Rattle.view_answers.proofs.ViewLemmas.{none_open}
 use Rattle.view_stages.specs.Stages.{files_of_view}
-use Rattle.stack_levels.specs.Levels.{given_by, tables_over}
+use Rattle.view_stack.specs.Stands.{given_by}
+use Rattle.stack_levels.specs.Levels.{tables_over}
 use Rattle.stack_levels.specs.States.{LevelState, level_value, level_tables, views_of}
 use Rattle.stack_answers.specs.Answers.{folder_effects}
 use Rattle.stack_answers.specs.Folders.{label_in, is_other, opening_labels, level_folder, labels_at, planned_in, ArePlanned, folder_synced, folders_synced, label_count}

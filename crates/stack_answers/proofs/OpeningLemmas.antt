@@ -1,6 +1,6 @@
 -- What the opening of a stack did.
 use Rattle.std.proofs.Common.{◌≡◌, ◌≢◌, ◌∙◌, ◌++◌, [], ◌∷◌, Bool, ℕ, List, map, Option, None, Some, refl, sym, ap, subst, arith}
-use Rattle.std.specs.Prelude.{false, Result, Ok, Err, IfErr, IsErrOf, codes}
+use Rattle.std.specs.Prelude.{false, Result, Ok, Err, IfErr, IsErrOf}
 use Rattle.ss_text.specs.Texts.{Text, Row}
 use Rattle.outside.specs.States.{StoreState}
 use Rattle.outside.specs.Tree.{Tree}
@@ -16,21 +16,23 @@ use Rattle.course.specs.declared.status.Verdict.TheVariants as verdict
 use Rattle.view_def.specs.Query.{Query}
 use Rattle.view_stages.specs.Stages.{loaded_or_refused}
 use Rattle.ss_print.specs.Printing.{refuses, prints_synced}
-use Rattle.stack_levels.specs.Levels.{opening_refusal, given_by, tables_over}
+use Rattle.view_stack.specs.Stands.{given_by}
+use Rattle.view_answers.proofs.AnswerLemmas.{behind}
+use Rattle.stack_levels.specs.Levels.{opening_refusal, tables_over}
 use Rattle.stack_levels.specs.Values.{LevelValue, synced_over}
 use Rattle.stack_levels.specs.States.{LevelState, level_tables, lowest_catalogue, views_of}
 use Rattle.stack_levels.specs.Opening.{AreFresh}
 use Rattle.stack_levels.specs.declared.refusal.LevelRefusal.{LevelRefusal}
 use Rattle.stack_answers.specs.Stack.{StackState, queries_of, stack_at_first}
 use Rattle.stack_answers.specs.Held.{stack_state}
-use Rattle.stack_answers.specs.Opening.{opened, folders_opened, opening_sum, with_levels, with_catalogue, with_databases, with_definitions}
+use Rattle.stack_answers.specs.Opening.{opened, folders_opened, opening_sum, with_levels, with_catalogue, twice_fields, with_databases, with_definitions}
 use Rattle.stack_answers.specs.Folders.{labels_at, planned_in, ArePlanned, folders_synced, label_count}
 use Rattle.stack_answers.specs.Steps.{Opens}
 use Rattle.stack_answers.specs.declared.folders.Plan.{Plan}
 use Rattle.stack_answers.specs.declared.opening.Opened.{Opened}
 use Rattle.stack_answers.specs.declared.opening.Opened.TheVariants as opened_as
 use Rattle.stack_answers.proofs.FolderLemmas.{filled_effects, filled_count}
-use Rattle.stack_answers.proofs.PerformingLemmas.{behind, later_cause}
+use Rattle.stack_answers.proofs.PerformingLemmas.{later_cause}
 use Rattle.stack_answers.proofs.StackLemmas.{fresh_state, views_are}
 
 -- nothing was done
@@ -62,7 +64,7 @@ pub judged_behind : (t : Tree) (qs : List Query) (c : CatalogueValue) (o p : Opt
 judged_behind t qs c o p old new x is h = subst (λ (r : Option LevelRefusal). Opens (with_levels t qs c r) old new x) (sym is) h
 
 -- a view database that stands twice ends the run
-pub twice_ended : (t : Tree) (qs : List Query) (o : Option Text) (db : Text) (fields : Row) (old new : World) → Some db ≡ o → fields ≡ codes "view-database-twice" ∷ db ∷ [] → contents new ≡ performed (refuses fields ∷ []) (contents old)
+pub twice_ended : (t : Tree) (qs : List Query) (o : Option Text) (db : Text) (fields : Row) (old new : World) → Some db ≡ o → fields ≡ twice_fields db → contents new ≡ performed (refuses fields ∷ []) (contents old)
     → Opens (with_databases t qs o) old new (Ok (opened_as.Ended verdict.BadDefinition))
 twice_ended t qs o db fields old new is told did =
     subst (λ (x : Option Text). Opens (with_databases t qs x) old new (Ok (opened_as.Ended verdict.BadDefinition))) is (did ∙ ap (λ (row : Row). performed (refuses row ∷ []) (contents old)) told, refl)

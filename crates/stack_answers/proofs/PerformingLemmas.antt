@@ -1,23 +1,19 @@
 -- Calls that change files, one behind the other.
-use Rattle.std.proofs.Common.{◌≡◌, ◌∙◌, ◌≤◌, List, [], ◌++◌, refl, sym, ap, arith}
+use Rattle.std.proofs.Common.{◌∙◌, ◌≤◌, List, [], ◌++◌, refl, arith}
 use Rattle.std.specs.Prelude.{Result, Ok, Err}
 use Rattle.outside.specs.States.{StoreState}
-use Rattle.outside.specs.Effects.{Effect, World, world_of, contents, performed, Does}
+use Rattle.outside.specs.Effects.{Effect, world_of, contents}
 use Rattle.outside.specs.Blame.{StoreCause}
 use Rattle.outside.specs.Performing.{Performs}
 use Rattle.outside.specs.declared.stop.Stop.{Stop}
 use Rattle.outside.specs.declared.stop.Stop.TheVariants as stop
-use Rattle.outside.proofs.EffectLemmas.{performed_append, partly_more, partly_later}
+use Rattle.outside.proofs.EffectLemmas.{partly_more}
 use Rattle.course.proofs.FrontLemmas.{partly_whole}
+use Rattle.view_answers.proofs.AnswerLemmas.{behind}
 
 -- nothing
 pub performs_none : {A : Type 0} (s : StoreState) (a : A) → Performs [] s s (Ok a)
 performs_none s a = record { does = λ o. refl; reads = refl; no_read = tt; blames = record { reads = omega arith; writes = omega arith; because = tt } }
-
--- effects behind others
-pub behind : {A : Type 0} (es fs : List Effect) (before mid v : World) (r : Result A Stop) → contents mid ≡ performed es (contents before) → Does fs mid v r → Does (es ++ fs) before v r
-behind es fs before mid v (Ok a) h d = d ∙ ap (performed fs) h ∙ sym (performed_append es fs (contents before))
-behind es fs before mid v (Err e) h d = partly_later es fs (contents before) (contents mid) (contents v) h d
 
 -- the cause of a stop behind a call that ended
 pub later_cause : {B : Type 0} (a b c : StoreState) (r : Result B Stop) → a.read_faults ≤ b.read_faults → a.write_faults ≤ b.write_faults → StoreCause r b c → StoreCause r a c

@@ -14,7 +14,8 @@ use Rattle.course.specs.Answering.{Reply, Continues, Finishes}
 use Rattle.ss_print.specs.Printing.{prints_synced}
 use Rattle.view_stages.specs.Stages.{Accepted, DefinitionOrRefusal, loaded_or_refused, files_of_view}
 use Rattle.stack_levels.specs.declared.refusal.LevelRefusal.{LevelRefusal}
-use Rattle.stack_levels.specs.Levels.{refused_at, given_by, opening_refusal}
+use Rattle.view_stack.specs.Stands.{given_by}
+use Rattle.stack_levels.specs.Levels.{refused_at, opening_refusal}
 use Rattle.stack_answers.specs.Stack.{StackState, stack_at_first}
 use Rattle.stack_answers.specs.Answers.{refusal_effects}
 
@@ -53,9 +54,13 @@ abbrev pub with_catalogue : Tree → List Query → Result CatalogueValue Row �
 with_catalogue t qs (Err fields) = halts (refused_at 1 fields) verdict.BadCatalogue
 with_catalogue t qs (Ok c) = with_levels t qs c (opening_refusal c qs)
 
+-- a view database that stands twice
+abbrev pub twice_fields : Text → Row
+twice_fields db = codes "view-database-twice" ∷ db ∷ []
+
 -- a view database stands twice, or the catalogue is loaded
 abbrev pub with_databases : Tree → List Query → Option Text → Reply StackState
-with_databases t qs (Some db) = halts (refused_at 1 (codes "view-database-twice" ∷ db ∷ [])) verdict.BadDefinition
+with_databases t qs (Some db) = halts (refused_at 1 (twice_fields db)) verdict.BadDefinition
 with_databases t qs None = with_catalogue t qs (loaded_or_refused t)
 
 -- a definition is refused, or their view databases are compared

@@ -1,5 +1,5 @@
 //! The definitions of a stack.
-ghost use Rattle.std.specs.Prelude.{◌≡◌, ◌∷◌, [], List, Some, IfOk, codes, map};
+ghost use Rattle.std.specs.Prelude.{◌≡◌, List, Some, IfOk, map};
 ghost use Rattle.outside.specs.Reading.{OnlyRead};
 ghost use Rattle.outside.specs.Tree.{Tree};
 ghost use Rattle.outside.specs.Effects.{Does, world_of};
@@ -7,7 +7,7 @@ ghost use Rattle.outside.specs.Blame.{StoreBlames};
 ghost use Rattle.view_def.specs.Query.{Query};
 ghost use Rattle.stack_levels.specs.Opening.{defined_views};
 ghost use Rattle.view_stages.specs.Stages.{DefinitionOrRefusal};
-ghost use Rattle.stack_answers.specs.Opening.{all_accepted};
+ghost use Rattle.stack_answers.specs.Opening.{all_accepted, twice_fields};
 ghost use Rattle.stack_answers.specs.Definitions.{AreDefinitions, AreRead, IsForAll, defined_as};
 
 use outside::{Folders, Stop};
@@ -85,7 +85,7 @@ pub(crate) fn databases_of(alloc: Global, definitions: &[Definition]) -> Result<
 
 /// The fields of a view database that stands twice.
 pub(crate) fn twice_fields(alloc: Global, db: &Text) -> Result<Row, NoMemory>
-    ensures { IfOk result (λ row. row ≡ codes "view-database-twice" ∷ db.now ∷ []) }
+    ensures { IfOk result (λ row. row ≡ twice_fields db.now) }
 {
     let mut fields = Vec::new(alloc);
     fields.push(Text::of(alloc, b"view-database-twice")?)?;

@@ -135,7 +135,7 @@ fn label_in(alloc: Global, name: &Text) -> Result<Option<Text>, NoMemory>
 
 /// Syncs the files that were planned for each level in its folder, one level behind the other, and answers how many they
 /// are.
-pub(crate) fn fill_folders<F: Folders>(
+pub(crate) fn write_tables<F: Folders>(
     alloc: Global,
     store: &mut F,
     levels: &[Level],
@@ -152,7 +152,7 @@ pub(crate) fn fill_folders<F: Folders>(
         return Ok(0);
     };
     sync_folder(alloc, store, level, &plan.labels)?;
-    let count = fill_folders(alloc, store, above, plans_above)?;
+    let count = write_tables(alloc, store, above, plans_above)?;
     // More files than can be counted are no memory.
     match count.checked_add(plan.labels.len()) {
         Some(count) => Ok(count),

@@ -22,7 +22,7 @@ ghost use Rattle.stack_answers.specs.Opening.{folders_opened, opening_sum};
 ghost use Rattle.stack_answers.specs.Steps.{IsRefusalOf};
 ghost use Rattle.stack_answers.specs.Answers.{finish, answer, by_row, by_change, by_fault, in_group, more_broken, refusing, plainly, making, folder_effects, sync_count, sync_effects, syncing, synced_stack, end_stack};
 
-use crate::folders::{file_count, fill_folders, plan_folders, sync_folders};
+use crate::folders::{file_count, plan_folders, sync_folders, write_tables};
 use change_draft::Draft;
 use change_script::Script;
 use course::{LineHandler, LineStop, NoDisk, Verdict};
@@ -96,7 +96,7 @@ impl OpenStack {
 
     /// Writes the folders of a stack that was just opened, one level behind the other, and prints that it did.
     #[tactic(auto, using(outside::proofs::Following::following, outside::proofs::EffectLemmas::partly_more, outside::proofs::EffectLemmas::partly_later, outside::proofs::EffectLemmas::performed_append, course::proofs::IdleLemmas::idle_first, course::proofs::IdleLemmas::idle_print))]
-    pub(crate) fn write_folders<F: Folders, K: Sink>(
+    pub(crate) fn fill_folders<F: Folders, K: Sink>(
         &self,
         alloc: Global,
         store: &mut F,
@@ -108,14 +108,14 @@ impl OpenStack {
         ensures idle { IdleUnread result (world_of (F.state store.old) (K.state output.old)) (world_of (F.state store.new) (K.state output.new)) }
         ensures blames { Blames (world_of (F.state store.old) (K.state output.old)) (world_of (F.state store.new) (K.state output.new)) result }
     {
-        let count = self.fill(alloc, store)?;
+        let count = self.write_tables(alloc, store)?;
         print_synced(alloc, output, count)?;
         Ok(())
     }
 
     // Brings the folder of each level to its tables, and answers how many files that writes or removes. All folders are
     // read before the first is written.
-    fn fill<F: Folders>(&self, alloc: Global, store: &mut F) -> Result<usize, Stop>
+    fn write_tables<F: Folders>(&self, alloc: Global, store: &mut F) -> Result<usize, Stop>
         ensures does { (o : _) (t : Tree) → (F.state store.old).tree ≡ Some t
             → Does (folders_opened t self.now.catalogue (queries_of self.now)) (world_of (F.state store.old) o) (world_of (F.state store.new) o) result }
         ensures count { IfOk result (λ n. (t : Tree) → (F.state store.old).tree ≡ Some t → n ≡ opening_sum t self.now.catalogue (queries_of self.now)) }
@@ -124,7 +124,7 @@ impl OpenStack {
     {
         let levels = self.levels.all();
         let plans = plan_folders(alloc, store, levels)?;
-        fill_folders(alloc, store, levels, &plans)
+        write_tables(alloc, store, levels, &plans)
     }
 
     // How many changes the open group holds, where one is open.
@@ -209,7 +209,7 @@ impl OpenStack {
         sync_folders(alloc, store, self.levels.all())
     }
 
-    // How many files of all folders that writes or removes.
+    // How many files of all folders a sync writes or removes.
     fn sync_count(&self) -> Result<usize, NoMemory>
         ensures { IfOk result (λ count. count ≡ sync_count self.now.levels (stack_tables self.now)) }
     {

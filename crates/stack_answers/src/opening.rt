@@ -51,7 +51,7 @@ pub(crate) fn open<F: Folders, K: Sink, L: Ledger>(
     ensures refused { IfOk result IsRefusal }
     ensures idle { IdleUnread result (world_of (F.state store.old) (K.state output.old)) (world_of (F.state store.new) (K.state output.new)) }
     ensures blames { Blames (world_of (F.state store.old) (K.state output.old)) (world_of (F.state store.new) (K.state output.new)) result }
-    ensures rises { steps.old ≤ steps.new }
+    ensures steps { steps.new ≡ steps.old }
 {
     match read_definitions(alloc, store, names)? {
         Defined::Refused(fields) => {
@@ -81,7 +81,7 @@ fn open_views<F: Folders, K: Sink, L: Ledger>(
     ensures refused { IfOk result IsRefusal }
     ensures idle { IdleUnread result (world_of (F.state store.old) (K.state output.old)) (world_of (F.state store.new) (K.state output.new)) }
     ensures blames { Blames (world_of (F.state store.old) (K.state output.old)) (world_of (F.state store.new) (K.state output.new)) result }
-    ensures rises { steps.old ≤ steps.new }
+    ensures steps { steps.new ≡ steps.old }
 {
     match repeated_database(alloc, &definitions)? {
         Some(db) => {
@@ -120,7 +120,7 @@ fn open_sources<F: Folders, K: Sink, L: Ledger>(
     ensures refused { IfOk result IsRefusal }
     ensures idle { IdleUnread result (world_of (F.state store.old) (K.state output.old)) (world_of (F.state store.new) (K.state output.new)) }
     ensures blames { Blames (world_of (F.state store.old) (K.state output.old)) (world_of (F.state store.new) (K.state output.new)) result }
-    ensures rises { steps.old ≤ steps.new }
+    ensures steps { steps.new ≡ steps.old }
 {
     match load_sources(alloc, store)? {
         Loading::Refused(fields) => {
@@ -151,7 +151,7 @@ fn open_levels<F: Folders, K: Sink, L: Ledger>(
     ensures refused { IfOk result IsRefusal }
     ensures idle { IdleUnread result (world_of (F.state store.old) (K.state output.old)) (world_of (F.state store.new) (K.state output.new)) }
     ensures blames { Blames (world_of (F.state store.old) (K.state output.old)) (world_of (F.state store.new) (K.state output.new)) result }
-    ensures rises { steps.old ≤ steps.new }
+    ensures steps { steps.new ≡ steps.old }
 {
     match stack_levels::open(alloc, catalogue, definitions, steps) {
         Ok(levels) => {
@@ -181,7 +181,7 @@ fn fill_levels<F: Folders, K: Sink>(
     ensures blames { Blames (world_of (F.state store.old) (K.state output.old)) (world_of (F.state store.new) (K.state output.new)) result }
 {
     let stack = OpenStack::of(levels);
-    match stack.write_folders(alloc, store, output) {
+    match stack.fill_folders(alloc, store, output) {
         Ok(()) => Ok(Opened::Open(stack)),
         Err(stop) => {
             drop(stack);

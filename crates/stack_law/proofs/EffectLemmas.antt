@@ -10,10 +10,6 @@ use Rattle.source_law.specs.Counted.{tree_by, tree_after, counted}
 use Rattle.upkeep_law.specs.Given.{IsPrint}
 use Rattle.upkeep_law.specs.Promises.{printed_by}
 
-pub tree_append : (es fs : List Effect) (t : Tree) → tree_after (es ++ fs) t ≡ tree_after fs (tree_after es t)
-tree_append [] fs t = refl
-tree_append (e ∷ es) fs t = tree_append es fs (tree_by e t)
-
 counted_append : (es fs : List Effect) (t : Tree) → counted (es ++ fs) t ≡ counted es t + counted fs (tree_after es t)
 counted_append [] fs t = omega arith
 counted_append (e ∷ es) fs t = let rest = counted_append es fs (tree_by e t) in omega (arith, rest)

@@ -10,7 +10,6 @@ use Rattle.ss_text.specs.Ascending.{ascending}
 use Rattle.ss_text.proofs.AscendingLemmas.{ascending_ascends}
 use Rattle.ss_text.proofs.KeyLemmas.{text_order}
 use Rattle.ss_text.proofs.PairLemmas.{same_keys}
-use Rattle.ss_text.proofs.SetLemmas.{same_ascending}
 use Rattle.outside.specs.Counts.{risen}
 use Rattle.outside.specs.Tree.{Tree, files_of, file_at}
 use Rattle.outside.specs.Whole.{IsWhole}
@@ -42,16 +41,18 @@ use Rattle.source_law.proofs.LoadedLemmas.{sound_loaded}
 use Rattle.ss_print.specs.Printing.{prints_synced}
 use Rattle.view_stages.specs.Stages.{files_of_view}
 use Rattle.view_stages.proofs.StageLemmas.{are_view_files}
+use Rattle.view_stages.proofs.BetweenLemmas.{tree_append}
 use Rattle.upkeep_law.specs.Given.{IsPrint}
-use Rattle.upkeep_law.proofs.KeptLemmas.{opening_files}
-use Rattle.stack_levels.specs.Levels.{given_by, tables_over, lines_over}
+use Rattle.upkeep_law.proofs.KeptLemmas.{opening_files, in_ascending}
+use Rattle.view_stack.specs.Stands.{given_by}
+use Rattle.stack_levels.specs.Levels.{tables_over, lines_over}
 use Rattle.stack_levels.specs.Values.{LevelValue, with_lines, synced_over, count_of}
 use Rattle.stack_answers.specs.Stack.{StackState, queries_of, stack_tables, stack_at_first}
 use Rattle.stack_answers.specs.Answers.{Answer, making, syncing, folder_effects, sync_count, synced_stack}
 use Rattle.stack_answers.specs.Opening.{folders_opened, opening_sum}
 use Rattle.stack_law.specs.Lists.{effects_by, stack_after, synced, synced_by, last_synced, writes_of, writes_by}
 use Rattle.stack_law.specs.Promises.{FoldersHold, opening_of}
-use Rattle.stack_law.proofs.EffectLemmas.{tree_append, CountsAs, counts_then, prints_tree, prints_counted}
+use Rattle.stack_law.proofs.EffectLemmas.{CountsAs, counts_then, prints_tree, prints_counted}
 use Rattle.stack_law.proofs.FolderLemmas.{AllIn, one_folder, both_in, in_more, opening_in, later_in, files_stay, in_view}
 use Rattle.stack_law.proofs.SourceLemmas.{file_saved}
 use Rattle.stack_law.proofs.LevelLemmas.{folder_names, head_among, tail_among, one_among, apart_from, views_in, views_with_lines, views_synced}
@@ -171,9 +172,6 @@ just_synced [] c = tt
 just_synced (q ∷ qs) c = (record { unnamed = λ label none. refl; labels = refl; apart = tt }, just_synced qs (given_by c q))
 
 -- and behind the lines of each
-in_ascending : (l : Text) (xs : List Text) → is_in l (ascending text_cmp xs) ≡ is_in l xs
-in_ascending l xs = sym ((same_ascending text_order.total text_order.same xs).same (text_eq l))
-
 with_lines_named : (ls : List LevelValue) (shown c d : CatalogueValue) → AreNamed shown c ls → AreNamed shown d (with_lines ls (lines_over c d (views_in ls)))
 with_lines_named [] shown c d h = tt
 with_lines_named (l ∷ ls) shown c d h = (

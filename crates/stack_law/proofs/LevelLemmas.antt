@@ -21,7 +21,8 @@ use Rattle.source_law.proofs.NamedLemmas.{same_text}
 use Rattle.view_stages.specs.Stages.{refusal_of}
 use Rattle.upkeep_law.proofs.TakeLemmas.{meaning_fits_form}
 use Rattle.stack_levels.specs.declared.refusal.LevelRefusal.{LevelRefusal}
-use Rattle.stack_levels.specs.Levels.{refused_at, one_up, given_by, opening_refusal, changing_refusal}
+use Rattle.view_stack.specs.Stands.{given_by}
+use Rattle.stack_levels.specs.Levels.{refused_at, one_up, opening_refusal, changing_refusal}
 use Rattle.stack_levels.specs.Values.{LevelValue, with_lines, synced_over}
 use Rattle.stack_law.specs.Promises.{AllTake}
 

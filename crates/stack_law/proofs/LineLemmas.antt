@@ -3,11 +3,12 @@ use Rattle.std.proofs.Common.{◌≡◌, ℕ, List, [], ◌∷◌, ◌++◌, Opt
 use Rattle.std.specs.Option.{option_map_or}
 use Rattle.outside.specs.Effects.{Effect}
 use Rattle.schema_model.specs.Catalogue.{CatalogueValue}
-use Rattle.schema_model.specs.Changes.{after, after_all}
+use Rattle.schema_model.specs.Changes.{after_all}
 use Rattle.schema_model.specs.declared.change.Change.{Change}
 use Rattle.source_law.specs.Synced.{Synced, unsaved}
 use Rattle.course.specs.Answering.{Continues, Ending, ending, follow, course}
 use Rattle.ss_print.specs.Fields.{open_group_fields}
+use Rattle.view_stack.proofs.LinesLemmas.{after_all-append}
 use Rattle.stack_levels.specs.Levels.{refused_at}
 use Rattle.stack_answers.specs.Stack.{StackState}
 use Rattle.stack_answers.specs.Answers.{Answer, answer, refusal_effects, giving_up, syncing, sync_effects, by_open, step, finish}
@@ -64,13 +65,9 @@ pub all_saved : (lines : List (List ℕ)) (s : StackState) → last_synced s (un
 all_saved lines s = synced_append (answers_to s lines) (end_answers (stack_behind s lines)) s (unsaved s.catalogue) ∙ end_saved (stack_behind s lines) (saved_behind s lines)
 
 -- the catalogue behind answers is that which their changes make
-after_more : (c : CatalogueValue) (gs hs : List Change) → after_all c (gs ++ hs) ≡ after_all (after_all c gs) hs
-after_more c [] hs = refl
-after_more c (g ∷ gs) hs = after_more (after c g) gs hs
-
 pub given_catalogue : (answers : List Answer) (s : StackState) → AreGiven s answers → (stack_after s answers).catalogue ≡ after_all s.catalogue (changes_by answers)
 given_catalogue [] s h = refl
 given_catalogue (a ∷ answers) s h =
     given_catalogue answers a.stack h.1
     ∙ ap (λ (c : CatalogueValue). after_all c (changes_by answers)) (made_catalogue s a h.0)
-    ∙ sym (after_more s.catalogue a.changes (changes_by answers))
+    ∙ sym (after_all-append s.catalogue a.changes (changes_by answers))

@@ -2,10 +2,10 @@
 use Rattle.std.proofs.Common.{◌≡◌, ◌∙◌, ◌++◌, ◌+◌, ◌∷◌, ℕ, zero, suc, List, [], Option, Some, None, Bool, true, false, map, refl, sym, ap, subst, append-nil}
 use Rattle.std.proofs.Math.Nat.{add-zero}
 use Rattle.std.proofs.lemmas.List.Sums.{sum_by-cons}
-use Rattle.std.specs.Prelude.{Result, Ok, Err, is_some, option_map, unwrap_or, length, if◌then◌else◌, ◌==◌, codes, decimal}
+use Rattle.std.specs.Prelude.{Result, Ok, Err, is_some, option_map, unwrap_or, length, ◌==◌, codes, decimal, if◌then◌else◌}
 use Rattle.std.specs.Option.{option_or, option_map_or}
 use Rattle.ss_text.specs.Ascending.{ascending}
-use Rattle.ss_text.specs.Texts.{Text, Row, is_in, text_cmp}
+use Rattle.ss_text.specs.Texts.{Text, Row, text_cmp}
 use Rattle.outside.specs.Tree.{Tree, files_of}
 use Rattle.outside.specs.Effects.{Effect, Print, Replace}
 use Rattle.tab_lines.specs.Spelling.{unspell}
@@ -25,30 +25,29 @@ use Rattle.view_def.specs.Query.{Query}
 use Rattle.change_script.specs.Printed.{printed}
 use Rattle.flow_law.specs.Script.{script}
 use Rattle.flow_law.specs.Lines.{label_of}
-use Rattle.flow_law.specs.Tables.{labels_of}
 use Rattle.flow_law.specs.declared.line.TableLine.{TableLine}
 use Rattle.valuation_meaning.specs.Meaning.{meaning, shape_of}
 use Rattle.view_folder.specs.Files.{view_folder}
 use Rattle.view_folder.specs.Sync.{later_sync, opening_sync, opening_count}
 use Rattle.view_session.specs.Named.{Names, named_relations, named_databases, with_change, with_changes}
 use Rattle.view_session.specs.Session.{tables_of, working, made}
-use Rattle.course.specs.Answering.{Reply, Continues, Finishes, Ending}
-use Rattle.course.specs.declared.status.Verdict.{Verdict}
+use Rattle.course.specs.Answering.{Continues, Ending}
 use Rattle.course.specs.declared.status.Verdict.TheVariants as verdict
 use Rattle.ss_print.specs.Fields.{first_field, line_fields, refusal_fields, group_broken_fields, in_group_fields, no_group_fields, open_group_fields, escape_fields}
 use Rattle.ss_print.specs.Printing.{lines_text, script_rows, refuses, prints_synced}
 use Rattle.view_stages.specs.Open.{OpenValue, just_opened}
 use Rattle.view_stages.specs.Opening as view_opening
-use Rattle.view_stages.specs.Stages.{Accepted, DefinitionOrRefusal, refusal_of, loaded_or_refused, files_of_view}
+use Rattle.view_stages.specs.Stages.{DefinitionOrRefusal, refusal_of, loaded_or_refused, files_of_view}
 use Rattle.view_stages.specs.Syncs.{sync_effects, sync_count}
 use Rattle.view_answers.specs.declared.word.Word.{Word}
 use Rattle.view_answers.specs.declared.word.Word.TheVariants as word
 use Rattle.view_answers.specs.Answers as view
-use Rattle.view_answers.specs.Answers.{Said, Tells, Scripts, Syncs, word_in}
+use Rattle.view_answers.specs.Answers.{word_in}
+use Rattle.upkeep_law.proofs.KeptLemmas.{labels_stay}
 use Rattle.ss_print.specs.LevelLines.{level_row, line_count, prints_scripts, stack_rows}
 use Rattle.stack_levels.specs.Levels.{refused_at, changing_refusal, opening_refusal}
 use Rattle.stack_levels.specs.declared.refusal.LevelRefusal.{LevelRefusal}
-use Rattle.stack_answers.specs.Stack.{StackState, names_with}
+use Rattle.stack_answers.specs.Stack.{StackState}
 use Rattle.stack_answers.specs.Answers as stack
 use Rattle.stack_answers.specs.Opening as stack_opening
 use Rattle.stack_law.specs.OneView.{stacked, stacked_reply, IsSettled, prints_level, Does, IsAnsweredAs}
@@ -83,11 +82,6 @@ names_apart n m c (g ∷ gs) rs ds =
     names_apart (with_change n c g) (with_change m c g) (after c g) gs
     (ap (λ (ps : List Pair). ascending pair_cmp (ps ++ named_relations c g)) rs)
     (ap (λ (ns : List Text). ascending text_cmp (ns ++ named_databases g)) ds)
-
--- and changes name no label
-labels_stay : (n : Names) (c : CatalogueValue) (gs : List Change) → (with_changes n c gs).labels ≡ n.labels
-labels_stay n c [] = refl
-labels_stay n c (g ∷ gs) = labels_stay (with_change n c g) (after c g) gs
 
 -- ---- changes that are made
 module _ (o : OpenValue) (gs : List Change) where

@@ -1,6 +1,6 @@
 -- A stack that was refused changed nothing, and the lines of an input end no run with a refusal.
-use Rattle.std.proofs.Common.{◌≡◌, ℕ, Bool, true, false, List, [], ◌∷◌, ◌++◌, Option, None, Some, map, refl, ap, ◌∙◌}
-use Rattle.std.specs.Prelude.{Result, Ok, Err, if◌then◌else◌, codes}
+use Rattle.std.proofs.Common.{◌≡◌, ℕ, true, false, List, [], ◌∷◌, ◌++◌, Option, None, Some, map, refl, ap, ◌∙◌}
+use Rattle.std.specs.Prelude.{Result, Ok, Err}
 use Rattle.std.specs.List.{AllByRecursion}
 use Rattle.ss_text.specs.Texts.{Text, Row}
 use Rattle.csv_catalog.specs.FileFaults.{first_repeated}
@@ -17,16 +17,13 @@ use Rattle.course.specs.Idle.{Unchanged}
 use Rattle.course.proofs.RefusedLemmas.{same_stored, not_so}
 use Rattle.view_stages.specs.Stages.{DefinitionOrRefusal, loaded_or_refused}
 use Rattle.upkeep_law.specs.Given.{IsPrint}
+use Rattle.upkeep_law.proofs.RefusedLemmas.{end_unrefused}
 use Rattle.stack_levels.specs.declared.refusal.LevelRefusal.{LevelRefusal}
 use Rattle.stack_levels.specs.Levels.{refused_at, opening_refusal}
 use Rattle.stack_answers.specs.Stack.{StackState, stack_at_first}
 use Rattle.stack_answers.specs.Answers.{refusal_effects, answer, end_stack, step, finish}
-use Rattle.stack_answers.specs.Opening.{all_accepted, with_levels, with_catalogue, with_databases, with_definitions, opening}
+use Rattle.stack_answers.specs.Opening.{all_accepted, with_levels, with_catalogue, twice_fields, with_databases, with_definitions, opening}
 use Rattle.stack_law.proofs.GivenLemmas.{refusal_prints}
-
-end_unrefused : (b : Bool) → is_refused_status (verdict_status (if b then verdict.SomeRefused else verdict.Done)) ≡ false
-end_unrefused true = refl
-end_unrefused false = refl
 
 -- the end of the input refuses nothing, whatever the lines were
 lines_unrefused : (lines : List (List ℕ)) (es : List Effect) (s : StackState) → is_refused_status (verdict_status (ending finish (follow step lines (Continues es s))).status) ≡ false
@@ -54,7 +51,7 @@ module _ (t : Tree) (old new : World) (told : old.store.tree ≡ Some t) (s : St
   by_catalogue qs (Ok c) f = by_levels qs c (opening_refusal c qs) f
 
   by_databases : (qs : List Query) (o : Option Text) → Finished ((by_lines step finish (with_databases t qs o)).whole lines) old new s → Unchanged old new
-  by_databases qs (Some db) f = halted (refused_at 1 (codes "view-database-twice" ∷ db ∷ [])) verdict.BadDefinition f
+  by_databases qs (Some db) f = halted (refused_at 1 (twice_fields db)) verdict.BadDefinition f
   by_databases qs None f = by_catalogue qs (loaded_or_refused t) f
 
   by_definitions : (r : Result (List Query) Row) → Finished ((by_lines step finish (with_definitions t r)).whole lines) old new s → Unchanged old new

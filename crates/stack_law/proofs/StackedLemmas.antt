@@ -29,6 +29,7 @@ use Rattle.view_stages.specs.Places.{Exempt, sources_of}
 use Rattle.view_stages.specs.Stages.{DefinitionOrRefusal, loaded_or_refused}
 use Rattle.view_stages.proofs.PlaceLemmas.{StaysIn, stays_told, at_first_stays, performed_stays}
 use Rattle.view_stages.proofs.WithinLemmas.{both_within, grows_itself}
+use Rattle.view_stages.proofs.BetweenLemmas.{tree_append}
 use Rattle.upkeep_law.proofs.UpheldLemmas.{loaded_is}
 use Rattle.stack_levels.specs.declared.refusal.LevelRefusal.{LevelRefusal}
 use Rattle.stack_levels.specs.Levels.{opening_refusal}
@@ -38,7 +39,7 @@ use Rattle.stack_answers.specs.Opening.{all_accepted, with_levels, with_catalogu
 use Rattle.stack_law.specs.Law.{DidOver}
 use Rattle.stack_law.specs.Lists.{answers_to, effects_by, stack_after, last_synced, writes_by}
 use Rattle.stack_law.specs.Promises.{folders_of, MakesAllOrNone, EachMakes, AreUpheld, AreMaintained, AreCutOff, opening_of, effects_so_far, writes_so_far, stack_behind, all_answers, saved_behind, saved_at_end}
-use Rattle.stack_law.proofs.EffectLemmas.{tree_append, CountsAs, counts_then, printed_held}
+use Rattle.stack_law.proofs.EffectLemmas.{CountsAs, counts_then, printed_held}
 use Rattle.stack_law.proofs.GivenLemmas.{MayGive, ByTelling, ByMaking, BySyncing, AreGiven, made_catalogue, same_views, lines_given, all_given, none_open}
 use Rattle.stack_law.proofs.KeptLemmas.{IsKept, answers_keep, opened_keeps}
 use Rattle.stack_law.proofs.LevelLemmas.{folder_names, folders_apart, Unrefused, opening_unrefused, changing_unrefused, all_take, views_synced}

@@ -28,9 +28,8 @@ use Rattle.course.proofs.FrontLemmas.{partly_split}
 use Rattle.view_stages.specs.Between.{IsBrokenBy, IsBetween, AllOrNothing}
 use Rattle.view_stages.specs.Places.{Exempt, CsvFiles, OthersStay}
 use Rattle.view_stages.proofs.PlaceLemmas.{AllWithin, stays_told, performed_stays}
-use Rattle.view_stages.proofs.BetweenLemmas.{LeftBetween, none_by, Planned, AllPlanned}
+use Rattle.view_stages.proofs.BetweenLemmas.{LeftBetween, none_by, Planned, AllPlanned, tree_append}
 use Rattle.view_stages.proofs.SyncLemmas.{Stage, planned_stage, opening_stage}
-use Rattle.stack_law.proofs.EffectLemmas.{tree_append}
 use Rattle.stack_law.proofs.FolderLemmas.{AllIn, files_stay, folders_stay, folders_unmade}
 use Rattle.stack_law.proofs.SourceLemmas.{file_saved, folder_saved}
 use Rattle.stack_law.proofs.WithinLemmas.{Covers}

@@ -1,6 +1,6 @@
 -- What a stack left is between what is there before one of its stages and what is there behind it.
 use Rattle.std.proofs.Common.{◌≡◌, ℕ, Bool, true, false, ◌||◌, append_assoc, List, [], ◌∷◌, ◌++◌, Option, None, Some, map, inl, inr, refl, sym, ◌∙◌, subst}
-use Rattle.std.specs.Prelude.{Result, Ok, Err, codes}
+use Rattle.std.specs.Prelude.{Result, Ok, Err}
 use Rattle.std.specs.List.{list_any}
 use Rattle.std.specs.Option.{option_map_or}
 use Rattle.ss_text.specs.Texts.{Text, Row, is_in}
@@ -26,11 +26,12 @@ use Rattle.view_stages.proofs.StoppedLemmas.{Stopped, in_first, in_later, one_st
 use Rattle.view_stages.proofs.WithinLemmas.{both_within}
 use Rattle.upkeep_law.proofs.StopLemmas.{prints_stage}
 use Rattle.stack_levels.specs.declared.refusal.LevelRefusal.{LevelRefusal}
-use Rattle.stack_levels.specs.Levels.{refused_at, given_by, tables_over, opening_refusal}
+use Rattle.view_stack.specs.Stands.{given_by}
+use Rattle.stack_levels.specs.Levels.{refused_at, tables_over, opening_refusal}
 use Rattle.stack_levels.specs.Values.{LevelValue}
 use Rattle.stack_answers.specs.Stack.{StackState, queries_of, stack_tables, stack_at_first}
 use Rattle.stack_answers.specs.Answers.{Answer, refusal_effects, sync_effects, folder_effects, sync_count, by_open, step, finish}
-use Rattle.stack_answers.specs.Opening.{all_accepted, with_levels, with_catalogue, with_databases, with_definitions, opening, folders_opened, opening_sum}
+use Rattle.stack_answers.specs.Opening.{all_accepted, with_levels, with_catalogue, twice_fields, with_databases, with_definitions, opening, folders_opened, opening_sum}
 use Rattle.stack_law.specs.Behind.{stack_stages_behind, stack_stages_from}
 use Rattle.stack_law.specs.Lists.{answers_to, effects_by, stack_after}
 use Rattle.stack_law.specs.Promises.{opening_of, stack_behind}
@@ -175,7 +176,7 @@ module _ (u : Stored) (old new : Contents) (told : old.stored ≡ Some u) (lines
       opened_stops here qs apart (λ d among f k. subst (λ (xs : List Exempt). list_any f xs ≡ true) (sym (accepted_exempt ds qs is)) (folder_covered qs d among f k)) u old new told lines c (opening_refusal c qs) h
 
   databases_stops : (qs : List Query) → all_accepted ds ≡ Ok qs → (o : Option Text) → first_repeated (map (λ (q : Query). q.view_db) qs) ≡ o → Partly ((by_lines step finish (with_databases t qs o)).whole lines).effects old new → Stopped here (stack_stages_from (with_databases t qs o) lines) t new
-  databases_stops qs is (Some db) once h = printed_alone (refused_at 1 (codes "view-database-twice" ∷ db ∷ [])) h
+  databases_stops qs is (Some db) once h = printed_alone (refused_at 1 (twice_fields db)) h
   databases_stops qs is None once h = catalogue_stops qs is (folders_apart qs once) (loaded_or_refused t) h
 
   definitions_stop : (r : Result (List Query) Row) → all_accepted ds ≡ r → Partly ((by_lines step finish (with_definitions t r)).whole lines).effects old new → Stopped here (stack_stages_from (with_definitions t r) lines) t new

@@ -25,7 +25,8 @@ use Rattle.view_stages.specs.Places.{Exempt, CsvFiles, OthersStay, sources_of}
 use Rattle.view_stages.specs.Stages.{DefinitionOrRefusal, loaded_or_refused, files_of_view}
 use Rattle.upkeep_law.specs.Promises.{printed_by}
 use Rattle.ss_print.specs.LevelLines.{prints_scripts}
-use Rattle.stack_levels.specs.Levels.{given_by, lines_over, opening_refusal, changing_refusal}
+use Rattle.view_stack.specs.Stands.{given_by}
+use Rattle.stack_levels.specs.Levels.{lines_over, opening_refusal, changing_refusal}
 use Rattle.stack_answers.specs.Stack.{StackState, stack_at_first}
 use Rattle.stack_answers.specs.Answers.{Answer, by_open, end_stack, syncing, step, finish}
 use Rattle.stack_answers.specs.Opening.{all_accepted, folders_opened, opening_sum}

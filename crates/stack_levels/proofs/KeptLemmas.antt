@@ -11,14 +11,14 @@ use Rattle.valuation_meaning.specs.Meaning.{meaning, shape_of}
 use Rattle.apply_law.specs.Standing.{Standing, Waiting, Idle}
 use Rattle.apply_law.specs.Verdicts.{Makes, tables_in}
 use Rattle.view_stack.specs.Limits.{first_limit}
-use Rattle.view_stack.specs.Stands.{stands}
+use Rattle.view_stack.specs.Stands.{stands, given_by}
 use Rattle.view_stack.specs.Stacks.{AreStacked, AreIdle, IsStack}
 use Rattle.view_stack.proofs.StandsLemmas.{stands_itself}
 use Rattle.view_session.specs.Session.{SessionState, dismissed}
 use Rattle.view_session.specs.Verdicts.{verdict_of, waiting_by}
 use Rattle.view_stages.specs.Stages.{refusal_of}
 use Rattle.stack_levels.specs.declared.refusal.LevelRefusal.{LevelRefusal}
-use Rattle.stack_levels.specs.Levels.{refused_at, one_up, limit_above, database_by, given_by, tables_over, opening_refusal}
+use Rattle.stack_levels.specs.Levels.{refused_at, one_up, limit_above, database_by, tables_over, opening_refusal}
 use Rattle.stack_levels.specs.Values.{LevelValue, synced_over}
 use Rattle.stack_levels.specs.States.{LevelState, level_standing, level_waiting, level_proposing, level_value, level_tables, level_synced, lowest_catalogue, lowest_names, databases_of, views_of, IsKept, AreLevels}
 use Rattle.stack_levels.specs.Opening.{level_opened, levels_opened, AreFresh}

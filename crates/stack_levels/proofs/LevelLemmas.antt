@@ -15,14 +15,14 @@ use Rattle.flow_law.specs.declared.refused.IllegalLabel.{IllegalLabel}
 use Rattle.valuation_meaning.specs.Meaning.{facts, meaning, shape_of}
 use Rattle.apply_law.specs.Verdicts.{Verdict, Makes, IsIllegal, Clashes, tables_in, IsScriptTo}
 use Rattle.view_stack.specs.Limits.{lifted_limit}
-use Rattle.view_stack.specs.Stands.{catalogue_for}
+use Rattle.view_stack.specs.Stands.{catalogue_for, given_by}
 use Rattle.view_stack.specs.Told as stack
 use Rattle.view_stack.specs.Told.{Cause, Passes, cause_of, at_level}
 use Rattle.view_session.specs.Verdicts.{verdict_of}
 use Rattle.ss_print.specs.Fields.{illegal_fields, clash_fields}
 use Rattle.view_stages.specs.Stages.{refusal_of}
 use Rattle.stack_levels.specs.declared.refusal.LevelRefusal.{LevelRefusal}
-use Rattle.stack_levels.specs.Levels.{refused_at, one_up, limit_refusal, limit_above, given_by, lines_over, changing_refusal}
+use Rattle.stack_levels.specs.Levels.{refused_at, one_up, limit_refusal, limit_above, lines_over, changing_refusal}
 use Rattle.stack_levels.specs.States.{LevelState, level_standing, databases_of, views_of, IsKept, cause_fields, told_as}
 
 -- ---- one view

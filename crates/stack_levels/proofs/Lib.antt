@@ -1,4 +1,3 @@
-pub mod LabelLemmas
 pub mod WorkedRows
 pub mod LevelLemmas
 pub mod KeptLemmas

@@ -12,13 +12,13 @@ use Rattle.valuation_meaning.specs.Meaning.{shape_of}
 use Rattle.apply_law.specs.Verdicts.{Verdict, Makes, tables_in}
 use Rattle.view_session.specs.Verdicts.{verdict_of}
 use Rattle.view_stack.specs.Limits.{first_limit}
-use Rattle.view_stack.specs.Stands.{database_for}
+use Rattle.view_stack.specs.Stands.{database_for, given_by}
 use Rattle.view_stages.specs.Stages.{refusal_of}
 use Rattle.view_stages.specs.declared.accepted.Definition.{Definition}
 use Rattle.stack_levels.specs.declared.refusal.LevelRefusal.{LevelRefusal}
 use Rattle.stack_levels.specs.declared.refusal.OpenFault.{OpenFault}
 use Rattle.stack_levels.specs.declared.refusal.OpenFault.TheVariants as fault
-use Rattle.stack_levels.specs.Levels.{database_by, given_by, refused_at, one_up, limit_refusal, limit_above, opening_refusal}
+use Rattle.stack_levels.specs.Levels.{database_by, refused_at, one_up, limit_refusal, limit_above, opening_refusal}
 use Rattle.stack_levels.specs.States.{LevelState, AreLevels}
 use Rattle.stack_levels.specs.Opening.{defined_views, level_opened, levels_opened, AreFresh, IsOpenFault, IsAmong}
 use Rattle.stack_levels.proofs.LevelLemmas.{makes_meaning}

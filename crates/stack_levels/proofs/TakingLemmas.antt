@@ -1,12 +1,11 @@
 -- Levels that took changes, or refused them.
-use Rattle.std.proofs.Common.{◌≡◌, ◌<◌, ◌∙◌, ◌∷◌, ◌++◌, ◌+◌, ℕ, zero, suc, List, [], Option, None, Some, map, drop, inl, inr, refl, sym, ap, subst, arith}
+use Rattle.std.proofs.Common.{◌≡◌, ◌<◌, ◌∙◌, ◌∷◌, ◌++◌, ◌+◌, ℕ, zero, suc, List, [], Option, None, map, drop, inl, inr, refl, sym, ap, subst, arith}
 use Rattle.std.specs.Prelude.{option_map}
-use Rattle.std.specs.Option.{option_or}
 use Rattle.ss_text.specs.Texts.{Text, text_cmp}
 use Rattle.ss_text.specs.Ascending.{ascending}
 use Rattle.schema_model.specs.Catalogue.{CatalogueValue}
 use Rattle.schema_model.specs.Changes.{after, after_all}
-use Rattle.schema_model.specs.Refusals.{fault, group_fault}
+use Rattle.schema_model.specs.Refusals.{group_fault}
 use Rattle.schema_model.specs.declared.change.Change.{Change}
 use Rattle.schema_model.specs.declared.refusal.Refusal.{Refusal}
 use Rattle.schema_model.specs.declared.refusal.Refusal.TheVariants.{NoDatabase, IllegalName, DatabaseThere, NoRelation, RelationThere, NoAttribute, AttributeThere, LastAttribute, ArityDiffers, NoRow, Limit}
@@ -16,7 +15,7 @@ use Rattle.flow_law.specs.Script.{script}
 use Rattle.flow_law.specs.Tables.{TablesValue}
 use Rattle.flow_law.specs.declared.line.TableLine.{TableLine}
 use Rattle.valuation_meaning.specs.Meaning.{meaning}
-use Rattle.apply_law.specs.Verdicts.{Makes, tables_in, first_fault_from}
+use Rattle.apply_law.specs.Verdicts.{Makes, tables_in}
 use Rattle.apply_law.specs.declared.refused.GroupRefused.{GroupRefused}
 use Rattle.apply_law.specs.declared.refused.GroupRefused.TheVariants as group
 use Rattle.view_session.specs.Named.{Names, with_change, with_changes, with_labels}
@@ -24,17 +23,16 @@ use Rattle.view_session.specs.Verdicts.{verdict_of}
 use Rattle.view_stack.specs.Stacks.{IsStack, changes_above, Takes, AreTaken, IsStackRefused, proposing_all}
 use Rattle.view_stack.specs.Told as tells
 use Rattle.view_stack.specs.Told.{Cause, IsOver, IsTold, lowest, comes_to}
-use Rattle.stack_levels.specs.Levels.{given_by, changing_refusal}
+use Rattle.view_stack.specs.Stands.{given_by}
+use Rattle.view_stack.proofs.ToldLemmas.{refusal_in, first_is}
+use Rattle.stack_levels.specs.Levels.{changing_refusal}
 use Rattle.stack_levels.specs.Values.{LevelValue, with_lines}
 use Rattle.stack_levels.specs.States.{LevelState, level_standing, level_waiting, level_proposing, level_accepted, level_value, lowest_catalogue, lowest_names, databases_of, views_of, IsKept, AreLevels, told_as}
 use Rattle.stack_levels.specs.Taking.{sources_named, HaveApplied, IsPassed, IsToldOf}
 use Rattle.stack_levels.proofs.LevelLemmas.{makes_meaning, script_made, refusal_is, lines_are, kept_then}
 
 -- ---- a level that took changes
-labels_stay : (n : Names) (c : CatalogueValue) (gs : List Change) → (with_changes n c gs).labels ≡ n.labels
-labels_stay n c [] = refl
-labels_stay n c (g ∷ gs) = labels_stay (with_change n c g) (after c g) gs
-
+-- changes name no labels
 sources_stay : (n : Names) (labels : List Text) (c : CatalogueValue) (gs : List Change) → with_changes (with_labels labels n) c gs ≡ with_labels labels (with_changes n c gs)
 sources_stay n labels c [] = refl
 sources_stay n labels c (g ∷ gs) = sources_stay (with_change n c g) labels (after c g) gs
@@ -56,7 +54,7 @@ module _ (l : LevelState) (gs : List Change) where
       ∙ ap (λ (old : TablesValue). script old (meaning (after_all own gs) view)) (ap tables_in makes ∙ makes_meaning view own ts makes)
 
   value_taken : (lines : List TableLine) (ts : TablesValue) → verdict_of view own ≡ Makes ts → Takes (level_standing l) gs lines → level_value (level_accepted (level_proposing l gs)) ≡ valued l.session.changed.labels lines
-  value_taken lines ts makes takes = λ i. valued (labels_stay l.session.changed own gs i) (sym (lines_taken lines ts makes takes) i)
+  value_taken lines ts makes takes = λ i. valued ((sources_stay l.session.changed l.session.changed.labels own gs i).labels) (sym (lines_taken lines ts makes takes) i)
 
 -- ---- levels that took changes
 abbrev taking : List LevelState → List Text → List Change → List (List TableLine) → List LevelState
@@ -164,18 +162,6 @@ pub applied : (old new : List LevelState) (names : List Text) (gs : List Change)
 applied old new names gs all are is h = applied_here old new gs all are (subst (λ (ns : List Text). AreApplied old new ns gs all) is h)
 
 -- ---- levels that refuse changes
-abbrev refusal_in : ℕ × Refusal → Refusal
-refusal_in x = x.1
-
--- the first change that is refused, and the refusal of all
-first_is : (n : ℕ) (c : CatalogueValue) (gs : List Change) → option_map refusal_in (first_fault_from n c gs) ≡ group_fault c gs
-first_is n c [] = refl
-first_is n c (g ∷ gs) = either_way (fault c g) (first_fault_from (n + 1) (after c g) gs) ∙ ap (option_or (fault c g)) (first_is (n + 1) (after c g) gs)
-  where
-    either_way : (o : Option Refusal) (f : Option (ℕ × Refusal)) → option_map refusal_in (option_or (option_map (λ (r : Refusal). (n, r)) o) f) ≡ option_or o (option_map refusal_in f)
-    either_way None f = refl
-    either_way (Some r) f = refl
-
 -- what is told of the levels is this of their views
 module _ (c : CatalogueValue) (qs : List Query) (gs : List Change) (told : Option (ℕ × Cause)) (is : option_map told_as told ≡ changing_refusal c (after_all c gs) qs) (none : group_fault c gs ≡ None) where
   passed_told : (level : ℕ) (r : Refusal) → tells.IsPassed told level r → IsPassed c qs gs level r

@@ -1,5 +1,5 @@
 -- Views over one another: each reads the database that the tables of the one below are.
-use Rattle.std.specs.Prelude.{ℕ, suc, List, [], ◌∷◌, Option, None, option_map, codes}
+use Rattle.std.specs.Prelude.{ℕ, suc, List, [], ◌∷◌, Option, None, option_map}
 use Rattle.std.specs.Option.{option_or}
 use Rattle.ss_text.specs.Texts.{Row}
 use Rattle.schema_model.specs.Catalogue.{DatabaseValue, CatalogueValue}
@@ -9,18 +9,16 @@ use Rattle.flow_law.specs.Script.{script}
 use Rattle.flow_law.specs.Tables.{TablesValue}
 use Rattle.flow_law.specs.declared.line.TableLine.{TableLine}
 use Rattle.valuation_meaning.specs.Meaning.{meaning, shape_of}
-use Rattle.view_stack.specs.Stands.{database_for, catalogue_for}
+use Rattle.view_stack.specs.Stands.{database_for, given_by}
 use Rattle.view_stack.specs.Limits.{first_limit, lifted_limit}
-use Rattle.ss_print.specs.Fields.{counted}
+use Rattle.csv_catalog.specs.declared.fault.LoadFault.TheVariants as load
+use Rattle.ss_print.specs.Fields.{load_fields}
 use Rattle.view_stages.specs.Stages.{refusal_of}
 use Rattle.stack_levels.specs.declared.refusal.LevelRefusal.{LevelRefusal}
 
--- the database that the tables of a view over a catalogue are, and the catalogue of it, which the view gives to the one above
+-- the database that the tables of a view over a catalogue are
 abbrev pub database_by : CatalogueValue → Query → DatabaseValue
 database_by c q = database_for q.view_db (shape_of q) (meaning c q)
-
-abbrev pub given_by : CatalogueValue → Query → CatalogueValue
-given_by c q = catalogue_for q.view_db (shape_of q) (meaning c q)
 
 -- the tables of views over a catalogue
 abbrev pub tables_over : CatalogueValue → List Query → List TablesValue
@@ -42,7 +40,7 @@ one_up r = refused_at (suc r.level) r.fields
 
 -- a limit that a catalogue passes
 abbrev pub limit_fields : Which → Row
-limit_fields which = codes "limit" ∷ counted which ∷ []
+limit_fields which = load_fields (load.Limit which)
 
 abbrev pub limit_refusal : Which → LevelRefusal
 limit_refusal which = refused_at 2 (limit_fields which)

@@ -7,7 +7,7 @@ use Rattle.valuation_meaning.specs.Meaning.{meaning}
 use Rattle.view_session.specs.Named.{no_names}
 use Rattle.view_session.specs.Session.{opened}
 use Rattle.view_stages.specs.declared.accepted.Definition.{Definition}
-use Rattle.stack_levels.specs.Levels.{given_by}
+use Rattle.view_stack.specs.Stands.{given_by}
 use Rattle.stack_levels.specs.Values.{synced_over}
 use Rattle.stack_levels.specs.States.{LevelState, level_value, lowest_catalogue, lowest_names}
 use Rattle.stack_levels.specs.declared.refusal.LevelRefusal.{LevelRefusal}

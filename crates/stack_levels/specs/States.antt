@@ -15,7 +15,8 @@ use Rattle.view_stack.specs.Stacks.{IsStack}
 use Rattle.view_stack.specs.Told.{Cause, Passes, HasIllegal, HasClash}
 use Rattle.ss_print.specs.Fields.{illegal_fields, clash_fields}
 use Rattle.view_stages.specs.Stages.{refusal_of}
-use Rattle.stack_levels.specs.Levels.{refused_at, limit_fields, given_by}
+use Rattle.view_stack.specs.Stands.{given_by}
+use Rattle.stack_levels.specs.Levels.{refused_at, limit_fields}
 use Rattle.stack_levels.specs.Values.{LevelValue}
 use Rattle.stack_levels.specs.declared.refusal.LevelRefusal.{LevelRefusal}
 

@@ -8,7 +8,7 @@ use Rattle.flow_law.specs.Lines.{label_of}
 use Rattle.flow_law.specs.Tables.{TablesValue, labels_of}
 use Rattle.flow_law.specs.declared.line.TableLine.{TableLine}
 use Rattle.valuation_meaning.specs.Meaning.{meaning}
-use Rattle.stack_levels.specs.Levels.{given_by}
+use Rattle.view_stack.specs.Stands.{given_by}
 
 -- a level: its view, the labels that were named since the last sync, and those of its tables at that sync
 pub record LevelValue : Type 0 where

@@ -126,7 +126,7 @@ impl Level {
     }
 
     // Whether a label has a table.
-    #[tactic(auto, using(crate::proofs::LabelLemmas::has_label))]
+    #[tactic(auto, using(view_stages::proofs::LabelLemmas::has_label))]
     fn has_table(&self, label: &Text) -> bool
         ensures { result ≡ is_in label.now (level_labels self.now) }
     {

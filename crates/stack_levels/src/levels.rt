@@ -80,7 +80,7 @@ impl Levels {
     }
 
     /// Makes changes of the lowest level's catalogue, with all that they come to at the levels above, and answers each level's
-    /// lines; or tells the first refusal, and then the levels are as before.
+    /// lines, the lines of the lowest level first; or tells the first refusal, and then the levels are as before.
     pub fn apply<L: Ledger>(
         &mut self,
         alloc: Global,

@@ -71,7 +71,7 @@ in_neither : (l : Text) (xs ys : List Text) → is_in l (xs ++ ys) ≡ false →
 in_neither l [] ys h = (refl, h)
 in_neither l (x ∷ xs) ys h = elim (text_eq l x) as (λ b. (b || is_in l (xs ++ ys)) ≡ false → ((b || is_in l xs) ≡ false) × (is_in l ys ≡ false)) [ true ↦ λ e. absurd (cc) | false ↦ λ e. in_neither l xs ys e ] h
 
-in_ascending : (l : Text) (xs : List Text) → is_in l (ascending text_cmp xs) ≡ is_in l xs
+pub in_ascending : (l : Text) (xs : List Text) → is_in l (ascending text_cmp xs) ≡ is_in l xs
 in_ascending l xs = sym ((same_ascending text_order.total text_order.same xs).same (text_eq l))
 
 -- what effects print, one after the other
@@ -217,7 +217,7 @@ module _ (o : OpenValue) (shown : CatalogueValue) (u : Stored) where
         ∙ ap (λ (ls : List Text). risen u.writes (length (filter (λ l. is_in l (labels_of (tables_of o.session)) || is_in l ls) o.session.changed.labels))) (sym labels)
 
 -- changes name no labels
-labels_stay : (n : Names) (c : CatalogueValue) (gs : List Change) → (with_changes n c gs).labels ≡ n.labels
+pub labels_stay : (n : Names) (c : CatalogueValue) (gs : List Change) → (with_changes n c gs).labels ≡ n.labels
 labels_stay n c [] = refl
 labels_stay n c (g ∷ gs) = labels_stay (with_change n c g) (after c g) gs
 

@@ -93,7 +93,7 @@ module _ (old new : World) (t : Tree) (told : old.store.tree ≡ Some t) (whole 
   finished_maintained : Finished ((by_lines step finish (opening t d)).whole (lines_of bytes)) old new s → IsMaintained d t (lines_of bytes) old new s
   finished_maintained f = by_definition d refl f
 
-profile_of : (name : Text) (t : Tree) (d : DefinitionOrRefusal) → IsDefinition name (definition_bytes t name) d → (a : Accepted) → d ≡ Ok a → IsViewOfProfile a.query
+pub profile_of : (name : Text) (t : Tree) (d : DefinitionOrRefusal) → IsDefinition name (definition_bytes t name) d → (a : Accepted) → d ≡ Ok a → IsViewOfProfile a.query
 profile_of name t d defined a is = definition_of_profile name (definition_bytes t name) a (subst (IsDefinition name (definition_bytes t name)) is defined)
 
 -- the run of `maintain` by its course

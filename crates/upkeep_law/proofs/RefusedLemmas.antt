@@ -8,7 +8,7 @@ use Rattle.course.specs.Course.{verdict_status, is_refused_status}
 use Rattle.view_stages.specs.Open.{OpenValue}
 use Rattle.view_answers.specs.Answers.{step, finish, answer, end_view}
 
-end_unrefused : (b : Bool) → is_refused_status (verdict_status (if b then verdict.SomeRefused else verdict.Done)) ≡ false
+pub end_unrefused : (b : Bool) → is_refused_status (verdict_status (if b then verdict.SomeRefused else verdict.Done)) ≡ false
 end_unrefused true = refl
 end_unrefused false = refl
 

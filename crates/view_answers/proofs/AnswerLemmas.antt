@@ -23,7 +23,7 @@ use Rattle.valuation_meaning.specs.Refusal.{refusal}
 use Rattle.schema_model.specs.declared.pair.Pair.{Pair}
 use Rattle.csv_catalog.specs.Saved.{saved}
 use Rattle.source_law.specs.Synced.{saving}
-use Rattle.view_session.specs.Session.{SessionState, IsAccepted, IsRefused, IsHoldRefused, lines_to, working}
+use Rattle.view_session.specs.Session.{SessionState, IsAccepted, IsRefused, IsHoldRefused, lines_to, working, moved, proposing, accepted}
 use Rattle.flow_law.specs.declared.refused.EvalFault.{EvalFault}
 use Rattle.flow_law.specs.declared.refused.EvalFault.TheVariants as eval
 use Rattle.flow_law.specs.Faults.{IsFault}
@@ -122,8 +122,14 @@ unread_view o n row fields f h some g is = is ∙ ap (λ x. (by_change o row x).
 pub saves : (s : SessionState) (c : CatalogueValue) (dbs : List Text) (pairs : List Pair) → c ≡ s.catalogue → dbs ≡ s.changed.databases → pairs ≡ s.changed.relations → saving s ≡ Replace (saved c dbs pairs) ∷ []
 saves s c dbs pairs e f g = rw (e, f, g) refl
 
+-- a session that made the one change that it proposed has moved
+pub made_moved : (s : SessionState) (g : Change) → s.held ≡ None → s.proposed ≡ None → accepted (proposing s (g ∷ [])) ≡ moved s g
+made_moved s g alone idle =
+    ap (λ (h : Option (List Change)). record (moved s g) { held = h; proposed = None }) (sym alone)
+    ∙ ap (λ (p : Option (List Change)). record (moved s g) { held = s.held; proposed = p }) (sym idle)
+
 -- effects behind others
-behind : {A : Type 0} (es fs : List Effect) (before mid v : World) (r : Result A Stop) → contents mid ≡ performed es (contents before) → Does fs mid v r → Does (es ++ fs) before v r
+pub behind : {A : Type 0} (es fs : List Effect) (before mid v : World) (r : Result A Stop) → contents mid ≡ performed es (contents before) → Does fs mid v r → Does (es ++ fs) before v r
 behind es fs before mid v (Ok a) h d = d ∙ ap (performed fs) h ∙ sym (performed_append es fs (contents before))
 behind es fs before mid v (Err e) h d = partly_later es fs (contents before) (contents mid) (contents v) h d
 

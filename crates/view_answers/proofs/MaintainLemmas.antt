@@ -141,7 +141,7 @@ stopped_can stop.NoMemory = refl
 pub goes : (o : OpenValue) (line : List ℕ) → (es : List Effect) × (p : OpenValue) × (step o line ≡ Continues es p)
 goes o line = ((answer o line).effects, (answer o line).view, refl)
 
-done_can : (b : Bool) → can_maintain (verdict_status (if b then verdict.SomeRefused else verdict.Done)) ≡ true
+pub done_can : (b : Bool) → can_maintain (verdict_status (if b then verdict.SomeRefused else verdict.Done)) ≡ true
 done_can true = refl
 done_can false = refl
 

@@ -1,5 +1,5 @@
 //! Opens a view.
-ghost use Rattle.std.specs.Prelude.{◌≡◌, ◌≤◌, ◌∷◌, [], List, Some, IfOk};
+ghost use Rattle.std.specs.Prelude.{◌≡◌, ◌∷◌, [], List, Some, IfOk};
 ghost use Rattle.outside.specs.Effects.{world_of};
 ghost use Rattle.outside.specs.Tree.{Tree};
 ghost use Rattle.outside.specs.Blame.{Blames};
@@ -51,7 +51,6 @@ pub fn open<F: Folders, K: Sink, L: Ledger>(
     ensures fresh { IfOk result IsFresh }
     ensures idle { IdleUnread result (world_of (F.state store.old) (K.state output.old)) (world_of (F.state store.new) (K.state output.new)) }
     ensures blames { Blames (world_of (F.state store.old) (K.state output.old)) (world_of (F.state store.new) (K.state output.new)) result }
-    ensures rises { steps.old ≤ steps.new }
     ensures steps { steps.new ≡ steps.old }
 {
     match read_definition(alloc, store, name)? {
@@ -82,7 +81,6 @@ fn open_view<F: Folders, K: Sink, L: Ledger>(
     ensures fresh { IfOk result IsFresh }
     ensures idle { IdleUnread result (world_of (F.state store.old) (K.state output.old)) (world_of (F.state store.new) (K.state output.new)) }
     ensures blames { Blames (world_of (F.state store.old) (K.state output.old)) (world_of (F.state store.new) (K.state output.new)) result }
-    ensures rises { steps.old ≤ steps.new }
     ensures steps { steps.new ≡ steps.old }
 {
     match load_sources(alloc, store)? {
@@ -114,7 +112,6 @@ fn open_session<F: Folders, K: Sink, L: Ledger>(
     ensures fresh { IfOk result IsFresh }
     ensures idle { IdleUnread result (world_of (F.state store.old) (K.state output.old)) (world_of (F.state store.new) (K.state output.new)) }
     ensures blames { Blames (world_of (F.state store.old) (K.state output.old)) (world_of (F.state store.new) (K.state output.new)) result }
-    ensures rises { steps.old ≤ steps.new }
     ensures steps { steps.new ≡ steps.old }
 {
     match view_over(alloc, definition, catalogue, steps)? {
@@ -141,7 +138,6 @@ pub fn view_over<L: Ledger>(
     steps: &mut Steps<L>,
 ) -> Result<Viewing, NoMemory>
     ensures views { IfOk result (λ r. Views r (query_of definition.view.value) catalogue.databases (refusal_of catalogue.databases (query_of definition.view.value))) }
-    ensures rises { steps.old ≤ steps.new }
     ensures steps { steps.new ≡ steps.old }
 {
     let view_db = definition.view.view_db.copy()?;

@@ -215,7 +215,7 @@ impl OpenView {
     }
 
     // Whether a label has a table.
-    #[tactic(auto, using(crate::proofs::ViewLemmas::has_label))]
+    #[tactic(auto, using(view_stages::proofs::LabelLemmas::has_label))]
     fn has_table(&self, label: &Text) -> bool
         ensures { result ≡ is_in label.now (labels_of (tables_of self.now.session)) }
     {

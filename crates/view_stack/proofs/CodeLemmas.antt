@@ -17,12 +17,10 @@ use Rattle.schema_model.specs.declared.change.Change.{Change}
 use Rattle.valuation_meaning.specs.Meaning.{given}
 use Rattle.view_stack.specs.Lifted.{lifted_line, lifted_behind, lifted, goes_on, row_of, names_of, names_after, table_at}
 use Rattle.view_stack.specs.Records.{text_in, text_after}
+use Rattle.view_stack.proofs.SaysLemmas.{one_more}
 use Rattle.view_stack.proofs.StandsLemmas.{first_there, one_later, text_is}
 
 -- ---- places of names
-one_more : (n : ℕ) → 1 + n ≡ suc n
-one_more n = omega arith
-
 place_there : (name : Text) (ns : Row) → is_in name ns ≡ is_some (position (text_eq name) ns)
 place_there name [] = refl
 place_there name (x ∷ ns) = by_first (text_eq name x) refl (place_there name ns)

@@ -23,6 +23,8 @@ use Rattle.std.specs.declared.cmp.Ordering.TheVariants.{Less, Equal, Greater}
 use Rattle.schema_model.specs.Catalogue.{RelationValue}
 use Rattle.schema_model.specs.Changes.{less_row, with_attribute, less_attribute}
 use Rattle.schema_model.specs.Catalogue.{with_row as put_row}
+use Rattle.operator_law.specs.Bags.{weigh}
+use Rattle.operator_law.proofs.Weights.{weigh-append}
 use Rattle.view_stack.specs.Records.{text_of, record_of}
 
 -- ---- tests
@@ -51,17 +53,9 @@ or_right true = refl
 or_right false = refl
 
 -- ---- sums over lists
-abbrev pub weigh : {X : Type 0} → (X → ℕ) → List X → ℕ
-weigh f [] = 0
-weigh f (x ∷ xs) = f x + weigh f xs
-
 pub weigh_mapped : {X Y : Type 0} (g : X → Y) (f : Y → ℕ) (xs : List X) → weigh f (map g xs) ≡ weigh (λ x. f (g x)) xs
 weigh_mapped g f [] = refl
 weigh_mapped g f (x ∷ xs) = ap (λ n. f (g x) + n) (weigh_mapped g f xs)
-
-pub weigh_append : {X : Type 0} (f : X → ℕ) (xs ys : List X) → weigh f (xs ++ ys) ≡ weigh f xs + weigh f ys
-weigh_append f [] ys = omega arith
-weigh_append f (x ∷ xs) ys = let rest = weigh_append f xs ys in omega (arith, rest)
 
 pub weigh_agree : {X : Type 0} (f g : X → ℕ) (xs : List X) → AllByRecursion (λ x. f x ≡ g x) xs → weigh f xs ≡ weigh g xs
 weigh_agree f g [] h = refl
@@ -154,7 +148,7 @@ one_empty (x ∷ ns) (cell ∷ row) a name l = by_first (text_eq name x) refl (o
     by_first false e rest = cell_later x (ns ++ a ∷ []) cell (row ++ [] ∷ []) name e ∙ rest ∙ sym (cell_later x ns cell row name e)
 
 -- one more
-one_more : (n : ℕ) → 1 + n ≡ suc n
+pub one_more : (n : ℕ) → 1 + n ≡ suc n
 one_more n = omega arith
 
 -- a name that is taken out reads as empty
@@ -241,8 +235,8 @@ halves (suc n) (x ∷ xs) = ap (λ ys. x ∷ ys) (halves n xs)
 
 pub weigh_inserted : {X : Type 0} (f : X → ℕ) (xs : List X) (p : ℕ) (x : X) → weigh f (insert xs p x) ≡ f x + weigh f xs
 weigh_inserted f xs p x =
-    let a = weigh_append f (take p xs) (x ∷ drop p xs) in
-    let b = weigh_append f (take p xs) (drop p xs) in
+    let a = weigh-append f (take p xs) (x ∷ drop p xs) in
+    let b = weigh-append f (take p xs) (drop p xs) in
     let c : weigh f (take p xs ++ drop p xs) ≡ weigh f xs = ap (weigh f) (halves p xs) in
     omega (arith, a, b, c)
 
@@ -320,7 +314,7 @@ others_there key (x ∷ rows) h =
 -- ---- a relation that says what a table says
 module _ (constants : Row) (r : RelationValue) (t : TableValue) (says : Says constants r t) where
   pub in_upper : (name : Text) → is_in name r.attributes ≡ (is_in name constants || is_in name t.columns)
-  in_upper name = any_by_weight (text_eq name) (text_eq name) r.attributes (constants ++ t.columns) (says.attributes _ ∙ sym (weigh_append _ constants t.columns)) ∙ in_append name constants t.columns
+  in_upper name = any_by_weight (text_eq name) (text_eq name) r.attributes (constants ++ t.columns) (says.attributes _ ∙ sym (weigh-append _ constants t.columns)) ∙ in_append name constants t.columns
 
   abbrev rec : Row → Row
   rec key = record_of constants r.attributes t key
@@ -396,7 +390,7 @@ module _ (constants : Row) (r : RelationValue) (t : TableValue) (says : Says con
       rows : (names : Row) (f : Row → ℕ) → weigh f (rows_by names (put_row (record_of constants r.attributes u key) r)) ≡ weigh (λ k. f (says_by constants u names k)) (row_keys u)
       rows names f =
           let a = weigh_mapped (under names) f (r.rows ++ record_of constants r.attributes u key ∷ []) in
-          let b = weigh_append (λ row. f (under names row)) r.rows (record_of constants r.attributes u key ∷ []) in
+          let b = weigh-append (λ row. f (under names row)) r.rows (record_of constants r.attributes u key ∷ []) in
           let c = weigh_mapped (under names) f r.rows in
           let d = says.rows names f in
           let e : weigh (λ k. f (says_by constants u names k)) (row_keys u) ≡ weigh (λ k. f (says_by constants u names k)) (row_keys (with_row key t)) = ap (weigh (λ k. f (says_by constants u names k))) keys in
@@ -450,7 +444,7 @@ module _ (constants : Row) (r : RelationValue) (t : TableValue) (says : Says con
       rows names f =
           let left = remove r.rows (position_or_len (row_eq (rec key)) r.rows) in
           let a = weigh_mapped (under names) f (left ++ record_of constants r.attributes u key ∷ []) in
-          let b = weigh_append (λ row. f (under names row)) left (record_of constants r.attributes u key ∷ []) in
+          let b = weigh-append (λ row. f (under names row)) left (record_of constants r.attributes u key ∷ []) in
           let c = weigh_mapped (under names) f left in
           let d = without_says key names f there in
           let e : weigh (λ k. f (says_by constants u names k)) (row_keys u) ≡ weigh (λ k. f (says_by constants u names k)) (row_keys t) = ap (weigh (λ k. f (says_by constants u names k))) keys in
@@ -482,7 +476,7 @@ module _ (constants : Row) (r : RelationValue) (t : TableValue) (says : Says con
 
       attributes : (f : Text → ℕ) → weigh f (r.attributes ++ a ∷ []) ≡ weigh f constants + weigh f (with_column a t).columns
       attributes f =
-          let b = weigh_append f r.attributes (a ∷ []) in
+          let b = weigh-append f r.attributes (a ∷ []) in
           let c = says.attributes f in
           let d = weigh_inserted f t.columns (column_place a t.columns) a in
           omega (arith, b, c, d)

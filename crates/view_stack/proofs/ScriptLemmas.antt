@@ -10,7 +10,7 @@ use Rattle.ss_text.specs.Texts.{Text, Row, text_eq, row_eq, text_cmp, row_cmp, i
 use Rattle.ss_text.specs.Ascending.{by_order, ascending}
 use Rattle.ss_text.proofs.KeyLemmas.{text_order, row_order}
 use Rattle.ss_text.proofs.PairLemmas.{lookup_changed, ascending_ascends, turned}
-use Rattle.ss_text.proofs.GroupLemmas.{all_filter}
+use Rattle.ss_text.proofs.GroupLemmas.{all_filter, all_weaker}
 use Rattle.flow_law.specs.Tables.{TableValue, TablesValue, empty_table, table_of, labels_of, row_keys, cell_of}
 use Rattle.flow_law.specs.InOrder.{IsTable, AreTables}
 use Rattle.flow_law.specs.Lines.{label_of, without_row, with_row, without_column, with_column, with_cell, at_table, with_table, after_line, after_lines, has_row, has_column, fits_table, fits_line, fit_lines}
@@ -28,7 +28,7 @@ use Rattle.view_stack.proofs.LinesLemmas.{Agrees, Reads, AreBlocks, IsDynamic, t
 use Rattle.view_stack.proofs.LimitLemmas.{IsLegal}
 
 -- ---- lists
-all_append : {A : Type 0} (P : A → Type 0) (xs ys : List A) → AllByRecursion P xs → AllByRecursion P ys → AllByRecursion P (xs ++ ys)
+pub all_append : {A : Type 0} (P : A → Type 0) (xs ys : List A) → AllByRecursion P xs → AllByRecursion P ys → AllByRecursion P (xs ++ ys)
 all_append P [] ys h i = i
 all_append P (x ∷ xs) ys h i = (h.0, all_append P xs ys h.1 i)
 
@@ -47,10 +47,6 @@ filter_passes p (x ∷ xs) = by_test (p x) refl (filter_passes p xs)
     by_test : (b : Bool) → p x ≡ b → AllByRecursion (λ y. p y ≡ true) (filter p xs) → AllByRecursion (λ y. p y ≡ true) (filter p (x ∷ xs))
     by_test true e rest = rw e (e, rest)
     by_test false e rest = rw e rest
-
-all_weaker : {A : Type 0} (P Q : A → Type 0) → ((x : A) → P x → Q x) → (xs : List A) → AllByRecursion P xs → AllByRecursion Q xs
-all_weaker P Q step [] h = tt
-all_weaker P Q step (x ∷ xs) h = (step x h.0, all_weaker P Q step xs h.1)
 
 assoc : {A : Type 0} (xs ys zs : List A) → (xs ++ ys) ++ zs ≡ xs ++ (ys ++ zs)
 assoc [] ys zs = refl

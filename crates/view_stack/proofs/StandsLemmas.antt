@@ -21,9 +21,11 @@ use Rattle.schema_model.specs.Sound.{IsRelation, IsSound}
 use Rattle.valuation_meaning.specs.Elements.{cell_under}
 use Rattle.valuation_meaning.specs.Meaning.{given}
 use Rattle.valuation_meaning.specs.Orders.{text_under, row_under, rows_under, SameRelation, SameRelations}
+use Rattle.operator_law.specs.Bags.{weigh}
+use Rattle.operator_law.proofs.Weights.{weigh-append}
 use Rattle.view_stack.specs.Records.{text_of}
 use Rattle.view_stack.specs.Stands.{spliced, header, relation_for, catalogue_for, stands}
-use Rattle.view_stack.proofs.SaysLemmas.{mark, none_marked, weigh, weigh_append, weigh_mapped, Distinct, Says, rows_by, says_by, cell_here, cell_later, cell_missing, bytes_same, same_bytes, same_rows, halves, in_append, and_second, not_true}
+use Rattle.view_stack.proofs.SaysLemmas.{mark, none_marked, weigh_mapped, Distinct, Says, rows_by, says_by, cell_here, cell_later, cell_missing, bytes_same, same_bytes, same_rows, halves, in_append, and_second, not_true, one_more}
 use Rattle.view_stack.proofs.MovedLemmas.{AreSaid, whole}
 
 -- ---- texts under names are cells
@@ -31,13 +33,10 @@ abbrev cell_or : Bool → Text → Option Text
 cell_or true t = Some t
 cell_or false t = None
 
-one_more : (n : ℕ) → 1 + n ≡ suc n
-one_more n = omega arith
-
 pub first_there : (n : ℕ) → nat_lt 0 (suc n) ≡ true
 first_there n = lt-ltb 0 (suc n) (omega arith)
 
-both_true : (a b : Bool) → (a ≡ true → b ≡ true) → (b ≡ true → a ≡ true) → a ≡ b
+pub both_true : (a b : Bool) → (a ≡ true → b ≡ true) → (b ≡ true → a ≡ true) → a ≡ b
 both_true true true f g = refl
 both_true true false f g = sym (f refl)
 both_true false true f g = g refl
@@ -48,7 +47,7 @@ one_later p n = both_true (nat_lt (suc p) (suc n)) (nat_lt p n)
     (λ h. let l : suc p < suc n = ltb-true (suc p) (suc n) h in lt-ltb p n (omega (arith, l)))
     (λ h. let l : p < n = ltb-true p n h in lt-ltb (suc p) (suc n) (omega (arith, l)))
 
-next_place : (b : Bool) (p : ℕ) (cell : Text) (row : Row) → option_and_then (slice_get (cell ∷ row)) (cond b (Some (suc p)) None) ≡ option_and_then (slice_get row) (cond b (Some p) None)
+pub next_place : (b : Bool) (p : ℕ) (cell : Text) (row : Row) → option_and_then (slice_get (cell ∷ row)) (cond b (Some (suc p)) None) ≡ option_and_then (slice_get row) (cond b (Some p) None)
 next_place true p cell row = refl
 next_place false p cell row = refl
 
@@ -191,9 +190,9 @@ weigh_spliced None constants columns f none =
     let gone : weigh f columns ≡ 0 = ap (weigh f) (none refl) in
     omega (arith, gone)
 weigh_spliced (Some n) constants columns f none =
-    let a = weigh_append f (take n constants ++ columns) (drop n constants) in
-    let b = weigh_append f (take n constants) columns in
-    let c = weigh_append f (take n constants) (drop n constants) in
+    let a = weigh-append f (take n constants ++ columns) (drop n constants) in
+    let b = weigh-append f (take n constants) columns in
+    let c = weigh-append f (take n constants) (drop n constants) in
     let d : weigh f (take n constants ++ drop n constants) ≡ weigh f constants = ap (weigh f) (halves n constants) in
     omega (arith, a, b, c, d)
 

@@ -25,11 +25,11 @@ use Rattle.view_stack.specs.Told.{Cause, Passes, cause_of, at_level, one_up, lim
 use Rattle.view_stack.proofs.StackLemmas.{all_taken}
 
 -- ---- changes that are refused
-abbrev refusal_in : ℕ × Refusal → Refusal
+abbrev pub refusal_in : ℕ × Refusal → Refusal
 refusal_in x = x.1
 
 -- the first that is refused, and the refusal of all
-first_is : (n : ℕ) (c : CatalogueValue) (gs : List Change) → option_map refusal_in (first_fault_from n c gs) ≡ group_fault c gs
+pub first_is : (n : ℕ) (c : CatalogueValue) (gs : List Change) → option_map refusal_in (first_fault_from n c gs) ≡ group_fault c gs
 first_is n c [] = refl
 first_is n c (g ∷ gs) = either_way (fault c g) (first_fault_from (n + 1) (after c g) gs) ∙ ap (option_or (fault c g)) (first_is (n + 1) (after c g) gs)
   where

@@ -40,11 +40,15 @@ pub record IsStack (levels : List Standing) (waits : List Waiting) (names : List
   pub idle : AreIdle waits
   pub stacked : AreStacked levels names
 
+-- what lines of a level come to at the level above it, where their tables are the database of this name
+abbrev pub lifted_to : Text → Standing → Standing → List TableLine → List Change
+lifted_to name s t lines = lifted name s.shape.constants (tables_of s) t.catalogue lines
+
 -- what lines of a level come to at the first of the levels above it
 abbrev pub changes_above : List Text → Standing → List Standing → List TableLine → List Change
 changes_above names s [] lines = []
 changes_above [] s (t ∷ levels) lines = []
-changes_above (name ∷ names) s (t ∷ levels) lines = lifted name s.shape.constants (tables_of s) t.catalogue lines
+changes_above (name ∷ names) s (t ∷ levels) lines = lifted_to name s t lines
 
 -- a level takes changes and answers these lines
 abbrev pub Takes : Standing → List Change → List TableLine → Type 0
@@ -87,10 +91,10 @@ proposing_all state propose (a ∷ levels) names gs (lines ∷ all) =
 
 -- where a level takes changes with these lines, what they come to at the level above: it stands for the tables after them, and has the verdict over the catalogue that those are, unless a limit is passed on the way
 pub record IsLifted (name : Text) (s t : Standing) (gs : List Change) (lines : List TableLine) : Type 0 where
-  pub over : stands name s.shape (tables_of (made s gs)) (after_all t.catalogue (lifted name s.shape.constants (tables_of s) t.catalogue lines))
-  pub limit : group_fault t.catalogue (lifted name s.shape.constants (tables_of s) t.catalogue lines) ≡ option_map Limit (lifted_limit name s.shape (tables_of s) lines)
-  pub verdict : group_fault t.catalogue (lifted name s.shape.constants (tables_of s) t.catalogue lines) ≡ None
-      → verdict_after t (lifted name s.shape.constants (tables_of s) t.catalogue lines) ≡ t.verdict (catalogue_for name s.shape (tables_of (made s gs)))
+  pub over : stands name s.shape (tables_of (made s gs)) (after_all t.catalogue (lifted_to name s t lines))
+  pub limit : group_fault t.catalogue (lifted_to name s t lines) ≡ option_map Limit (lifted_limit name s.shape (tables_of s) lines)
+  pub verdict : group_fault t.catalogue (lifted_to name s t lines) ≡ None
+      → verdict_after t (lifted_to name s t lines) ≡ t.verdict (catalogue_for name s.shape (tables_of (made s gs)))
 
 abbrev pub LiftsAbove : List Text → Standing → List Standing → List Change → List TableLine → Type 0
 LiftsAbove names s [] gs lines = ⊤

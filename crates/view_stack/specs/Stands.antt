@@ -4,6 +4,8 @@ use Rattle.ss_text.specs.Texts.{Text, Row}
 use Rattle.flow_law.specs.declared.shape.Shape.{Shape}
 use Rattle.flow_law.specs.Tables.{TableValue, TablesValue}
 use Rattle.schema_model.specs.Catalogue.{RelationValue, DatabaseValue, CatalogueValue, relation_value, database_value}
+use Rattle.view_def.specs.Query.{Query}
+use Rattle.valuation_meaning.specs.Meaning.{meaning, shape_of}
 use Rattle.valuation_meaning.specs.Orders.{DifferInOrder}
 
 -- a record: the constant columns' part, with the dynamic columns' part behind as many of them as the spot says
@@ -26,6 +28,10 @@ database_for db shape ts = database_value db (map (relation_for shape) ts)
 
 abbrev pub catalogue_for : Text → Shape → TablesValue → CatalogueValue
 catalogue_for db shape ts = database_for db shape ts ∷ []
+
+-- the catalogue that the tables of a view over a catalogue are, which the view gives to the one above
+abbrev pub given_by : CatalogueValue → Query → CatalogueValue
+given_by c q = catalogue_for q.view_db (shape_of q) (meaning c q)
 
 -- a catalogue stands for tables: it is theirs, up to the order of attributes and rows
 abbrev pub stands : Text → Shape → TablesValue → CatalogueValue → Type 0

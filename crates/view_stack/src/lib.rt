@@ -1,9 +1,9 @@
 //! A database that stands for tables, and stacks: levels of which each is over the tables of the one below.
 //!
 //! Its contract: the catalogue of tables is made of them, or its first limit is told; where it stands for tables, it stands for
-//! others after the lifted lines of the script to them, unless a limit is passed on the way; and changes of a stack are made at all levels, or the first that
-//! refuses is told and none has changed. It is generic in what its levels are: it knows nothing of views, of sessions or of
-//! files.
+//! others after the lifted lines of the script to them, unless a limit is passed on the way; and changes of a stack are made at
+//! all levels, or the first that refuses is told and none has changed. It is generic in what its levels are: it knows nothing
+//! of views, of sessions or of files.
 #![tactic(auto)]
 
 mod cell_row;

@@ -23,8 +23,9 @@ pub struct Below<'a> {
     pub tables: &'a KeptTables,
 }
 
-/// The changes by which a catalogue that stands for tables comes to stand for those after lines, where these are the script
-/// to them. The lines of one key that stand together are one insert where the row comes, and else one delete and one insert.
+/// Lines of tables as changes of a catalogue that stands for these tables. Where the lines are the script to other tables, it
+/// stands for those after the changes. The lines of one key that stand together are one insert where the row comes, and else
+/// one delete and one insert.
 ///
 /// What a row of the catalogue says is read in the tables, by its key, so no row is sought in the catalogue.
 pub fn lifted(

@@ -73,8 +73,9 @@ impl<A: Applies> Stack<A> {
         &self.levels[place]
     }
 
-    /// Makes changes of the lowest level with all that they come to at the levels above, and answers each level's lines; or
-    /// tells the first level that refuses, and then no level has changed. Nothing waits afterwards.
+    /// Makes changes of the lowest level with all that they come to at the levels above, and answers each level's lines, the
+    /// lines of the lowest level first; or tells the first level that refuses, and then no level has changed. Nothing waits
+    /// afterwards.
     pub fn apply<L: Ledger>(
         &mut self,
         alloc: Global,
@@ -102,7 +103,8 @@ impl<A: Applies> Stack<A> {
 }
 
 /// Makes changes of the lowest of levels, each over the one before it, with all that they come to above, and answers each
-/// level's lines; or tells the first level that refuses, and then each is as it was. Nothing waits afterwards.
+/// level's lines, the lines of the lowest level first; or tells the first level that refuses, and then each is as it was.
+/// Nothing waits afterwards.
 ///
 /// It is what a stack does, for those who keep its levels themselves.
 pub fn apply_levels<A: Applies, L: Ledger>(

@@ -282,7 +282,7 @@ pub record IsOnce (exempt : List Exempt) (es : List Effect) : Type 0 where
 abbrev pub AtOnce : List Exempt → List Effect → Type 0
 AtOnce exempt es = AllWithin exempt es ⊎ IsOnce exempt es
 
-tree_append : (es fs : List Effect) (t : Tree) → tree_after (es ++ fs) t ≡ tree_after fs (tree_after es t)
+pub tree_append : (es fs : List Effect) (t : Tree) → tree_after (es ++ fs) t ≡ tree_after fs (tree_after es t)
 tree_append [] fs t = refl
 tree_append (e ∷ es) fs t = tree_append es fs (tree_by e t)
 

@@ -1,5 +1,6 @@
 pub mod BetweenLemmas
 pub mod DefinitionLemmas
+pub mod LabelLemmas
 pub mod PlaceLemmas
 pub mod RefusedLemmas
 pub mod StageLemmas

@@ -2,7 +2,7 @@
 
 /// What is said of an arrival. `Feeds::handled` has the reply to one that is fresh or kept.
 #[derive(Clone, Copy, Debug, PartialEq, Eq)]
-pub enum Answer {
+pub enum Outcome {
     /// It is the next of its source, and was handled now.
     Fresh,
     /// It came before, and what was replied then is kept.

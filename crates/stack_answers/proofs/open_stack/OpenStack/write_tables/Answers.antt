@@ -7,7 +7,7 @@ use Rattle.stack_answers.specs.Held.{held_in, stack_state}
 use Rattle.stack_answers.specs.Folders.{planned_in, label_count}
 use Rattle.stack_answers.specs.Opening.{folders_opened, opening_sum}
 use Rattle.stack_answers.proofs.OpeningLemmas.{none_done, filled_does, filled_counts, no_read_first, blamed_then}
-use Rattle.stack_answers.proofs.open_stack.OpenStack.fill.Goals as goal
+use Rattle.stack_answers.proofs.open_stack.OpenStack.write_tables.Goals as goal
 
 pub returns-in_err-plans-clause-does : goal.returns-in_err-plans-clause-does
 returns-in_err-plans-clause-does g c = λ o t told.
@@ -18,18 +18,18 @@ pub returns-clause-does : goal.returns-clause-does
 returns-clause-does g c = λ o t told.
     let inside = c.self.inside in
     rw (← c.self.view_is) (filled_does t inside.levels c.all-levels.result.now c.in_ok-plans.plans.items c.deref.result.now _ told c.all-levels.ensures.levels c.in_ok-plans.ensures.planned c.deref.ensures.value c.all-levels.ensures.tables
-    (held_in inside.draft) inside.some_refused inside.broken _ _ _ c.fill_folders.result (c.in_ok-plans.ensures.does o) (c.fill_folders.ensures.performs.does o))
+    (held_in inside.draft) inside.some_refused inside.broken _ _ _ c.write_tables.result (c.in_ok-plans.ensures.does o) (c.write_tables.ensures.performs.does o))
 
 pub returns-clause-count : goal.returns-clause-count
 returns-clause-count g c =
     let inside = c.self.inside in
     let own = stack_state inside.levels (held_in inside.draft) inside.some_refused inside.broken in
-    rw (← c.self.view_is) (IfOk-weaker c.fill_folders.result (λ n. n ≡ label_count (planned_in c.deref.result.now)) (λ n. (t : Tree) → (g.F.Folders.state c.args.store.now).tree ≡ Some t → n ≡ opening_sum t own.catalogue (queries_of own))
+    rw (← c.self.view_is) (IfOk-weaker c.write_tables.result (λ n. n ≡ label_count (planned_in c.deref.result.now)) (λ n. (t : Tree) → (g.F.Folders.state c.args.store.now).tree ≡ Some t → n ≡ opening_sum t own.catalogue (queries_of own))
     (λ n e t told. filled_counts t inside.levels c.all-levels.result.now c.in_ok-plans.plans.items c.deref.result.now _ told c.all-levels.ensures.levels c.in_ok-plans.ensures.planned c.deref.ensures.value c.all-levels.ensures.tables
-    (held_in inside.draft) inside.some_refused inside.broken n e) c.fill_folders.ensures.count)
+    (held_in inside.draft) inside.some_refused inside.broken n e) c.write_tables.ensures.count)
 
 pub returns-clause-read_first : goal.returns-clause-read_first
-returns-clause-read_first g c = no_read_first c.fill_folders.result c.fill_folders.ensures.performs.no_read
+returns-clause-read_first g c = no_read_first c.write_tables.result c.write_tables.ensures.performs.no_read
 
 pub returns-clause-blames : goal.returns-clause-blames
-returns-clause-blames g c = blamed_then _ _ _ _ c.fill_folders.result c.in_ok-plans.ensures.blames c.fill_folders.ensures.performs.blames
+returns-clause-blames g c = blamed_then _ _ _ _ c.write_tables.result c.in_ok-plans.ensures.blames c.write_tables.ensures.performs.blames

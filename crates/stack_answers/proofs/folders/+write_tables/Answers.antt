@@ -2,7 +2,7 @@ use Rattle.std.proofs.lemmas.Result.{err_from_is_err_and}
 use Rattle.outside.proofs.EffectLemmas.{performs_as}
 use Rattle.stack_answers.proofs.FolderLemmas.{first_filled}
 use Rattle.stack_answers.proofs.PerformingLemmas.{performs_front, performs_both, performs_done, performs_lacking}
-use Rattle.stack_answers.proofs.folders.+fill_folders.Goals as goal
+use Rattle.stack_answers.proofs.folders.+write_tables.Goals as goal
 
 pub returns-in_err-sync_folder-clause-performs : goal.returns-in_err-sync_folder-clause-performs
 returns-in_err-sync_folder-clause-performs g t c =
