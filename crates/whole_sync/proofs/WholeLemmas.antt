@@ -7,8 +7,8 @@ use Rattle.whole_sync.specs.Disks.{Files, Held, Call, PutBeside, DropBeside, Put
 use Rattle.whole_sync.specs.Lists.{IsListOf}
 use Rattle.whole_sync.specs.Protocol.{puts, moves_of, finishing, edited}
 use Rattle.whole_sync.specs.Replacing.{is_aside, Aside, Free, Prepared, TakenBack, Unprepared, Dropped, Replaced}
-use Rattle.whole_sync.specs.Stops.{LeavesWithin, Leaves, Recovered, WholeAtEachStop, SameAtEachStop}
-use Rattle.whole_sync.proofs.PutLemmas.{held_done, aside_then, puts_aside, FinishedOk}
+use Rattle.whole_sync.specs.Stops.{LeavesWithin, Leaves, Unchanged, Recovered, WholeAtEachStop, SameAtEachStop}
+use Rattle.whole_sync.proofs.PutLemmas.{held_done, aside_one, aside_same, aside_then, puts_aside, FinishedOk}
 use Rattle.whole_sync.proofs.StopLemmas.{Again, Done, at_stop, finished_is, leaves_append, leaves_more, leaves_end, after_append}
 use Rattle.whole_sync.proofs.SameListLemmas.{lists_same}
 use Rattle.whole_sync.proofs.EditedLemmas.{finished_files}
@@ -63,6 +63,38 @@ aside_stops (PutList list ∷ cs) h x so none l = absurd (false_true so)
 aside_stops (Do move ∷ cs) h x so none l = absurd (false_true so)
 aside_stops (Sync ∷ cs) h x so none l = absurd (false_true so)
 aside_stops (Clean ∷ cs) h x so none l = absurd (false_true so)
+
+-- files and list are as they were
+unchanged_by : (cs : List Call) (o p : Option Known) → p ≡ option_map (all_done cs) o → ((h : Held) → h.list ≡ None → ((all_after cs h).list ≡ None) × ((all_after cs h).files ≡ h.files)) → Unchanged o p
+unchanged_by cs o p done so k n was now none =
+    let is : Some (all_done cs k) ≡ Some n = sym (done ∙ ap (option_map (all_done cs)) was) ∙ now in
+    let same : all_done cs k ≡ n = cc in
+    let held : n.held ≡ all_after cs k.held = ap (λ (x : Known). x.held) (sym same) ∙ held_done cs k in
+    let p = so k.held none in
+    (ap (λ (y : Held). y.list) held ∙ p.0, ap (λ (y : Held). y.files) held ∙ p.1)
+
+aside_ends : (cs : List Call) (h : Held) → list_all is_aside cs ≡ true → h.list ≡ None → ((all_after cs h).list ≡ None) × ((all_after cs h).files ≡ h.files)
+aside_ends cs h so none = aside_stops cs h (all_after cs h) so none (leaves_end cs h (all_after cs h) refl)
+
+pub unchanged_aside : (o p : Option Known) → Aside o p → Unchanged o p
+unchanged_aside o p a = unchanged_by a.did o p a.done (λ h none. aside_ends a.did h a.aside none)
+
+-- and stay so
+pub unchanged_then : (o p q : Option Known) → Unchanged o p → Aside p q → Unchanged o q
+unchanged_then o None q u a k n was now none = absurd (none_some n q a.done now)
+unchanged_then o (Some m) q u a k n was now none =
+    let first = u k m was refl none in
+    let then = unchanged_aside (Some m) q a m n refl now first.0 in
+    (then.0, then.1 ∙ first.1)
+
+-- a list that may have been put, and was taken away
+pub unchanged_taken : (text : List ℕ) (o p q r : Option Known) → Aside o p → Off (PutList text) p q → r ≡ option_map (with_done DropList) q → Unchanged o r
+unchanged_taken text o p q r a (inl same) gone = unchanged_aside o r (aside_then o p r a (aside_then p q r (aside_same p q same) (aside_one DropList q r refl gone)))
+unchanged_taken text o p q r a (inr did) gone =
+    unchanged_by (a.did ++ PutList text ∷ DropList ∷ []) o r (done_then a.did (PutList text ∷ DropList ∷ []) o p r a.done (done_then (PutList text ∷ []) (DropList ∷ []) p q r did gone))
+    (λ h none.
+    let taken = after_append a.did (PutList text ∷ DropList ∷ []) h in
+    (ap (λ (y : Held). y.list) taken, ap (λ (y : Held). y.files) taken ∙ (aside_ends a.did h a.aside none).1))
 
 -- a recovery from any stop within these calls gives the files before or those after
 abbrev pub IsSafe : List Edit → Files → List Call → Held → Type 0

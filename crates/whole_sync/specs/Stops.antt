@@ -1,5 +1,5 @@
 -- What is there where a program was stopped, and what a recovery makes of it.
-use Rattle.std.specs.Prelude.{◌≡◌, ◌⊎◌, ℕ, List, [], ◌∷◌, ◌++◌, None, Some}
+use Rattle.std.specs.Prelude.{◌≡◌, ◌⊎◌, ℕ, List, [], ◌∷◌, ◌++◌, Option, None, Some}
 use Rattle.outside.specs.declared.edit.Edit.{Edit}
 use Rattle.whole_sync.specs.declared.moves.Move.{Move}
 use Rattle.whole_sync.specs.Disks.{Held, Call, PutBeside, Clean, after, all_after, Known}
@@ -15,6 +15,10 @@ LeavesWithin _ h k = k ≡ h
 abbrev pub Leaves : List Call → Held → Held → Type 0
 Leaves [] h k = k ≡ h
 Leaves (c ∷ cs) h k = LeavesWithin c h k ⊎ Leaves cs (after c h) k
+
+-- the files are as they were, and no list is there where none was
+abbrev pub Unchanged : Option Known → Option Known → Type 0
+Unchanged old new = (k n : Known) → old ≡ Some k → new ≡ Some n → k.held.list ≡ None → (n.held.list ≡ None) × (n.held.files ≡ k.held.files)
 
 -- a recovery does what the list names that it finds, and takes away what lies beside places
 abbrev pub Recovered : Held → Held → Type 0

@@ -5,20 +5,20 @@
 //! beside is taken away.
 //!
 //! Its contract: over a disk that tells what it holds and which calls it did, wherever `replace` is stopped or fails, a
-//! recovery gives the files before the edits or those after them. One that succeeds leaves those after them, and did its
-//! calls in their order: what is written is put beside its places, then the list, then what makes something, and behind a
-//! sync what removes something. A recovery that succeeds did what the list says that it found, and one that is stopped can
-//! be done again. Of folders it says which calls are made, and not which folders are there. It knows nothing of paths,
-//! links or locks.
+//! recovery gives the files before the edits or those after them. Where it fails for want of memory, the files are those
+//! before the edits, and no list is there. One that succeeds leaves those after them, and did its calls in their order:
+//! what is written is put beside its places, then the list, then what makes something, and behind a sync what removes
+//! something. A recovery that succeeds did what the list says that it found, and one that is stopped can be done again. Of
+//! folders it says which calls are made, and not which folders are there. It knows nothing of paths, links or locks.
 #![tactic(auto)]
 
-mod disk;
+mod file_calls;
 mod moves;
 mod sync;
 #[cfg(test)]
 mod tests;
 mod words;
 
-pub use disk::Disk;
+pub use file_calls::FileCalls;
 pub use moves::Move;
 pub use sync::{recover, replace};

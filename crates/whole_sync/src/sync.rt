@@ -1,23 +1,24 @@
 //! The making of edits, and what the next program does where one was stopped.
-ghost use Rattle.std.specs.Prelude.{◌≡◌, [], ◌∷◌, ◌++◌, map, IfOk, OnOk, OnErr, None, Some, option_map};
-ghost use Rattle.whole_sync.specs.Disks.{Known, Do, Off, DoesAll, with_done};
+ghost use Rattle.std.specs.Prelude.{◌≡◌, [], ◌∷◌, ◌++◌, map, true, IfOk, OnOk, OnErr, IsErrOf, None, Some, option_map};
+ghost use Rattle.whole_sync.specs.Disks.{Known, Do, DropList, Off, DoesAll, with_done};
 ghost use Rattle.whole_sync.specs.Protocol.{picked, finishing, edited};
 ghost use Rattle.whole_sync.specs.Replacing.{Aside, PutAll, Prepared, TakenBack, Unprepared, Dropped, Replaced, ListFinished};
-ghost use Rattle.whole_sync.specs.Stops.{Recovered, WholeAtEachStop, SameAtEachStop};
+ghost use Rattle.whole_sync.specs.Stops.{Unchanged, Recovered, WholeAtEachStop, SameAtEachStop};
 
 use crate::moves::moves_of;
 use crate::words::{list_text, read_list};
-use crate::{Disk, Move};
+use crate::{FileCalls, Move};
 use outside::{Edit, StoreFault};
 use ss_text::Text;
 use std::alloc::Global;
 
 /// Makes all of these edits, in order but that what is removed is so last, or none. Where it fails, none is made, or a
-/// list is there by which `recover` makes all. It fails for want of memory only where none is made.
-pub fn replace<D: Disk>(alloc: Global, disk: &mut D, edits: &[Edit]) -> Result<(), StoreFault>
+/// list is there by which `recover` makes all. It fails for want of memory only where none is made and no list is there.
+pub fn replace<D: FileCalls>(alloc: Global, disk: &mut D, edits: &[Edit]) -> Result<(), StoreFault>
     ensures ok { OnOk result (Replaced edits.now (D.known disk.old) (D.known disk.new)) }
     ensures made { OnOk result ((k n : Known) → D.known disk.old ≡ Some k → D.known disk.new ≡ Some n → n.held.files ≡ edited edits.now k.held.files) }
     ensures whole { (k n : Known) → D.known disk.old ≡ Some k → D.known disk.new ≡ Some n → k.held.list ≡ None → WholeAtEachStop edits.now k n }
+    ensures no_memory { IsErrOf result StoreFault.NoMemory → Unchanged (D.known disk.old) (D.known disk.new) }
 {
     let mut beside = Vec::new(alloc);
     match prepare(alloc, disk, edits, &mut beside) {
@@ -37,8 +38,8 @@ pub fn replace<D: Disk>(alloc: Global, disk: &mut D, edits: &[Edit]) -> Result<(
 }
 
 // Puts what is written beside its places, and then the list. Where it fails, no list is there, or what was put beside
-// places is no longer named, since the list needs it.
-fn prepare<D: Disk>(
+// places is no longer named, since the list needs it. Where a list may be there, it does not fail for want of memory.
+fn prepare<D: FileCalls>(
     alloc: Global,
     disk: &mut D,
     edits: &[Edit],
@@ -47,6 +48,7 @@ fn prepare<D: Disk>(
     requires { beside.old.items ≡ [] }
     ensures ok { IfOk result (λ moves. Prepared edits.now moves.items beside.new.items (D.known disk.old) (D.known disk.new)) }
     ensures err { OnErr result (Unprepared edits.now beside.new.items (D.known disk.old) (D.known disk.new)) }
+    ensures no_memory { IsErrOf result StoreFault.NoMemory → Unchanged (D.known disk.old) (D.known disk.new) }
 {
     put_all(alloc, disk, edits, beside)?;
     let names = beside.as_slice();
@@ -57,23 +59,30 @@ fn prepare<D: Disk>(
     match disk.put_list(alloc, text) {
         Ok(()) => Ok(moves),
         Err(fault) => {
-            take_back(alloc, disk, beside);
-            Err(fault)
+            if take_back(alloc, disk, beside) {
+                Err(fault)
+            } else {
+                Err(StoreFault::Failed)
+            }
         }
     }
 }
 
-// Takes a list away. Where that fails, it may be there.
-fn take_back<D: Disk>(alloc: Global, disk: &mut D, beside: &mut Vec<Text>)
-    ensures { TakenBack beside.new.items (D.known disk.old) (D.known disk.new) }
+// Takes a list away, and answers whether it is gone. Where that fails, it may be there.
+fn take_back<D: FileCalls>(alloc: Global, disk: &mut D, beside: &mut Vec<Text>) -> bool
+    ensures taken { TakenBack beside.new.items (D.known disk.old) (D.known disk.new) }
+    ensures gone { result ≡ true → D.known disk.new ≡ option_map (with_done DropList) (D.known disk.old) }
 {
     match disk.drop_list(alloc) {
-        Ok(()) => {}
-        Err(_) => beside.clear(),
+        Ok(()) => true,
+        Err(_) => {
+            beside.clear();
+            false
+        }
     }
 }
 
-fn put_all<D: Disk>(
+fn put_all<D: FileCalls>(
     alloc: Global,
     disk: &mut D,
     edits: &[Edit],
@@ -89,7 +98,7 @@ fn put_all<D: Disk>(
     Ok(())
 }
 
-fn put_one<D: Disk>(
+fn put_one<D: FileCalls>(
     alloc: Global,
     disk: &mut D,
     edit: &Edit,
@@ -115,7 +124,7 @@ fn put_one<D: Disk>(
 }
 
 // Takes away what was put beside places. What cannot be taken away is left to `clean`.
-fn drop_all<D: Disk>(alloc: Global, disk: &mut D, beside: &[Text])
+fn drop_all<D: FileCalls>(alloc: Global, disk: &mut D, beside: &[Text])
     ensures { Dropped beside.now (D.known disk.old) (D.known disk.new) }
 {
     for name in beside {
@@ -124,7 +133,7 @@ fn drop_all<D: Disk>(alloc: Global, disk: &mut D, beside: &[Text])
 }
 
 // Does all that a list names, and takes the list away.
-fn finish<D: Disk>(alloc: Global, disk: &mut D, moves: &[Move]) -> Result<(), StoreFault>
+fn finish<D: FileCalls>(alloc: Global, disk: &mut D, moves: &[Move]) -> Result<(), StoreFault>
     ensures { DoesAll (finishing moves.now) result (D.known disk.old) (D.known disk.new) }
 {
     do_all(alloc, disk, moves, true)?;
@@ -135,7 +144,7 @@ fn finish<D: Disk>(alloc: Global, disk: &mut D, moves: &[Move]) -> Result<(), St
 }
 
 // Does those of these moves that make something, or the others.
-fn do_all<D: Disk>(
+fn do_all<D: FileCalls>(
     alloc: Global,
     disk: &mut D,
     moves: &[Move],
@@ -149,7 +158,12 @@ fn do_all<D: Disk>(
     Ok(())
 }
 
-fn do_due<D: Disk>(alloc: Global, disk: &mut D, one: &Move, making: bool) -> Result<(), StoreFault>
+fn do_due<D: FileCalls>(
+    alloc: Global,
+    disk: &mut D,
+    one: &Move,
+    making: bool,
+) -> Result<(), StoreFault>
     ensures { DoesAll (map Do (picked making (one.now ∷ []))) result (D.known disk.old) (D.known disk.new) }
 {
     if one.is_due(making) {
@@ -159,7 +173,7 @@ fn do_due<D: Disk>(alloc: Global, disk: &mut D, one: &Move, making: bool) -> Res
     }
 }
 
-fn do_move<D: Disk>(alloc: Global, disk: &mut D, one: &Move) -> Result<(), StoreFault>
+fn do_move<D: FileCalls>(alloc: Global, disk: &mut D, one: &Move) -> Result<(), StoreFault>
     ensures ok { OnOk result (D.known disk.new ≡ option_map (with_done (Do one.now)) (D.known disk.old)) }
     ensures err { OnErr result (Off (Do one.now) (D.known disk.old) (D.known disk.new)) }
 {
@@ -176,8 +190,9 @@ fn do_move<D: Disk>(alloc: Global, disk: &mut D, one: &Move) -> Result<(), Store
 }
 
 /// Does what the list of an earlier program says, where one is there, and takes away what lies beside places. To be
-/// called before anything is read. Where it fails, nothing is to be read: `recover` can be called again.
-pub fn recover<D: Disk>(alloc: Global, disk: &mut D) -> Result<(), StoreFault>
+/// called before anything is read. Where it fails, for want of memory too, a part of it may be done, and nothing is to be
+/// read: `recover` can be called again.
+pub fn recover<D: FileCalls>(alloc: Global, disk: &mut D) -> Result<(), StoreFault>
     ensures ok { OnOk result ((k n : Known) → D.known disk.old ≡ Some k → D.known disk.new ≡ Some n → Recovered k.held n.held) }
     ensures stops { (k n : Known) → D.known disk.old ≡ Some k → D.known disk.new ≡ Some n → SameAtEachStop k n }
 {
@@ -186,7 +201,7 @@ pub fn recover<D: Disk>(alloc: Global, disk: &mut D) -> Result<(), StoreFault>
 }
 
 // Does what the list of an earlier program says, where one is there.
-fn finish_list<D: Disk>(alloc: Global, disk: &mut D) -> Result<(), StoreFault>
+fn finish_list<D: FileCalls>(alloc: Global, disk: &mut D) -> Result<(), StoreFault>
     ensures { ListFinished result (D.known disk.old) (D.known disk.new) }
 {
     match disk.list(alloc)? {

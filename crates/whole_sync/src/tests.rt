@@ -1,5 +1,6 @@
-//! A sync that is stopped at each of its calls, or of which each call fails in turn, on files in memory.
-use crate::{Disk, recover, replace};
+//! A sync that is stopped at each of its calls, or of which each call fails in turn, for want of memory too, on files in
+//! memory.
+use crate::{FileCalls, recover, replace};
 use outside::{Edit, StoreFault};
 use ss_text::Text;
 use std::alloc::Global;
@@ -32,6 +33,8 @@ struct MemDisk {
     calls: u64,
     wrong_at: u64,
     wrong: Wrong,
+    // What a call answers that goes wrong.
+    fault: StoreFault,
 }
 
 impl MemDisk {
@@ -48,6 +51,10 @@ impl MemDisk {
             Wrong::FailsBefore => (!here, !here),
             Wrong::FailsBehind => (true, !here),
         }
+    }
+
+    fn end(&self, succeeds: bool) -> Result<(), StoreFault> {
+        if succeeds { Ok(()) } else { Err(self.fault) }
     }
 
     // Moves what lies beside a place there, if it still does.
@@ -70,22 +77,14 @@ impl MemDisk {
     }
 }
 
-fn end(succeeds: bool) -> Result<(), StoreFault> {
-    if succeeds {
-        Ok(())
-    } else {
-        Err(StoreFault::Failed)
-    }
-}
-
-impl Disk for MemDisk {
+impl FileCalls for MemDisk {
     ghost use Rattle.std.specs.Prelude.{None};
 
     ghost known = { λ _. None };
 
     fn list(&mut self, _alloc: Global) -> Result<Option<Text>, StoreFault> {
         let (_, succeeds) = self.call();
-        end(succeeds)?;
+        self.end(succeeds)?;
         match &self.list {
             Some(list) => Ok(Some(list.copy()?)),
             None => Ok(None),
@@ -108,7 +107,7 @@ impl Disk for MemDisk {
         } else {
             self.put(folder, &name, &bytes[..bytes.len() / 2])?;
         }
-        end(succeeds)?;
+        self.end(succeeds)?;
         Ok(name)
     }
 
@@ -118,7 +117,7 @@ impl Disk for MemDisk {
             let kept = |place: &(Text, Text), _: &mut Text| place.1 != *beside;
             self.files.retain(kept);
         }
-        end(succeeds)
+        self.end(succeeds)
     }
 
     fn put_list(&mut self, alloc: Global, list: &[u8]) -> Result<(), StoreFault> {
@@ -126,7 +125,7 @@ impl Disk for MemDisk {
         if does {
             self.list = Some(Text::of(alloc, list)?);
         }
-        end(succeeds)
+        self.end(succeeds)
     }
 
     fn drop_list(&mut self, _alloc: Global) -> Result<(), StoreFault> {
@@ -134,7 +133,7 @@ impl Disk for MemDisk {
         if does {
             self.list = None;
         }
-        end(succeeds)
+        self.end(succeeds)
     }
 
     fn make_folder(&mut self, _alloc: Global, folder: &Text) -> Result<(), StoreFault> {
@@ -142,7 +141,7 @@ impl Disk for MemDisk {
         if does {
             self.folders.insert(folder.copy()?)?;
         }
-        end(succeeds)
+        self.end(succeeds)
     }
 
     fn take_place(
@@ -156,7 +155,7 @@ impl Disk for MemDisk {
         if does {
             self.place(beside, folder, file)?;
         }
-        end(succeeds)
+        self.end(succeeds)
     }
 
     fn remove(&mut self, _alloc: Global, folder: &Text, file: &Text) -> Result<(), StoreFault> {
@@ -164,7 +163,7 @@ impl Disk for MemDisk {
         if does {
             self.files.remove(&(folder.copy()?, file.copy()?));
         }
-        end(succeeds)
+        self.end(succeeds)
     }
 
     fn remove_folder(&mut self, _alloc: Global, folder: &Text) -> Result<(), StoreFault> {
@@ -172,12 +171,12 @@ impl Disk for MemDisk {
         if does && self.is_empty(folder) {
             self.folders.remove(folder);
         }
-        end(succeeds)
+        self.end(succeeds)
     }
 
     fn sync(&mut self, _alloc: Global) -> Result<(), StoreFault> {
         let (_, succeeds) = self.call();
-        end(succeeds)
+        self.end(succeeds)
     }
 
     fn clean(&mut self, _alloc: Global) -> Result<(), StoreFault> {
@@ -186,7 +185,7 @@ impl Disk for MemDisk {
             let kept = |place: &(Text, Text), _: &mut Text| !is_beside(&place.1);
             self.files.retain(kept);
         }
-        end(succeeds)
+        self.end(succeeds)
     }
 }
 
@@ -209,6 +208,7 @@ fn disk_before(alloc: Global, wrong_at: u64, wrong: Wrong) -> Result<MemDisk, St
         calls: 0,
         wrong_at,
         wrong,
+        fault: StoreFault::Failed,
     };
     disk.folders.insert(text(alloc, b"d")?)?;
     disk.folders.insert(text(alloc, b"old")?)?;
@@ -282,31 +282,39 @@ const WRONGS: [Wrong; 4] = [
 ];
 
 // Whether a sync in which this call goes wrong, and a recovery in which that one does, leave what was there before or
-// what is to be there behind it, once another recovery was done. A sync that succeeds leaves the latter.
+// what is to be there behind it, once another recovery was done. A sync that succeeds leaves the latter, and one that
+// fails for want of memory the former.
 fn holds(
     alloc: Global,
     wanted: &Wanted,
     wrong_at: u64,
     then_at: u64,
     wrong: Wrong,
+    fault: StoreFault,
 ) -> Result<bool, StoreFault> {
     let mut disk = disk_before(alloc, wrong_at, wrong)?;
-    let done = replace(alloc, &mut disk, &wanted.edits).is_ok();
+    disk.fault = fault;
+    let done = replace(alloc, &mut disk, &wanted.edits);
     disk.calls = 0;
     disk.wrong_at = then_at;
     let _ = recover(alloc, &mut disk);
     disk.wrong_at = u64::MAX;
     recover(alloc, &mut disk)?;
     let is_after = is_same(&disk, &wanted.after);
-    Ok(is_after || (!done && is_same(&disk, &wanted.before)))
+    let is_before = is_same(&disk, &wanted.before);
+    match done {
+        Ok(()) => Ok(is_after),
+        Err(StoreFault::NoMemory) => Ok(is_before),
+        Err(StoreFault::Failed) => Ok(is_before || is_after),
+    }
 }
 
-fn all_hold(alloc: Global) -> Result<bool, StoreFault> {
+fn all_hold(alloc: Global, fault: StoreFault) -> Result<bool, StoreFault> {
     let wanted = wanted_of(alloc)?;
     for wrong in WRONGS {
         for wrong_at in 1..MOST {
             for then_at in 1..MOST {
-                if !holds(alloc, &wanted, wrong_at, then_at, wrong)? {
+                if !holds(alloc, &wanted, wrong_at, then_at, wrong, fault)? {
                     return Ok(false);
                 }
             }
@@ -317,5 +325,10 @@ fn all_hold(alloc: Global) -> Result<bool, StoreFault> {
 
 #[test]
 fn each_call_goes_wrong(rt: HostRuntime) {
-    assert!(rt; matches!(all_hold(rt.alloc()), Ok(true)));
+    assert!(rt; matches!(all_hold(rt.alloc(), StoreFault::Failed), Ok(true)));
+}
+
+#[test]
+fn each_call_fails_for_want_of_memory(rt: HostRuntime) {
+    assert!(rt; matches!(all_hold(rt.alloc(), StoreFault::NoMemory), Ok(true)));
 }

@@ -5,5 +5,5 @@ use Rattle.whole_sync.proofs.sync.do_all.Given as goal
 
 abbrev pub invariant-loop-one : goal.invariant-loop-one
 invariant-loop-one g l =
-    let known = g.D.Disk.known in
+    let known = g.D.FileCalls.known in
     Doing (map Do (picked l.making l.moves)) (map Do (picked l.making (drop l.one-index l.moves))) (known l.fn.disk) (known l.disk)

@@ -8,7 +8,7 @@ use Rattle.whole_sync.proofs.sync.put_all.Goals as goal
 
 pub loop-edit-init : goal.loop-edit-init
 loop-edit-init g c =
-    let known = g.D.Disk.known c.args.disk.now in
+    let known = g.D.FileCalls.known c.args.disk.now in
     subst (λ (ns : List (List ℕ)). PutAll [] ns known known) (sym c.requires) (put_starts known)
 
 pub loop-edit-preserved : goal.loop-edit-preserved
@@ -23,5 +23,5 @@ returns-in_err-put_one-clause-err g c =
 
 pub returns-clause-ok : goal.returns-clause-ok
 returns-clause-ok g c =
-    let known = g.D.Disk.known in
+    let known = g.D.FileCalls.known in
     subst (λ (es : List Edit). PutAll es c.loop-edit.beside.items (known c.args.disk.now) (known c.loop-edit.disk)) (take_all c.loop-edit.edit-index c.args.edits.now (omega arith)) c.loop-edit.invariant

@@ -4,5 +4,5 @@ use Rattle.whole_sync.proofs.sync.put_all.Given as goal
 
 abbrev pub invariant-loop-edit : goal.invariant-loop-edit
 invariant-loop-edit g l =
-    let known = g.D.Disk.known in
+    let known = g.D.FileCalls.known in
     PutAll (take l.edit-index l.edits) l.beside.items (known l.fn.disk) (known l.disk)

@@ -1,6 +1,7 @@
-use Rattle.std.proofs.Common.{[]}
+use Rattle.std.proofs.Common.{◌≡◌, [], Err, ap}
+use Rattle.outside.specs.declared.fault.StoreFault.TheVariants.{NoMemory}
 use Rattle.whole_sync.proofs.PutLemmas.{replaced}
-use Rattle.whole_sync.proofs.WholeLemmas.{whole_prepared, whole_unprepared, replaced_files}
+use Rattle.whole_sync.proofs.WholeLemmas.{whole_prepared, whole_unprepared, replaced_files, unchanged_then}
 use Rattle.whole_sync.proofs.sync.replace.Goals as goal
 
 pub returns-in-Ok-finish-clause-ok : goal.returns-in-Ok-finish-clause-ok
@@ -19,3 +20,6 @@ returns-in-Ok-clause-whole g c =
 
 pub returns-clause-whole : goal.returns-clause-whole
 returns-clause-whole g c = whole_unprepared c.args.edits.now _ _ _ _ c.in-Err.ensures.err (rw c.as_slice-names.ensures.value at c.drop_all.ensures)
+
+pub returns-clause-no_memory : goal.returns-clause-no_memory
+returns-clause-no_memory g c = λ is. let same : c.in-Err.fault ≡ NoMemory = cc in unchanged_then _ _ _ (c.in-Err.ensures.no_memory (ap Err same)) c.drop_all.ensures.aside

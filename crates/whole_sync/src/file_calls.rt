@@ -8,7 +8,7 @@ use ss_text::Text;
 use std::alloc::Global;
 
 /// The calls on files by which edits are made whole or not at all. Each of them may fail, having done what it says or not.
-pub trait Disk {
+pub trait FileCalls {
     /// What is known of it, where it tells something.
     ghost known: { Self → Option Known };
 
