@@ -7,7 +7,7 @@ use outside::{Failed, StoreFault};
 use std::alloc::Global;
 use std::fs::{self, File, TryLockError};
 use std::io::{Error, ErrorKind};
-use std::os::unix::fs::FileExt;
+use std::os::unix::fs::{FileExt, MetadataExt};
 use std::rt::Files;
 
 const PATH: &str = "schemasql.journal";
@@ -19,6 +19,9 @@ const NEW: &str = ".schemasql.journal.new";
 /// missing, whole or not at all; the file and its folder are then synced. A file that another program has locked, one that
 /// nobody may write, what is no regular file, and a file that is shorter than a read asks for are failures. Where the file
 /// system knows no locks, or syncs no folders, it does without.
+///
+/// A file that its name does not lead to, as one that was moved, removed or replaced meanwhile, is a failure too: when it is
+/// opened, before each write, and after each sync.
 #[derive(Drop)]
 pub struct HostDisk<R: Files<File = File> + Drop> {
     rt: R,
@@ -112,12 +115,16 @@ fn write<R: Files<File = File>>(
     at: u64,
     bytes: &[u8],
 ) -> Result<(), Error> {
-    opened(rt, file)?.write_all_at(bytes, at)
+    let file = opened(rt, file)?;
+    check_named(rt, file)?;
+    file.write_all_at(bytes, at)
 }
 
 // What a read gives is on the disk, and how long the file is. The time of its last change need not be.
 fn sync<R: Files<File = File>>(rt: &R, file: &mut Option<File>) -> Result<(), Error> {
-    opened(rt, file)?.sync_data()
+    let file = opened(rt, file)?;
+    file.sync_data()?;
+    check_named(rt, file)
 }
 
 // The file, which is opened by the first call.
@@ -148,6 +155,7 @@ fn open_there<R: Files<File = File>>(rt: &R) -> Result<File, Error> {
     let file = File::options().read(true).write(true).open(rt, PATH)?;
     check_writable(&file)?;
     lock(&file)?;
+    check_named(rt, &file)?;
     file.sync_all()?;
     sync_folder(rt)?;
     Ok(file)
@@ -172,6 +180,7 @@ fn make<R: Files<File = File>>(rt: &R) -> Result<File, Error> {
     file.write_all_at(&[0], 0)?;
     file.sync_all()?;
     fs::rename(rt, NEW, PATH)?;
+    check_named(rt, &file)?;
     sync_folder(rt)?;
     Ok(file)
 }
@@ -195,6 +204,15 @@ fn check_writable(file: &File) -> Result<(), Error> {
         return Err(Error::from(ErrorKind::PermissionDenied));
     }
     Ok(())
+}
+
+// A file that its name does not lead to, as one that was moved, removed or replaced, is a failure.
+fn check_named<R: Files>(rt: &R, file: &File) -> Result<(), Error> {
+    let held = file.metadata()?;
+    match fs::metadata(rt, PATH) {
+        Ok(named) if named.dev() == held.dev() && named.ino() == held.ino() => Ok(()),
+        _ => Err(Error::from(ErrorKind::ResourceBusy)),
+    }
 }
 
 // Locks the file, where the file system knows locks. One that another program has locked is a failure.

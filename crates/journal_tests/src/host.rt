@@ -1,9 +1,9 @@
 //! A journal in a file of the folder that the test runs in.
-use crate::groups::{Lines, add_once, open};
+use crate::groups::{Lines, add, add_once, open};
 use change_journal::JournalFault;
 use disk::Disk;
 use host_disk::HostDisk;
-use outside::Failed;
+use outside::{Failed, StoreFault};
 use std::fs::{self, File, Permissions};
 use std::os::unix::fs::{PermissionsExt, symlink};
 use std::test::Fail;
@@ -12,6 +12,9 @@ const FILE: &str = "schemasql.journal";
 
 // The file before it is whole.
 const NEW: &str = ".schemasql.journal.new";
+
+// Where it is moved to.
+const MOVED: &str = "moved.journal";
 
 const LINES: Lines = ("drop-database\tz", None);
 
@@ -89,5 +92,29 @@ fn a_file_is_read(rt: HostRuntime) -> Result<(), Fail> {
     let fault = open(rt.alloc(), &mut HostDisk::of(rt)).err();
     assert_eq!(rt; fault, Some(JournalFault::BadJournal { at: 20 }));
     fs::remove_file(&rt, FILE)?;
+    Ok(())
+}
+
+// Nor is anything added to a file that was moved away, or that another one has taken the name of.
+#[test]
+fn a_file_that_was_moved_is_not_added_to(rt: HostRuntime) -> Result<(), Fail> {
+    let alloc = rt.alloc();
+    let mut disk = HostDisk::of(rt);
+    let (_said, mut journal) = open(alloc, &mut disk)?;
+    assert_eq!(rt; add(alloc, &mut journal, &mut disk, LINES)?, Ok(()));
+    fs::rename(&rt, FILE, MOVED)?;
+    let fault = add(alloc, &mut journal, &mut disk, LINES)?;
+    assert_eq!(rt; fault, Err(JournalFault::DiskFault), "it is gone");
+    fs::write(&rt, FILE, HELD)?;
+    assert_eq!(rt;
+        disk.write_at(alloc, 0, b"x"),
+        Err(StoreFault::Failed),
+        "it is another"
+    );
+    assert_eq!(rt; disk.sync(), Err(Failed));
+    let held = fs::read(&rt, MOVED)?;
+    assert!(rt; held.as_slice() == HELD);
+    fs::remove_file(&rt, FILE)?;
+    fs::remove_file(&rt, MOVED)?;
     Ok(())
 }

@@ -13,13 +13,21 @@ use host_disk::HostDisk;
 use host_folders::HostFolders;
 use ss_text::{Steps, Text};
 use ss_top::{Status, run_with_disk};
+use std::fs::File;
+use std::io::Error;
 use std::marker::Brand;
 use std::process::ExitCode;
 use std::sync::ledger::{Blank, Ledger};
 use streams::{HostSink, HostSource};
 use words::{words_of, writes_of};
 
+// A standard stream that is closed leaves its number free, and the next file that is opened gets that: what the program
+// printed would be written into a journal. So a folder takes it first, which gives nothing to read and takes nothing that
+// is written. Where all three are open, these get other numbers and do nothing.
 fn main(rt: HostRuntime) -> ExitCode {
+    let (Ok(_first), Ok(_second), Ok(_third)) = (folder(&rt), folder(&rt), folder(&rt)) else {
+        return ExitCode::from(Status::ReadFault.number());
+    };
     match words_of(&rt) {
         Ok(words) => {
             let status = run_here::<Brand>(&rt, &words, Blank::new(1));
@@ -27,6 +35,11 @@ fn main(rt: HostRuntime) -> ExitCode {
         }
         Err(status) => ExitCode::from(status.number()),
     }
+}
+
+// The root folder, which every user may read, open for reading.
+fn folder(rt: &HostRuntime) -> Result<File, Error> {
+    File::open(rt, "/")
 }
 
 // Runs over the current folder and the standard streams, and lets the count of steps go.
