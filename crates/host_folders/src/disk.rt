@@ -15,7 +15,7 @@ use std::collections::BTreeSet;
 use std::fs::{self, File, OpenFile};
 use std::io::{Error, ErrorKind, Read, Write};
 use std::rt::Files;
-use whole_sync::Disk;
+use whole_sync::FileCalls;
 
 /// The files of a root.
 #[derive(Drop)]
@@ -229,7 +229,7 @@ fn answer<T>(done: Result<T, Error>) -> Result<T, StoreFault> {
 }
 
 // The files of this machine tell nothing.
-impl<R: Files + AllocGlobal + Clone + Drop> Disk for HostDisk<R> {
+impl<R: Files + AllocGlobal + Clone + Drop> FileCalls for HostDisk<R> {
     ghost use Rattle.std.specs.Prelude.{None};
 
     ghost known = { λ _. None };

@@ -1,9 +1,10 @@
 //! What a program does with real folders before it reads and writes there.
 use crate::disk::HostDisk;
 use crate::locks::{Locks, lock_at};
+use crate::new_names::check_new;
 use crate::paths::{Root, file_path, folder_path, is_link, no_link_of_views};
 use crate::reading::read_at;
-use crate::stamps::{Stamp, Stamps, Written, stamp_at};
+use crate::stamps::{DistinctFiles, Stamp, Stamps, Written, stamp_at};
 use crate::writing::{Writing, check_makes, remove_where_there, try_writing_in};
 use outside::{Edit, StoreFault};
 use ss_text::Text;
@@ -201,30 +202,37 @@ impl<R: Files<File = File> + AllocGlobal + Clone + Drop> Host<R> {
         self.locks.hold_sources(&self.rt)
     }
 
-    // What can be known before anything is changed: that a folder can be made, that a file is the one that was read, and
-    // that one can be removed.
+    // What can be known before anything is changed: that a folder can be made, that a file is the one that was read, that
+    // one can be removed, and that no two edits lead to one file.
     fn check_before(&mut self, edits: &[Edit]) -> Result<(), Error> {
+        let mut files = DistinctFiles::none(self.rt.alloc());
+        let mut new = Vec::new(self.rt.alloc());
         for edit in edits {
             match edit {
-                Edit::MakeFolder { folder } => check_makes(&self.rt, folder_path(folder)?)?,
-                Edit::Write { folder, file, .. } => self.check_as_read(folder, file)?,
+                Edit::MakeFolder { folder } => {
+                    if check_makes(&self.rt, folder_path(folder)?)? {
+                        new.push(edit)?;
+                    }
+                }
+                Edit::Write { folder, file, .. } => match self.as_read(folder, file)? {
+                    Some(stamp) => files.add(&stamp)?,
+                    None => new.push(edit)?,
+                },
                 Edit::Remove { folder, file } => {
-                    self.check_as_read(folder, file)?;
+                    if let Some(stamp) = self.as_read(folder, file)? {
+                        files.add(&stamp)?;
+                    }
                     try_writing_in(&self.rt, folder_path(folder)?, &mut self.next)?;
                 }
                 Edit::RemoveFolder { .. } => {}
             }
         }
-        Ok(())
+        check_new(&self.rt, &new)
     }
 
-    fn check_as_read(&self, folder: &Text, file: &Text) -> Result<(), Error> {
+    fn as_read(&self, folder: &Text, file: &Text) -> Result<Option<Stamp>, Error> {
         let path = file_path(self.rt.alloc(), folder, file)?;
-        if self.sources.is_as_read(&self.rt, &path)? {
-            Ok(())
-        } else {
-            Err(Error::from(ErrorKind::ResourceBusy))
-        }
+        self.sources.as_read(&self.rt, &path)
     }
 
     // Keeps which files of the sources are there now.

@@ -10,6 +10,7 @@ mod folders;
 mod host;
 mod listing;
 mod locks;
+mod new_names;
 mod paths;
 mod reading;
 mod stamps;

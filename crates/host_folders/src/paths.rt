@@ -175,6 +175,19 @@ pub(crate) fn beside_in(alloc: Global, folder: &str, number: u64) -> Result<Stri
     Ok(format!(in alloc; "{folder}/{OWN}{number}")?)
 }
 
+/// A path in a folder by which a new name is tried. None is that of a list, or of a file that is put beside a place.
+pub(crate) fn tried_in(
+    alloc: Global,
+    folder: &str,
+    number: Option<u64>,
+    name: &str,
+) -> Result<String, Error> {
+    match number {
+        Some(number) => Ok(format!(in alloc; "{folder}/{OWN}new{number}.{name}")?),
+        None => Ok(format!(in alloc; "{folder}/{OWN}new.{name}")?),
+    }
+}
+
 /// The path of the list in a root, and of one that is not yet whole.
 pub(crate) fn list_in(alloc: Global, root: &str) -> Result<String, Error> {
     Ok(format!(in alloc; "{root}/{LIST}")?)

@@ -1,9 +1,9 @@
 //! Which file was read, so that one that somebody else changed meanwhile is not written over.
 use crate::paths::is_missing;
 use std::alloc::Global;
-use std::collections::BTreeMap;
+use std::collections::{BTreeMap, BTreeSet};
 use std::fs::{self, Metadata};
-use std::io::Error;
+use std::io::{Error, ErrorKind};
 use std::os::unix::fs::MetadataExt;
 use std::rt::Files;
 
@@ -78,9 +78,38 @@ impl Stamps {
         Ok(())
     }
 
-    /// Whether what lies at a path is what was read there, or nothing where nothing was.
-    pub(crate) fn is_as_read<R: Files>(&self, rt: &R, path: &String) -> Result<bool, Error> {
-        Ok(self.by_path.get(path).copied() == stamp_at(rt, path.as_str())?)
+    /// The stamp of what lies at a path, if something does. That it is not what was read there, or nothing where nothing
+    /// was, is a failure.
+    pub(crate) fn as_read<R: Files>(&self, rt: &R, path: &String) -> Result<Option<Stamp>, Error> {
+        let stamp = stamp_at(rt, path.as_str())?;
+        if self.by_path.get(path).copied() == stamp {
+            Ok(stamp)
+        } else {
+            Err(Error::from(ErrorKind::ResourceBusy))
+        }
+    }
+}
+
+/// Files, by their devices and inodes.
+#[derive(Drop)]
+pub(crate) struct DistinctFiles {
+    files: BTreeSet<(u64, u64)>,
+}
+
+impl DistinctFiles {
+    pub(crate) fn none(alloc: Global) -> DistinctFiles {
+        DistinctFiles {
+            files: BTreeSet::new(alloc),
+        }
+    }
+
+    /// Adds a file. One that is there already, under whatever name, is a failure.
+    pub(crate) fn add(&mut self, stamp: &Stamp) -> Result<(), Error> {
+        if self.files.insert((stamp.device, stamp.inode))? {
+            Ok(())
+        } else {
+            Err(Error::from(ErrorKind::ResourceBusy))
+        }
     }
 }
 

@@ -219,16 +219,17 @@ pub(crate) fn try_writing_in<R: Files + AllocGlobal>(
     fs::remove_file(rt, path.as_str())
 }
 
-/// A path at which something lies that is no folder, as a link that leads nowhere, is a failure.
-pub(crate) fn check_makes<R: Files>(rt: &R, path: &str) -> Result<(), Error> {
+/// Whether a folder is to be made at a path, where none is there. A path at which something lies that is no folder, as a
+/// link that leads nowhere, is a failure.
+pub(crate) fn check_makes<R: Files>(rt: &R, path: &str) -> Result<bool, Error> {
     match fs::metadata(rt, path) {
-        Ok(metadata) if metadata.is_dir() => Ok(()),
+        Ok(metadata) if metadata.is_dir() => Ok(false),
         Ok(_) => Err(Error::from(ErrorKind::NotADirectory)),
         Err(error) if is_missing(&error) => {
             if is_link(rt, path)? {
                 return Err(error);
             }
-            Ok(())
+            Ok(true)
         }
         Err(error) => Err(error),
     }
