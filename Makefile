@@ -30,7 +30,7 @@ try: $(UNPROVED)
 	@echo "The files are in build/offices, and the other examples beside it. To try the commands of README.md there:"
 	@echo
 	@echo "    cd build/offices"
-	@echo "    alias schemasql=../../$(UNPROVED)"
+	@echo "    alias schemasql=\"\$$PWD/../$(notdir $(UNPROVED))\""
 	@echo
 	@echo "\`make\` proves the program."
 
