@@ -1,5 +1,5 @@
 //! The definitions of a stack.
-ghost use Rattle.std.specs.Prelude.{◌≡◌, List, Some, IfOk, map};
+ghost use Rattle.std.specs.Prelude.{◌≡◌, List, [], Some, IfOk, map};
 ghost use Rattle.outside.specs.Reading.{OnlyRead};
 ghost use Rattle.outside.specs.Tree.{Tree};
 ghost use Rattle.outside.specs.Effects.{Does, world_of};
