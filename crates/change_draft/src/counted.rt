@@ -14,13 +14,13 @@ use crate::named::Named;
 use counts::{add_one, count_of};
 use indexmap::IndexMap;
 use schema_model::{Catalogue, Change, MOST_ROWS, Refusal, Relation, Which};
-use ss_text::{NoMemory, Row, Text};
+use ss_text::{NoMemory, Row, Seed, Text};
 use std::alloc::Global;
 
 /// How often changes of rows bring and take each row that they name, and how many they bring and take in all.
 pub(crate) struct RowCounts {
-    came: IndexMap<Named<'static>, u128>,
-    went: IndexMap<Named<'static>, u128>,
+    came: IndexMap<Named<'static>, u128, Seed>,
+    went: IndexMap<Named<'static>, u128, Seed>,
     come: usize,
     gone: usize,
 }
@@ -46,13 +46,13 @@ pub(crate) fn is_of_rows(change: &Change) -> bool
 }
 
 impl RowCounts {
-    // Where there are no changes.
-    pub(crate) fn none(alloc: Global) -> RowCounts
+    // Where there are no changes. Rows are hashed by a seed.
+    pub(crate) fn none(alloc: Global, seed: Seed) -> RowCounts
         ensures { AreCounted result [] }
     {
         RowCounts {
-            came: IndexMap::new(alloc),
-            went: IndexMap::new(alloc),
+            came: IndexMap::with_hasher(alloc, seed),
+            went: IndexMap::with_hasher(alloc, seed),
             come: 0,
             gone: 0,
         }
@@ -134,7 +134,7 @@ impl RowCounts {
 
 // Counts a row once more. After `NoMemory` the counts are as before.
 fn once_more(
-    counts: &mut IndexMap<Named<'static>, u128>,
+    counts: &mut IndexMap<Named<'static>, u128, Seed>,
     db: &Text,
     rel: &Text,
     row: &Row,

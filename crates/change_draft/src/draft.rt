@@ -8,7 +8,7 @@ ghost use Rattle.change_draft.specs.Counted.{AreCounted, is_of_rows};
 
 use crate::counted::{RowCounts, is_of_rows};
 use schema_model::{Catalogue, Change, Refusal};
-use ss_text::NoMemory;
+use ss_text::{NoMemory, Seed};
 use std::alloc::Global;
 use std::marker::Model;
 use std::mem::replace;
@@ -57,13 +57,13 @@ impl Model for Draft {
 }
 
 impl Draft {
-    /// The draft without changes, which stands over each catalogue.
-    pub fn new(alloc: Global) -> Draft
+    /// The draft without changes, which stands over each catalogue. What it counts is hashed by a seed.
+    pub fn new(alloc: Global, seed: Seed) -> Draft
         ensures { result ≡ empty }
     {
         Draft {
             changes: Vec::new(alloc),
-            kept: Kept::Counts(RowCounts::none(alloc)),
+            kept: Kept::Counts(RowCounts::none(alloc, seed)),
         }
     }
 

@@ -1,5 +1,5 @@
 //! What a printed line says.
-ghost use Rattle.std.specs.Prelude.{◌≡◌, Ok, Err, IfOk};
+ghost use Rattle.std.specs.Prelude.{◌≡◌, Ok, Err};
 ghost use Rattle.flow_law.specs.declared.line.TableLine.{TableLine};
 ghost use Rattle.change_script.specs.Reading.{IsAnswer, wrong_count, table_said, column_said, row_said, cell_said, script_line_of};
 ghost use Rattle.change_script.specs.declared.reading.ScriptLine.{ScriptLine};
@@ -95,7 +95,7 @@ fn read_row_minus(alloc: Global, fields: &[Text]) -> Result<ScriptLine, ScriptFa
     }
     Ok(ScriptLine::Change(TableLine::RowMinus {
         label: label.copy()?,
-        key: copied(alloc, key)?,
+        key: Row::of_copies(alloc, key)?,
     }))
 }
 
@@ -134,7 +134,7 @@ fn read_row_plus(alloc: Global, fields: &[Text]) -> Result<ScriptLine, ScriptFau
     }
     Ok(ScriptLine::Change(TableLine::RowPlus {
         label: label.copy()?,
-        key: copied(alloc, key)?,
+        key: Row::of_copies(alloc, key)?,
     }))
 }
 
@@ -151,7 +151,7 @@ fn read_cell(alloc: Global, fields: &[Text]) -> Result<ScriptLine, ScriptFault>
         label: label.copy()?,
         column: column.copy()?,
         value: value.copy()?,
-        key: copied(alloc, key)?,
+        key: Row::of_copies(alloc, key)?,
     }))
 }
 
@@ -162,14 +162,4 @@ fn wrong_count(fields: &[Text]) -> ScriptFault
     ScriptFault::FieldCount {
         got: fields.len() + 1,
     }
-}
-
-fn copied(alloc: Global, texts: &[Text]) -> Result<Row, NoMemory>
-    ensures { IfOk result (λ row. row ≡ texts.now) }
-{
-    let mut copies = Vec::with_capacity(alloc, texts.len())?;
-    for text in texts {
-        copies.push(text.copy()?)?;
-    }
-    Ok(Row::of(copies))
 }

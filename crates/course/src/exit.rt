@@ -14,9 +14,9 @@ pub enum Status {
     SomeRefused,
     /// The words are none of the forms.
     Usage,
-    /// The definition is missing or was refused.
+    /// The definition is missing or was refused, or two views of a stack have one view database.
     BadDefinition,
-    /// The source relations were refused.
+    /// The source relations were refused; or in `apply` the folder or a line, or in `journal` the journal.
     BadCatalogue,
     /// The view was refused, or its folder differs.
     NoView,

@@ -26,6 +26,7 @@ use Rattle.csv_catalog.specs.Records.{records_of}
 use Rattle.csv_catalog.specs.Reading.{all_placed}
 use Rattle.csv_catalog.proofs.ListLemmas.{all_pass}
 use Rattle.csv_catalog.proofs.PlaceLemmas.{total_by_name}
+use Rattle.schema_model.specs.Limits.{most_relations}
 
 -- of two elements that differ either may be put first
 module _ {A : Type 0} (R : A → A → Ordering) (o : IsTotalOrder R) where
@@ -115,11 +116,11 @@ module _ (t : Tree) (folder : Text) where
       first (Some b) d k = (d, k)
 
 module _ (t : Tree) (db : Text) (count : ℕ) (files : List Text) where
-  pub database_wide : files ≡ files_in t db → 4000 < length files → database_fault t db count ≡ Some (Limit Relations)
-  database_wide is wide = rw (← is, lt-ltb 4000 (length files) wide) refl
+  pub database_wide : files ≡ files_in t db → most_relations < length files → database_fault t db count ≡ Some (Limit Relations)
+  database_wide is wide = rw (← is, lt-ltb most_relations (length files) wide) refl
 
-  pub database_rest : files ≡ files_in t db → length files ≤ 4000 → (o : Option LoadFault) → files_fault db count (files_read t (database_folder db) files) ≡ o → database_fault t db count ≡ o
-  database_rest is few o e = rw (← is, le-ltb 4000 (length files) few) e
+  pub database_rest : files ≡ files_in t db → length files ≤ most_relations → (o : Option LoadFault) → files_fault db count (files_read t (database_folder db) files) ≡ o → database_fault t db count ≡ o
+  database_rest is few o e = rw (← is, le-ltb most_relations (length files) few) e
 
 pub database_told : (t : Tree) (db : Text) (names files : List Text) → names ≡ files_of t (database_folder db) → files ≡ filter is_relation_file names → IsStrictlySortedBy text_cmp names
     → all_placed (map relation_of (files_read t (database_folder db) files)) [] ≡ ascending by_name (map relation_of (database_files t db))

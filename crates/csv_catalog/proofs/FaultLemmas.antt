@@ -17,7 +17,7 @@ use Rattle.csv_catalog.specs.declared.judge.FileFault.TheVariants.{Repeated}
 use Rattle.csv_catalog.specs.FileFaults.{repeated_after, first_repeated, rows_fault, header_fault, file_fault, header_of, rows_of}
 use Rattle.csv_catalog.specs.RecordText.{has_field}
 use Rattle.csv_catalog.proofs.ListLemmas.{next_left}
-use Rattle.schema_model.specs.Limits.{most_rows}
+use Rattle.schema_model.specs.Limits.{most_rows, most_attributes}
 
 -- the next text, seen before or not
 pub repeated_here : (names : Row) (i : ℕ) (t : Text) → i < length names → t ≡ get_or names i t → is_in t (take i names) ≡ true → repeated_after (take i names) (drop i names) ≡ first_repeated names → first_repeated names ≡ Some t
@@ -54,12 +54,12 @@ no_name None e = refl
 no_name (Some k) e = cc e
 
 sound_header : (header : Row) → 1 ≤ length header → header_fault header ≡ None → IsHeader header
-sound_header header some e = elim (cases_Bool (nat_lt 4000 (length header))) [
+sound_header header some e = elim (cases_Bool (nat_lt most_attributes (length header))) [
   | inl wide ↦ cc (rw wide at e)
   | inr narrow ↦ record { some = some; few = below (length header) narrow; distinct = distinct_from [] header no_names (no_name (first_repeated header) (rw narrow at e)) }
 ]
   where
-    below : (n : ℕ) → nat_lt 4000 n ≡ false → n ≤ 4000
+    below : (n : ℕ) → nat_lt most_attributes n ≡ false → n ≤ most_attributes
     below n h = grind (arith, nat_tests)
 
 pub rows_fit : (want nth count : ℕ) (rows : List Row) → count ≤ most_rows → rows_fault want nth count rows ≡ None → AllByRecursion (λ (row : Row). length row ≡ want) rows × (count + length rows ≤ most_rows)

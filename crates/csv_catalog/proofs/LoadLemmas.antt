@@ -18,7 +18,7 @@ use Rattle.csv_catalog.specs.declared.fault.LoadFault.TheVariants.{Limit}
 use Rattle.csv_catalog.specs.Loaded.{loaded, catalogue_in, databases_in, database_in, database_fault, databases_fault}
 use Rattle.csv_catalog.proofs.ListLemmas.{all_pass}
 use Rattle.csv_catalog.proofs.PutLemmas.{names_front}
-use Rattle.schema_model.specs.Limits.{most_rows}
+use Rattle.schema_model.specs.Limits.{most_rows, most_databases}
 
 pub names_legal : (names : List Text) → IsStrictlySortedBy text_cmp names → AreNames (filter is_table_label names)
 names_legal names h = record { ascend = IsStrictlySortedBy-filter text_cmp is_table_label names h; legal = all_pass is_table_label names }
@@ -31,12 +31,12 @@ pub record IsLoading (t : Tree) (left : List Text) (c : CatalogueValue) : Type 0
 -- what a catalogue has to fit while these databases are left
 pub record MayGrow (left : List Text) (c : CatalogueValue) : Type 0 where
   pub names : AreNames (database_names c ++ left)
-  pub few : length c + length left ≤ 200
+  pub few : length c + length left ≤ most_databases
   pub rows : row_count c ≤ most_rows
 
 module _ (t : Tree) where
-  few_databases : (names : List Text) → names ≡ databases_in t → length names ≤ 200 → nat_lt 200 (length (databases_in t)) ≡ false
-  few_databases names are few = rw (← are) (le-ltb 200 (length names) few)
+  few_databases : (names : List Text) → names ≡ databases_in t → length names ≤ most_databases → nat_lt most_databases (length (databases_in t)) ≡ false
+  few_databases names are few = rw (← are) (le-ltb most_databases (length names) few)
 
   pub loading_starts : (names : List Text) → names ≡ databases_in t → IsLoading t names []
   loading_starts names e = rw e (record { fault = refl; loaded = refl })
@@ -48,28 +48,28 @@ module _ (t : Tree) where
     loaded = append_assoc c (database_in t db ∷ []) (map (database_in t) left) ∙ h.loaded;
   })
 
-  pub loading_refused : (names : List Text) (db : Text) (left : List Text) (c : CatalogueValue) (e : LoadFault) → names ≡ databases_in t → length names ≤ 200 → IsLoading t (db ∷ left) c → database_fault t db (row_count c) ≡ Some e → loaded t ≡ Err e
+  pub loading_refused : (names : List Text) (db : Text) (left : List Text) (c : CatalogueValue) (e : LoadFault) → names ≡ databases_in t → length names ≤ most_databases → IsLoading t (db ∷ left) c → database_fault t db (row_count c) ≡ Some e → loaded t ≡ Err e
   unfolding loaded databases_fault
   loading_refused names db left c e are few h refused = rw (few_databases names are few, sym h.fault, refused) refl
 
-  pub loading_done : (names left : List Text) (c : CatalogueValue) → names ≡ databases_in t → length names ≤ 200 → left ≡ [] → IsLoading t left c → loaded t ≡ Ok c
+  pub loading_done : (names left : List Text) (c : CatalogueValue) → names ≡ databases_in t → length names ≤ most_databases → left ≡ [] → IsLoading t left c → loaded t ≡ Ok c
   unfolding loaded databases_fault
   loading_done names left c are few none h =
       let r = rw none at h in
       rw (few_databases names are few, sym r.fault, sym r.loaded, append-nil c) refl
 
-  pub too_many : (names : List Text) → names ≡ databases_in t → 200 < length names → loaded t ≡ Err (Limit Databases)
+  pub too_many : (names : List Text) → names ≡ databases_in t → most_databases < length names → loaded t ≡ Err (Limit Databases)
   unfolding loaded
-  too_many names are many = rw (← are, lt-ltb 200 (length names) many) refl
+  too_many names are many = rw (← are, lt-ltb most_databases (length names) many) refl
 
 module _ (db : Text) (left : List Text) (c : CatalogueValue) where
   pub grows_names : MayGrow (db ∷ left) c → AreNames (database_names c ++ db ∷ [])
   grows_names h = names_front (database_names c) left db h.names
 
-  pub grows_place : MayGrow (db ∷ left) c → length c < 200
+  pub grows_place : MayGrow (db ∷ left) c → length c < most_databases
   grows_place h = below (length c) (length left) h.few
     where
-      below : (n m : ℕ) → n + suc m ≤ 200 → n < 200
+      below : (n m : ℕ) → n + suc m ≤ most_databases → n < most_databases
       below n m h = omega arith
 
   pub grows_more : (new : CatalogueValue) → MayGrow (db ∷ left) c → database_names new ≡ database_names c ++ db ∷ [] → row_count new ≤ most_rows → MayGrow left new
@@ -79,7 +79,7 @@ module _ (db : Text) (left : List Text) (c : CatalogueValue) where
     rows = few;
   }
     where
-      moved : (n k m : ℕ) → k ≡ suc n → n + suc m ≤ 200 → k + m ≤ 200
+      moved : (n k m : ℕ) → k ≡ suc n → n + suc m ≤ most_databases → k + m ≤ most_databases
       moved n k m e h = omega arith
 
       longer : length new ≡ suc (length c)

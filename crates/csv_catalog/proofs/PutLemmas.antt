@@ -10,13 +10,13 @@ use Rattle.ss_text.specs.Label.{is_table_label}
 use Rattle.ss_text.specs.Texts.{Text, Row, text_cmp}
 use Rattle.ss_text.specs.Places.{at_place}
 use Rattle.ss_text.proofs.PlaceLemmas.{length_at_place, length_last, map_last}
-use Rattle.schema_model.specs.Catalogue.{RelationValue, DatabaseValue, CatalogueValue, relation_value, database_value, relation_names, rows_in, row_count, database_at, relation_at, with_row, with_relation, with_relation_at}
+use Rattle.schema_model.specs.Catalogue.{RelationValue, DatabaseValue, CatalogueValue, relation_value, database_value, relation_names, rows_in, row_count, database_at, relation_at, with_row, with_relation, with_relation_at, with_rows}
 use Rattle.schema_model.specs.States.{CatalogueState, DatabaseState, RelationState, plain_database, plain_relation, settled}
 use Rattle.schema_model.specs.Sound.{AreNames, IsRelation}
 use Rattle.schema_model.proofs.Kept.{row_counted, relation_counted}
-use Rattle.csv_catalog.specs.Put.{with_rows, with_relations, CanTakeRows, CanTakeRelations, CanTakeDatabase}
+use Rattle.csv_catalog.specs.Put.{with_relations, CanTakeRows, CanTakeRelations, CanTakeDatabase}
 use Rattle.csv_catalog.specs.Reading.{names_of, rows_counted}
-use Rattle.schema_model.specs.Limits.{most_rows}
+use Rattle.schema_model.specs.Limits.{most_rows, most_relations}
 
 -- a catalogue that is settled over some list is so over its own
 pub settled_as : (c : CatalogueState) (d : CatalogueValue) → c ≡ settled d → c ≡ settled c.databases
@@ -165,7 +165,7 @@ module _ (c : CatalogueValue) (db : ℕ) (r : RelationValue) (rs : List Relation
     room = less (row_count c) (length r.rows) (rows_counted rs) _ _ (sum_by-cons (λ (x : RelationValue). length x.rows) r rs) (sum_by-cons (λ (x : RelationValue). length x.rows) r []) h.room;
   }
     where
-      fewer : (n m : ℕ) → n + suc m ≤ 4000 → n + 1 ≤ 4000
+      fewer : (n m : ℕ) → n + suc m ≤ most_relations → n + 1 ≤ most_relations
       fewer n m h = omega arith
 
       less : (n a b k l : ℕ) → k ≡ a + b → l ≡ a + 0 → n + k ≤ most_rows → n + l ≤ most_rows
@@ -181,7 +181,7 @@ module _ (c : CatalogueValue) (db : ℕ) (r : RelationValue) (rs : List Relation
         room = less (row_count c) (length r.rows) (rows_counted rs) _ _ (sum_by-cons (λ (x : RelationValue). length x.rows) r rs) (more_rows db c h.there) h.room;
       }
     where
-      fewer : (n m : ℕ) → n + suc m ≤ 4000 → suc n + m ≤ 4000
+      fewer : (n m : ℕ) → n + suc m ≤ most_relations → suc n + m ≤ most_relations
       fewer n m h = omega arith
 
       less : (n a b k l : ℕ) → k ≡ a + b → l ≡ n + a → n + k ≤ most_rows → l + b ≤ most_rows
@@ -219,7 +219,7 @@ module _ (c : CatalogueValue) (name : Text) (rs : List RelationValue) where
       more : (n : ℕ) → n < suc n
       more n = omega arith
 
-      no_more : (n : ℕ) → n ≤ 4000 → 0 + n ≤ 4000
+      no_more : (n : ℕ) → n ≤ most_relations → 0 + n ≤ most_relations
       no_more n h = omega arith
 
       same : (n m : ℕ) → n + m ≤ most_rows → n + 0 + m ≤ most_rows

@@ -7,7 +7,7 @@ use Rattle.csv_catalog.specs.declared.fault.LoadFault.TheVariants as load
 use Rattle.csv_catalog.specs.declared.judge.FileFault.{FileFault}
 use Rattle.csv_catalog.specs.declared.judge.FileFault.TheVariants.{NoRecord, TooWide, Repeated, OtherLength, TooMany}
 use Rattle.schema_model.specs.declared.Which.TheVariants as which
-use Rattle.schema_model.specs.Limits.{most_rows}
+use Rattle.schema_model.specs.Limits.{most_rows, most_attributes}
 
 -- the first of these texts that is among those seen or stands earlier
 unfoldable pub repeated_after : Row → Row → Option Text
@@ -32,7 +32,7 @@ rows_fault want nth count (row ∷ rows) =
 
 -- too many attributes, or one that is named twice
 abbrev pub header_fault : Row → Option FileFault
-header_fault header = if nat_lt 4000 (length header) then Some TooWide else option_map Repeated (first_repeated header)
+header_fault header = if nat_lt most_attributes (length header) then Some TooWide else option_map Repeated (first_repeated header)
 
 -- the first fault of a file with these records, where so many rows were counted before
 unfoldable pub file_fault : ℕ → List Row → Option FileFault

@@ -13,6 +13,7 @@ use Rattle.csv_catalog.specs.declared.fault.LoadFault.{LoadFault}
 use Rattle.csv_catalog.specs.declared.fault.LoadFault.TheVariants as load
 use Rattle.csv_catalog.specs.FileFaults.{file_fault, header_of, rows_of, told_fault}
 use Rattle.csv_catalog.specs.Records.{records_of}
+use Rattle.schema_model.specs.Limits.{most_databases, most_relations}
 
 -- the folder of the sources, and that of a database in it
 abbrev pub sources_folder : Text
@@ -73,7 +74,7 @@ files_fault db count (file ∷ files) =
 -- the first fault of a database
 abbrev pub database_fault : Tree → Text → ℕ → Option LoadFault
 database_fault t db count =
-    if nat_lt 4000 (length (files_in t db)) then Some (load.Limit Relations) else files_fault db count (database_files t db)
+    if nat_lt most_relations (length (files_in t db)) then Some (load.Limit Relations) else files_fault db count (database_files t db)
 
 -- the first fault of these databases, in their order
 unfoldable pub databases_fault : Tree → ℕ → List Text → Option LoadFault
@@ -82,7 +83,7 @@ databases_fault t count (db ∷ dbs) = option_or (database_fault t db count) (da
 
 -- the first refusal
 abbrev pub first_refusal : Tree → Option LoadFault
-first_refusal t = if nat_lt 200 (length (databases_in t)) then Some (load.Limit Databases) else databases_fault t 0 (databases_in t)
+first_refusal t = if nat_lt most_databases (length (databases_in t)) then Some (load.Limit Databases) else databases_fault t 0 (databases_in t)
 
 abbrev pub unless_refused : Option LoadFault → CatalogueValue → Result CatalogueValue LoadFault
 unless_refused None c = Ok c

@@ -5,7 +5,7 @@ ghost use Rattle.schema_model.specs.Catalogue.{database_value};
 ghost use Rattle.csv_catalog.specs.Loaded.{database_folder, database_fault, database_in, is_refusal};
 ghost use Rattle.outside.specs.Reading.{OnlyRead};
 ghost use Rattle.csv_catalog.specs.Reading.{WhereTold, AreKept};
-ghost use Rattle.schema_model.specs.Limits.{most_rows};
+ghost use Rattle.schema_model.specs.Limits.{most_rows, most_relations};
 
 use crate::LoadFault;
 use crate::files::read_relations;
@@ -29,7 +29,7 @@ pub(crate) fn read_database<F: Folders>(
     ensures told { IfOk result (λ relations. WhereTold (F.state store.old) (λ t. database_value db.now relations.items ≡ database_in t db.now)) }
     ensures refused { IfErr result (λ e. is_refusal e ≡ true → WhereTold (F.state store.old) (λ t. database_fault t db.now count ≡ Some e)) }
     ensures kept { IfOk result (λ relations. AreKept count relations.items most_rows) }
-    ensures length { IfOk result (λ relations. length relations.items ≤ 4000) }
+    ensures length { IfOk result (λ relations. length relations.items ≤ most_relations) }
     ensures read_fault { IsErrOf result LoadFault.ReadFault → Rose ((F.state store.old).read_faults) ((F.state store.new).read_faults) }
     ensures store { OnlyRead (F.state store.old) (F.state store.new) }
 {

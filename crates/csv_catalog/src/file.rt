@@ -42,7 +42,7 @@ pub(crate) fn read_relation<F: Folders>(
         Found::Whole { bytes } => bytes,
         Found::Refused { fault } => return Err(told_fault(db, name, fault)?),
     };
-    match judged_records(alloc, bytes.as_slice(), count)? {
+    match judged_records(alloc, store.seed(), bytes.as_slice(), count)? {
         Judged::Refused { fault } => Err(told_fault(db, name, fault)?),
         Judged::Sound { records } => Ok(Some(ReadRelation::of(label, records, count))),
     }

@@ -12,7 +12,7 @@ use crate::LoadFault;
 use crate::front::front_fault;
 use crate::judge::FileFault;
 use outside::{Folders, StoreFault};
-use ss_text::{NoMemory, Text};
+use ss_text::{NoMemory, Seed, Text};
 use std::alloc::Global;
 
 // A file of fewer bytes is read once. One of as many or more is judged by its first ones before the others are read.
@@ -47,21 +47,21 @@ pub(crate) fn found_file<F: Folders>(
         Err(StoreFault::Failed) => return Err(LoadFault::ReadFault),
         Err(StoreFault::NoMemory) => return Err(LoadFault::NoMemory),
     };
-    if let Some(found) = shown(alloc, front, count)? {
+    if let Some(found) = shown(alloc, store.seed(), front, count)? {
         return Ok(found);
     }
     whole_file(alloc, store, folder, file)
 }
 
 // What the first bytes of a file show: all of it where they are too few, or its first fault.
-fn shown(alloc: Global, front: Text, count: usize) -> Result<Option<Found>, NoMemory>
+fn shown(alloc: Global, seed: Seed, front: Text, count: usize) -> Result<Option<Found>, NoMemory>
     requires few { count ≤ most_rows }
     ensures { IfOk result (λ found. IfSome found (λ found. (held : Option (List ℕ)) → Some front ≡ option_map (take 67108864) held → IsFound count held found)) }
 {
     if front.as_slice().len() < FRONT {
         return Ok(Some(Found::Whole { bytes: front }));
     }
-    match front_fault(alloc, front, count)? {
+    match front_fault(alloc, seed, front, count)? {
         Some(fault) => Ok(Some(Found::Refused { fault })),
         None => Ok(None),
     }

@@ -7,13 +7,14 @@ ghost use Rattle.schema_model.specs.Limits.{most_rows};
 use crate::judge::{FileFault, next_fault};
 use crate::read::{next_record, reader_of};
 use csv::ByteRecord;
-use ss_text::{NoMemory, Text};
+use ss_text::{NoMemory, Seed, Text};
 use std::alloc::Global;
 
 // The first fault of each file that begins with these bytes, where so many rows were counted before and the bytes
 // show it. Their last record shows nothing, since more of it may follow.
 pub(crate) fn front_fault(
     alloc: Global,
+    seed: Seed,
     front: Text,
     count: usize,
 ) -> Result<Option<FileFault>, NoMemory>
@@ -28,7 +29,7 @@ pub(crate) fn front_fault(
         let Some(row) = next_record(alloc, &mut reader, &mut found)? else {
             return Ok(None);
         };
-        if let Some(fault) = next_fault(alloc, count, &records, &row)? {
+        if let Some(fault) = next_fault(alloc, seed, count, &records, &row)? {
             let Some(_) = next_record(alloc, &mut reader, &mut found)? else {
                 return Ok(None);
             };

@@ -9,7 +9,7 @@ use crate::LoadFault;
 use crate::read::{next_record, reader_of};
 use csv::ByteRecord;
 use schema_model::{MOST_ATTRIBUTES, MOST_ROWS, Which};
-use ss_text::{NoMemory, Row, Text};
+use ss_text::{NoMemory, Row, Seed, Text};
 use std::alloc::Global;
 use std::collections::HashSet;
 
@@ -31,7 +31,12 @@ pub(crate) enum Judged {
 }
 
 // Reads the records of a file as far as they have no fault, where so many rows were counted before.
-pub(crate) fn judged_records(alloc: Global, bytes: &[u8], count: usize) -> Result<Judged, NoMemory>
+pub(crate) fn judged_records(
+    alloc: Global,
+    seed: Seed,
+    bytes: &[u8],
+    count: usize,
+) -> Result<Judged, NoMemory>
     requires { count ≤ most_rows }
     ensures { IfOk result (λ judged. AreJudged count (records_of bytes.now) judged) }
 {
@@ -42,7 +47,7 @@ pub(crate) fn judged_records(alloc: Global, bytes: &[u8], count: usize) -> Resul
         let Some(row) = next_record(alloc, &mut reader, &mut found)? else {
             return Ok(all_read(records));
         };
-        match next_fault(alloc, count, &records, &row)? {
+        match next_fault(alloc, seed, count, &records, &row)? {
             Some(fault) => return Ok(Judged::Refused { fault }),
             None => records.push(row)?,
         }
@@ -64,6 +69,7 @@ fn all_read(records: Vec<Row>) -> Judged
 // The fault of the next record of a file, where those before it have none.
 pub(crate) fn next_fault(
     alloc: Global,
+    seed: Seed,
     count: usize,
     records: &[Row],
     row: &Row,
@@ -72,7 +78,7 @@ pub(crate) fn next_fault(
     ensures { IfOk result (λ fault. fault ≡ next_fault count records.now row.now) }
 {
     match records {
-        [] => header_fault(alloc, row),
+        [] => header_fault(alloc, seed, row),
         [header, rows @ ..] => Ok(row_fault(header.cells().len(), count, rows.len(), row)),
     }
 }
@@ -93,23 +99,23 @@ fn row_fault(want: usize, count: usize, before: usize, row: &Row) -> Option<File
     None
 }
 
-fn header_fault(alloc: Global, header: &Row) -> Result<Option<FileFault>, NoMemory>
+fn header_fault(alloc: Global, seed: Seed, header: &Row) -> Result<Option<FileFault>, NoMemory>
     ensures { IfOk result (λ fault. fault ≡ header_fault header.now) }
 {
     if header.cells().len() > MOST_ATTRIBUTES {
         return Ok(Some(FileFault::TooWide));
     }
-    match first_repeated(alloc, header.cells())? {
+    match first_repeated(alloc, seed, header.cells())? {
         Some(name) => Ok(Some(FileFault::Repeated { name })),
         None => Ok(None),
     }
 }
 
-/// The name at the first place whose name stands earlier too.
-pub fn first_repeated(alloc: Global, names: &[Text]) -> Result<Option<Text>, NoMemory>
+/// The name at the first place whose name stands earlier too. Names are hashed by a seed.
+pub fn first_repeated(alloc: Global, seed: Seed, names: &[Text]) -> Result<Option<Text>, NoMemory>
     ensures { IfOk result (λ name. name ≡ first_repeated names.now) }
 {
-    let mut seen = HashSet::new(alloc);
+    let mut seen = HashSet::with_hasher(alloc, seed);
     for name in names {
         if !seen.insert(name)? {
             return Ok(Some(name.copy()?));

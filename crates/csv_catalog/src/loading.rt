@@ -8,7 +8,7 @@ ghost use Rattle.schema_model.specs.States.{settled};
 ghost use Rattle.csv_catalog.specs.Loaded.{loaded, databases_in, database_in, database_fault, is_refusal};
 ghost use Rattle.outside.specs.Reading.{OnlyRead};
 ghost use Rattle.csv_catalog.specs.Reading.{WhereTold};
-ghost use Rattle.schema_model.specs.Limits.{most_rows};
+ghost use Rattle.schema_model.specs.Limits.{most_rows, most_databases};
 
 use crate::LoadFault;
 use crate::database::read_database;
@@ -25,7 +25,8 @@ use std::alloc::Global;
 /// It judges in this order, and answers the first refusal: how many databases there are; then for each database,
 /// ascending, how many relations; then for each file, ascending by its name, whether it has a record, how many
 /// attributes, and whether one is named twice; then for each record in order its number of fields, and whether
-/// there are too many rows in all. `ReadFault` comes only where a call on the store failed. The store is only read.
+/// there are too many rows in all. `ReadFault` comes only where a call on the store failed. The store is only read. The
+/// catalogue carries the store's seed.
 pub fn load<F: Folders>(alloc: Global, store: &mut F) -> Result<Catalogue, LoadFault>
     ensures loaded { IfOk result (λ catalogue. WhereTold (F.state store.old) (λ t. loaded t ≡ Ok catalogue.databases)) }
     ensures settled { IfOk result (λ catalogue. catalogue ≡ settled catalogue.databases) }
@@ -39,7 +40,7 @@ pub fn load<F: Folders>(alloc: Global, store: &mut F) -> Result<Catalogue, LoadF
             which: Which::Databases,
         });
     }
-    let mut catalogue = Catalogue::empty(alloc);
+    let mut catalogue = Catalogue::seeded(alloc, store.seed());
     for db in names {
         match load_database(alloc, store, &mut catalogue, db) {
             Ok(()) => (),
@@ -82,7 +83,7 @@ fn load_database<F: Folders>(
     db: Text,
 ) -> Result<(), LoadFault>
     requires names { AreNames (database_names catalogue.old.databases ++ db ∷ []) }
-    requires place { length catalogue.old.databases < 200 }
+    requires place { length catalogue.old.databases < most_databases }
     requires few { row_count catalogue.old.databases ≤ most_rows }
     ensures sound { OnOk result (WhereTold (F.state store.old) (λ t. database_fault t db (row_count catalogue.old.databases) ≡ None)) }
     ensures told { OnOk result (WhereTold (F.state store.old) (λ t. catalogue.new.databases ≡ catalogue.old.databases ++ database_in t db ∷ [])) }

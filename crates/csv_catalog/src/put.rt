@@ -1,9 +1,9 @@
 //! Puts what was read into a catalogue.
 ghost use Rattle.std.specs.Prelude.{◌≡◌, [], ◌∷◌, ◌++◌, OnOk};
 ghost use Rattle.ss_text.specs.Places.{at_place};
-ghost use Rattle.schema_model.specs.Catalogue.{database_value, with_relation, with_relation_at};
+ghost use Rattle.schema_model.specs.Catalogue.{database_value, with_relation, with_relation_at, with_rows};
 ghost use Rattle.schema_model.specs.States.{settled};
-ghost use Rattle.csv_catalog.specs.Put.{with_rows, with_relations, CanTakeRows, CanTakeRelations, CanTakeDatabase};
+ghost use Rattle.csv_catalog.specs.Put.{with_relations, CanTakeRows, CanTakeRelations, CanTakeDatabase};
 
 use crate::relation::ReadRelation;
 use schema_model::Catalogue;

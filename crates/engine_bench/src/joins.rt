@@ -6,7 +6,7 @@ ghost use Rattle.operator_law.specs.Bags.{all_signed};
 use crate::made::{one, rows};
 use join_delta::{Join, KeyPlaces};
 use operator_law::{Delta, Kept, Operator};
-use ss_text::{NoMemory, Row, Steps};
+use ss_text::{NoMemory, Row, Seed, Steps};
 use std::alloc::Global;
 use std::marker::Brand;
 use std::sync::ledger::{Blank, Ledger};
@@ -34,7 +34,7 @@ fn come_in(alloc: Global, join: &mut Join, kept: u32, changes: u32) -> Result<us
 fn by_first_cells(alloc: Global) -> Result<Join, NoMemory> {
     let left = KeyPlaces::of(alloc, &[0])?;
     match KeyPlaces::of(alloc, &[0]) {
-        Ok(right) => Join::new(alloc, left, right),
+        Ok(right) => Join::new(alloc, Seed::fixed(), left, right),
         Err(fault) => {
             drop(left);
             Err(fault)

@@ -4,7 +4,7 @@ ghost use Rattle.row_links.specs.Live.{LinkedRows};
 
 use crate::made::{one, row, rows};
 use row_links::Linked;
-use ss_text::{NoMemory, Row};
+use ss_text::{NoMemory, Row, Seed};
 use std::alloc::Global;
 
 /// How many rows are left of so many kept ones after so many changes, by which a row comes and goes in turn.
@@ -36,7 +36,7 @@ fn by_first_cell(alloc: Global) -> Result<Linked, NoMemory> {
     key.push(0usize)?;
     let mut keys = Vec::new(alloc);
     keys.push(key)?;
-    Ok(Linked::new(alloc, keys))
+    Ok(Linked::new(alloc, Seed::fixed(), keys))
 }
 
 // Adds these rows.

@@ -8,7 +8,7 @@ use crate::flat::{fields, lines};
 use flow_law::EvalFault;
 use join_delta::{Join, KeyPlaces};
 use operator_law::{Delta, Kept, Operator, Signed};
-use ss_text::{NoMemory, Row, Steps};
+use ss_text::{NoMemory, Row, Seed, Steps};
 use std::alloc::Global;
 use std::marker::Brand;
 use std::slice;
@@ -157,7 +157,7 @@ fn empty(alloc: Global) -> Result<Join, NoMemory>
 {
     let left_key = KeyPlaces::of(alloc, &[1])?;
     match KeyPlaces::of(alloc, &[0]) {
-        Ok(right_key) => Join::new(alloc, left_key, right_key),
+        Ok(right_key) => Join::new(alloc, Seed::of(2), left_key, right_key),
         Err(fault) => {
             drop(left_key);
             Err(fault)

@@ -3,7 +3,7 @@ ghost use Rattle.std.specs.Prelude.{◌≡◌, ◌≤◌, ◌<◌, length, IfOk}
 ghost use Rattle.row_links.specs.Live.{LinkedRows};
 
 use row_links::Linked;
-use ss_text::{NoMemory, Row, Steps, Text};
+use ss_text::{NoMemory, Row, Seed, Steps, Text};
 use std::alloc::Global;
 use std::marker::Brand;
 use std::sync::ledger::{Blank, Ledger};
@@ -100,7 +100,7 @@ fn by_first_cell(alloc: Global) -> Result<Linked, NoMemory>
     key.push(0usize)?;
     let mut keys = Vec::new(alloc);
     keys.push(key)?;
-    Ok(Linked::new(alloc, keys))
+    Ok(Linked::new(alloc, Seed::of(1), keys))
 }
 
 // Four rows, of which three have the same first cell.

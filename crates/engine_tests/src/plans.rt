@@ -10,7 +10,7 @@ use operator_law::{Delta, Signed};
 use plan_translate::{Plan, translate};
 use schema_model::{Catalogue, Change, ChangeFault};
 use ss_parser::parse;
-use ss_text::{NoMemory, Row, Steps, Text};
+use ss_text::{NoMemory, Row, Seed, Steps, Text};
 use std::alloc::Global;
 use std::marker::Brand;
 use std::sync::ledger::{Blank, Ledger};
@@ -326,7 +326,7 @@ fn plan_of(alloc: Global, text: &str) -> Result<Plan, Fail>
     ensures { IfOk result IsFresh }
 {
     let view = typed(alloc, text)?;
-    let plan = translate(alloc, &view);
+    let plan = translate(alloc, Seed::of(4), &view);
     drop(view);
     Ok(plan?)
 }

@@ -8,7 +8,7 @@ use crate::answer::{lines_text, stop_text};
 use crate::facts::{moves, row, rows_after};
 use flow_law::Shape;
 use operator_law::Delta;
-use ss_text::{NoMemory, Row, Steps, Text, table_label_legal};
+use ss_text::{NoMemory, Row, Seed, Steps, Text, table_label_legal};
 use std::alloc::Global;
 use std::marker::Brand;
 use std::sync::ledger::{Blank, Ledger};
@@ -315,7 +315,7 @@ fn open(alloc: Global, shape: &Shape) -> Result<Option<ViewTables>, NoMemory>
         return Ok(None);
     }
     let copy = copy_of(shape)?;
-    let tables = ViewTables::new(alloc, copy, 0)?;
+    let tables = ViewTables::new(alloc, Seed::of(3), copy, 0)?;
     Ok(Some(tables))
 }
 

@@ -12,10 +12,10 @@ use crate::FactCounts;
 use counts::Key;
 use indexmap::IndexMap;
 use indexmap::map::Entry;
-use ss_text::{NoMemory, Row, Text};
+use ss_text::{NoMemory, Row, Seed, Text};
 
 // Counts a key once more, which is let go where it is there.
-fn count_owned<K: Key>(counts: &mut IndexMap<K, u128>, key: K) -> Result<(), NoMemory>
+fn count_owned<K: Key>(counts: &mut IndexMap<K, u128, Seed>, key: K) -> Result<(), NoMemory>
     requires { counted K.eq counts.old key + 1 < 2 ^ 128 }
     ensures { OnOk result ((q : K) → counted K.eq counts.new q ≡ counted K.eq counts.old q + (if K.eq key q then 1 else 0)) }
 {
@@ -25,7 +25,7 @@ fn count_owned<K: Key>(counts: &mut IndexMap<K, u128>, key: K) -> Result<(), NoM
 }
 
 // Counts a key once more, which is copied where it is new.
-fn count_copied<K: Key>(counts: &mut IndexMap<K, u128>, key: &K) -> Result<(), NoMemory>
+fn count_copied<K: Key>(counts: &mut IndexMap<K, u128, Seed>, key: &K) -> Result<(), NoMemory>
     requires { counted K.eq counts.old key.now + 1 < 2 ^ 128 }
     ensures { OnOk result ((q : K) → counted K.eq counts.new q ≡ counted K.eq counts.old q + (if K.eq key.now q then 1 else 0)) }
 {
@@ -42,7 +42,7 @@ fn count_copied<K: Key>(counts: &mut IndexMap<K, u128>, key: &K) -> Result<(), N
 
 // Counts the value of a place once more. No other value is kept there.
 fn count_value(
-    cells: &mut IndexMap<(Row, Text), (Text, u128)>,
+    cells: &mut IndexMap<(Row, Text), (Text, u128), Seed>,
     place: (Row, Text),
     value: Text,
 ) -> Result<(), NoMemory>

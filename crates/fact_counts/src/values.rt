@@ -10,11 +10,14 @@ ghost use Rattle.fact_counts.specs.Kept.{held, held_at, value_held, value_among,
 use counts::{Key, Net};
 use flow_law::Clash;
 use indexmap::IndexMap;
-use ss_text::{NoMemory, Row, Text, make_ascending};
+use ss_text::{NoMemory, Row, Seed, Text, make_ascending};
 use std::alloc::Global;
 
 /// How often an entry is kept.
-pub(crate) fn held(cells: &IndexMap<(Row, Text), (Text, u128)>, entry: &((Row, Text), Text)) -> u128
+pub(crate) fn held(
+    cells: &IndexMap<(Row, Text), (Text, u128), Seed>,
+    entry: &((Row, Text), Text),
+) -> u128
     ensures { result ≡ held cells.now entry.now }
 {
     match cells.get(&entry.0) {
@@ -25,7 +28,7 @@ pub(crate) fn held(cells: &IndexMap<(Row, Text), (Text, u128)>, entry: &((Row, T
 
 /// The value that is kept at a place, empty where none is.
 pub(crate) fn value_held<'a>(
-    cells: &'a IndexMap<(Row, Text), (Text, u128)>,
+    cells: &'a IndexMap<(Row, Text), (Text, u128), Seed>,
     place: &(Row, Text),
 ) -> &'a [u8]
     ensures { result.now ≡ value_held cells.now place.now }
@@ -54,7 +57,7 @@ pub(crate) fn places(
 
 fn push_held(
     entries: &mut Vec<((Row, Text), Text)>,
-    cells: &IndexMap<(Row, Text), (Text, u128)>,
+    cells: &IndexMap<(Row, Text), (Text, u128), Seed>,
     place: &(Row, Text),
 ) -> Result<(), NoMemory>
     ensures { OnOk result (entries.new.items ≡ entries.old.items ++ filter_map (held_at cells.now) (place.now ∷ [])) }
@@ -69,7 +72,7 @@ fn push_held(
 #[tactic(auto, using(counts::proofs::Pairs::pair_same, ss_text::proofs::KeyLemmas::text_order, ss_text::proofs::KeyLemmas::row_order))]
 pub(crate) fn touched(
     alloc: Global,
-    cells: &IndexMap<(Row, Text), (Text, u128)>,
+    cells: &IndexMap<(Row, Text), (Text, u128), Seed>,
     named: &[((Row, Text), Text)],
     places: &[(Row, Text)],
 ) -> Result<Vec<((Row, Text), Text)>, NoMemory>
@@ -87,7 +90,7 @@ pub(crate) fn touched(
 }
 
 fn is_present(
-    cells: &IndexMap<(Row, Text), (Text, u128)>,
+    cells: &IndexMap<(Row, Text), (Text, u128), Seed>,
     net: &Net<((Row, Text), Text)>,
     entry: &((Row, Text), Text),
 ) -> bool
@@ -100,7 +103,7 @@ fn is_present(
 /// Those of the entries that are there after the change.
 pub(crate) fn present(
     alloc: Global,
-    cells: &IndexMap<(Row, Text), (Text, u128)>,
+    cells: &IndexMap<(Row, Text), (Text, u128), Seed>,
     net: &Net<((Row, Text), Text)>,
     touched: &[((Row, Text), Text)],
 ) -> Result<Vec<((Row, Text), Text)>, NoMemory>

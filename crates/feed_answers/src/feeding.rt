@@ -59,7 +59,8 @@ pub fn feed<F: Folders, S: Source, K: Sink, L: Ledger>(
 {
     match open(alloc, store, output, name, steps)? {
         Opened::Open(view) => {
-            let mut fed = FeedView::of(alloc, view);
+            let seed = view.seed();
+            let mut fed = FeedView::of(alloc, seed, view);
             let ending = answer_lines(alloc, &mut fed, store, input, output, &mut NoDisk, steps);
             drop(fed);
             ending

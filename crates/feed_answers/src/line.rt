@@ -95,7 +95,7 @@ fn read_change(alloc: Global, verb: &Text, fields: &[Text]) -> Result<Change, Fe
     ensures answer { IsAnswer (by_read verb.now (change_of fields.now)) result }
     ensures well_formed { IfOk result (λ change. IsTrue (is_well_formed change)) }
 {
-    let line = copied(alloc, fields)?;
+    let line = Row::of_copies(alloc, fields)?;
     match Change::read(alloc, &line) {
         Ok(change) => Ok(change),
         Err(ChangeFault::UnknownVerb) => Err(FeedFault::UnknownVerb { verb: verb.copy()? }),
@@ -115,15 +115,4 @@ fn wrong_count(word: &Text, fields: &[Text]) -> Result<FeedFault, NoMemory>
         verb: word.copy()?,
         got: fields.len() + 1,
     })
-}
-
-// The row of some fields.
-fn copied(alloc: Global, fields: &[Text]) -> Result<Row, NoMemory>
-    ensures { IfOk result (λ row. row ≡ fields.now) }
-{
-    let mut texts = Vec::with_capacity(alloc, fields.len())?;
-    for field in fields {
-        texts.push(field.copy()?)?;
-    }
-    Ok(Row::of(texts))
 }

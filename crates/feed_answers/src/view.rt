@@ -21,7 +21,7 @@ use course::{LineHandler, LineStop, NoDisk, Verdict};
 use feed_core::{Arrival, Feeds, Handled, Outcome};
 use outside::{Folders, Sink, Stop};
 use ss_print::{early_fields, other_change_fields, print_reply, print_script};
-use ss_text::{NoMemory, Steps, Text};
+use ss_text::{NoMemory, Seed, Steps, Text};
 use std::alloc::Global;
 use std::sync::ledger::Ledger;
 use view_answers::OpenView;
@@ -41,13 +41,13 @@ impl Drop for FeedView {
 }
 
 impl FeedView {
-    /// An opened view, to which nothing was sent yet.
-    pub(crate) fn of(alloc: Global, view: OpenView) -> FeedView
+    /// An opened view, to which nothing was sent yet. The names of its sources will be hashed by a seed.
+    pub(crate) fn of(alloc: Global, seed: Seed, view: OpenView) -> FeedView
         ensures { result ≡ record { view = view; feeds = [] } }
     {
         FeedView {
             view,
-            feeds: Feeds::new(alloc),
+            feeds: Feeds::new(alloc, seed),
         }
     }
 

@@ -11,7 +11,7 @@ use crate::replying::handle;
 use crate::{Arrival, Handled, Outcome};
 use apply_law::Applies;
 use indexmap::IndexMap;
-use ss_text::{NoMemory, Steps, Text};
+use ss_text::{NoMemory, Seed, Steps, Text};
 use std::alloc::Global;
 use std::marker::Model;
 use std::sync::ledger::Ledger;
@@ -22,7 +22,7 @@ use std::sync::ledger::Ledger;
 pub struct Feeds {
     handled: Vec<Handled>,
     // For each source where its arrivals stand in that list, in the order of their numbers.
-    places: IndexMap<Text, Vec<usize>>,
+    places: IndexMap<Text, Vec<usize>, Seed>,
 }
 
 impl Model for Feeds {
@@ -38,13 +38,13 @@ impl Model for Feeds {
 }
 
 impl Feeds {
-    /// Nothing was sent. It takes no memory.
-    pub fn new(alloc: Global) -> Feeds
+    /// Nothing was sent. It takes no memory. The names of sources will be hashed by a seed.
+    pub fn new(alloc: Global, seed: Seed) -> Feeds
         ensures { result ≡ [] }
     {
         Feeds {
             handled: Vec::new(alloc),
-            places: IndexMap::new(alloc),
+            places: IndexMap::with_hasher(alloc, seed),
         }
     }
 

@@ -93,7 +93,7 @@ fn row_minus(alloc: Global, fields: &[Text]) -> Result<TableLine, NoMemory>
     };
     Ok(TableLine::RowMinus {
         label: label.copy()?,
-        key: copied(alloc, key)?,
+        key: Row::of_copies(alloc, key)?,
     })
 }
 
@@ -129,7 +129,7 @@ fn row_plus(alloc: Global, fields: &[Text]) -> Result<TableLine, NoMemory>
     };
     Ok(TableLine::RowPlus {
         label: label.copy()?,
-        key: copied(alloc, key)?,
+        key: Row::of_copies(alloc, key)?,
     })
 }
 
@@ -143,16 +143,6 @@ fn cell(alloc: Global, fields: &[Text]) -> Result<TableLine, NoMemory>
         label: label.copy()?,
         column: column.copy()?,
         value: value.copy()?,
-        key: copied(alloc, key)?,
+        key: Row::of_copies(alloc, key)?,
     })
-}
-
-fn copied(alloc: Global, texts: &[Text]) -> Result<Row, NoMemory>
-    ensures { IfOk result (λ row. row ≡ texts.now) }
-{
-    let mut copies = Vec::with_capacity(alloc, texts.len())?;
-    for text in texts {
-        copies.push(text.copy()?)?;
-    }
-    Ok(Row::of(copies))
 }

@@ -8,7 +8,7 @@ use apply_law::Applies;
 use feed_core::{Arrival, Feeds, Outcome};
 use flow_law::Shape;
 use schema_model::{Catalogue, Change};
-use ss_text::{Row, Steps, Text};
+use ss_text::{Row, Seed, Steps, Text};
 use std::alloc::Global;
 use std::marker::Brand;
 use std::sync::ledger::{Blank, Ledger};
@@ -94,7 +94,7 @@ fn first_other<A: Applies, L: Ledger>(
 ) -> Result<Option<usize>, Fail>
     requires { A.waits to.old ≡ Idle }
 {
-    let mut feeds = Feeds::new(alloc);
+    let mut feeds = Feeds::new(alloc, Seed::fixed());
     for (place, (source, number, line, wanted, is_refused)) in SENT.iter().enumerate() {
         if *number == 0 {
             return Ok(Some(place));

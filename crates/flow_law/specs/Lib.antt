@@ -10,3 +10,4 @@ pub mod Neighbours
 pub mod Labelled
 pub mod FactRows
 pub mod Faults
+pub mod Records

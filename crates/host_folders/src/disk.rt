@@ -1,4 +1,8 @@
 //! The calls on real files by which the edits of a root are made whole or not at all.
+ghost use Rattle.std.specs.Prelude.{◌≡◌, ◌≤◌, IfOk, OnErr};
+ghost use Rattle.outside.specs.Counts.{Rose};
+ghost use Rattle.whole_sync.specs.Lists.{IsWord};
+
 use crate::listing::{Wanted, list_at};
 use crate::paths::{
     Root, file_path, folder_path, is_beside, is_missing, is_part, list_in, new_list_in, parent_of,
@@ -17,23 +21,46 @@ use std::io::{Error, ErrorKind, Read, Write};
 use std::rt::Files;
 use whole_sync::FileCalls;
 
-/// The files of a root.
+/// The files of a root, and how many calls on them failed.
 #[derive(Drop)]
 pub(crate) struct HostDisk<R: Files + AllocGlobal + Clone + Drop> {
-    rt: R,
-    root: Root,
-    next: u64,
-    /// The folders in which something was done that may not be on the disk yet.
-    changed: BTreeSet<String>,
-    /// The files that took their places.
-    placed: Vec<Stamp>,
+    files: RootFiles<R>,
+    faults: u64,
 }
 
 impl<R: Files + AllocGlobal + Clone + Drop> HostDisk<R> {
-    /// The files of a root, of which nothing was changed yet.
-    pub(crate) fn of(rt: R, root: Root) -> Self {
-        let alloc = rt.alloc();
+    /// The files of a root, of which nothing was changed yet, and no call has failed.
+    pub(crate) fn of(rt: R, root: Root) -> Self
+        ensures { result.faults ≡ 0 }
+    {
         HostDisk {
+            files: RootFiles::of(rt, root),
+            faults: 0,
+        }
+    }
+
+    /// Whether a list lies there.
+    pub(crate) fn has_list(&self) -> Result<bool, Error> {
+        self.files.has_list()
+    }
+}
+
+// The files of a root.
+#[derive(Drop)]
+struct RootFiles<R: Files + AllocGlobal + Clone + Drop> {
+    rt: R,
+    root: Root,
+    next: u64,
+    // The folders in which something was done that may not be on the disk yet.
+    changed: BTreeSet<String>,
+    // The files that took their places.
+    placed: Vec<Stamp>,
+}
+
+impl<R: Files + AllocGlobal + Clone + Drop> RootFiles<R> {
+    fn of(rt: R, root: Root) -> Self {
+        let alloc = rt.alloc();
+        RootFiles {
             rt,
             root,
             next: 0,
@@ -42,8 +69,7 @@ impl<R: Files + AllocGlobal + Clone + Drop> HostDisk<R> {
         }
     }
 
-    /// Whether a list lies there.
-    pub(crate) fn has_list(&self) -> Result<bool, Error> {
+    fn has_list(&self) -> Result<bool, Error> {
         let path = list_in(self.rt.alloc(), self.root.path())?;
         Ok(link_stamp_at(&self.rt, path.as_str())?.is_some())
     }
@@ -67,7 +93,9 @@ impl<R: Files + AllocGlobal + Clone + Drop> HostDisk<R> {
 
     // A file is put beside its place where the folder is there, and in the root where it is to be made. A link that leads
     // into a folder which is missing is a failure.
-    fn put(&mut self, folder: &Text, file: &Text, bytes: &[u8]) -> Result<Text, Error> {
+    fn put(&mut self, folder: &Text, file: &Text, bytes: &[u8]) -> Result<Text, Error>
+        ensures { IfOk result (λ name. IsWord name) }
+    {
         self.check_place(folder, Some(file))?;
         let place = Place::of(&self.rt, folder, file)?;
         let mut beside_in = parent_of(self.rt.alloc(), place.target.as_str())?;
@@ -80,7 +108,12 @@ impl<R: Files + AllocGlobal + Clone + Drop> HostDisk<R> {
         }
         let path = place.put_beside(&self.rt, beside_in.as_str(), &mut self.next, bytes, true)?;
         self.changed.insert(beside_in)?;
-        text_of(self.rt.alloc(), path.as_str())
+        word_of(self.rt.alloc(), path.as_str())
+    }
+
+    fn remove_beside(&self, beside: &Text) -> Result<(), Error> {
+        let path = folder_path(beside)?;
+        fs::remove_file(&self.rt, path)
     }
 
     // The list is written under another name first, and synced before it gets its own.
@@ -220,11 +253,37 @@ fn text_of(alloc: Global, path: &str) -> Result<Text, Error> {
     }
 }
 
-fn answer<T>(done: Result<T, Error>) -> Result<T, StoreFault> {
+// A path as a name on a list. One with a 0 byte is a failure.
+fn word_of(alloc: Global, path: &str) -> Result<Text, Error>
+    ensures { IfOk result (λ name. IsWord name) }
+{
+    let name = text_of(alloc, path)?;
+    if name.as_slice().contains(&0) {
+        return Err(Error::from(ErrorKind::InvalidData));
+    }
+    Ok(name)
+}
+
+// What a call answers. One that failed counts as a fault, for want of memory too.
+fn answer<T>(done: Result<T, Error>, faults: &mut u64) -> Result<T, StoreFault>
+    ensures ok { IfOk result (λ value. done ≡ Ok value) }
+    ensures failed { OnErr result (Rose faults.old faults.new) }
+    ensures steady { faults.old ≤ faults.new }
+{
     match done {
         Ok(value) => Ok(value),
-        Err(error) if error.kind() == ErrorKind::OutOfMemory => Err(StoreFault::NoMemory),
-        Err(_) => Err(StoreFault::Failed),
+        Err(error) => Err(failed(&error, faults)),
+    }
+}
+
+fn failed(error: &Error, faults: &mut u64) -> StoreFault
+    ensures rose { Rose faults.old faults.new }
+    ensures steady { faults.old ≤ faults.new }
+{
+    *faults = faults.saturating_add(1);
+    match error.kind() {
+        ErrorKind::OutOfMemory => StoreFault::NoMemory,
+        _ => StoreFault::Failed,
     }
 }
 
@@ -234,8 +293,10 @@ impl<R: Files + AllocGlobal + Clone + Drop> FileCalls for HostDisk<R> {
 
     ghost known = { λ _. None };
 
+    ghost faults = { λ s. s.faults };
+
     fn list(&mut self, _alloc: Global) -> Result<Option<Text>, StoreFault> {
-        answer(self.read_list())
+        answer(self.files.read_list(), &mut self.faults)
     }
 
     fn put_beside(
@@ -245,23 +306,23 @@ impl<R: Files + AllocGlobal + Clone + Drop> FileCalls for HostDisk<R> {
         file: &Text,
         bytes: &[u8],
     ) -> Result<Text, StoreFault> {
-        answer(self.put(folder, file, bytes))
+        answer(self.files.put(folder, file, bytes), &mut self.faults)
     }
 
     fn drop_beside(&mut self, _alloc: Global, beside: &Text) -> Result<(), StoreFault> {
-        answer(folder_path(beside).and_then(|path| fs::remove_file(&self.rt, path)))
+        answer(self.files.remove_beside(beside), &mut self.faults)
     }
 
     fn put_list(&mut self, _alloc: Global, list: &[u8]) -> Result<(), StoreFault> {
-        answer(self.put_whole_list(list))
+        answer(self.files.put_whole_list(list), &mut self.faults)
     }
 
     fn drop_list(&mut self, _alloc: Global) -> Result<(), StoreFault> {
-        answer(self.remove_list())
+        answer(self.files.remove_list(), &mut self.faults)
     }
 
     fn make_folder(&mut self, _alloc: Global, folder: &Text) -> Result<(), StoreFault> {
-        answer(self.make(folder))
+        answer(self.files.make(folder), &mut self.faults)
     }
 
     fn take_place(
@@ -271,23 +332,23 @@ impl<R: Files + AllocGlobal + Clone + Drop> FileCalls for HostDisk<R> {
         folder: &Text,
         file: &Text,
     ) -> Result<(), StoreFault> {
-        answer(self.place(beside, folder, file))
+        answer(self.files.place(beside, folder, file), &mut self.faults)
     }
 
     fn remove(&mut self, _alloc: Global, folder: &Text, file: &Text) -> Result<(), StoreFault> {
-        answer(self.remove_file(folder, file))
+        answer(self.files.remove_file(folder, file), &mut self.faults)
     }
 
     fn remove_folder(&mut self, _alloc: Global, folder: &Text) -> Result<(), StoreFault> {
-        answer(self.remove_dir(folder))
+        answer(self.files.remove_dir(folder), &mut self.faults)
     }
 
     fn sync(&mut self, _alloc: Global) -> Result<(), StoreFault> {
-        answer(self.sync_changed())
+        answer(self.files.sync_changed(), &mut self.faults)
     }
 
     fn clean(&mut self, _alloc: Global) -> Result<(), StoreFault> {
-        let _ = self.remove_all_left();
+        let _ = self.files.remove_all_left();
         Ok(())
     }
 }

@@ -8,7 +8,7 @@ use crate::paths::{file_path, folder_path};
 use crate::reading::front_at;
 use crate::writing::{Writing, make_folder_at, remove_folder_at};
 use outside::{Edit, Folders, StoreFault};
-use ss_text::Text;
+use ss_text::{Seed, Text};
 use std::alloc::Global;
 use std::fs::File;
 use std::io::{Error, ErrorKind};
@@ -23,16 +23,18 @@ use std::rt::Files;
 #[derive(Drop)]
 pub struct HostFolders<R: Files<File = File> + AllocGlobal + Clone + Drop> {
     host: Host<R>,
+    seed: Seed,
     read_faults: u64,
     write_faults: u64,
     writes: u64,
 }
 
 impl<R: Files<File = File> + AllocGlobal + Clone + Drop> HostFolders<R> {
-    /// The folders below the current one, on which no call has failed.
-    pub fn of(rt: R, may: Writes) -> Self {
+    /// The folders below the current one, on which no call has failed. What they hold is hashed by this seed.
+    pub fn of(rt: R, may: Writes, seed: Seed) -> Self {
         HostFolders {
             host: Host::of(rt, may),
+            seed,
             read_faults: 0,
             write_faults: 0,
             writes: 0,
@@ -79,6 +81,10 @@ impl<R: Files<File = File> + AllocGlobal + Clone + Drop> Folders for HostFolders
     ghost whole = { λ s. nothing_told };
 
     ghost state = { λ s. record { tree = None; writes = s.writes; read_faults = s.read_faults; write_faults = s.write_faults } };
+
+    fn seed(&self) -> Seed {
+        self.seed
+    }
 
     fn subfolders(&mut self, _alloc: Global, folder: &Text) -> Result<Vec<Text>, StoreFault> {
         if let Err(error) = self.host.begin(folder, None) {

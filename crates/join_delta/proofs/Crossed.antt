@@ -3,9 +3,11 @@ use Rattle.std.proofs.Common.{◌≡◌, ℕ, zero, suc, ◌+◌, ◌<◌, List,
 use Rattle.std.specs.List.{flat_map}
 use Rattle.std.proofs.lemmas.Bool.{eq-eqb}
 use denote.Ref.{Bor}
+use Rattle.ss_text.specs.declared.seed.Seed.{Seed}
 use Rattle.std.proofs.lemmas.List.{take_more, length-map}
 use Rattle.std.proofs.lemmas.List.Sums.{fold_more}
-use Rattle.row_links.specs.Parts.{cells_at, mark_of}
+use Rattle.row_links.specs.Parts.{cells_at}
+use Rattle.row_links.specs.Marks.{mark_of}
 use Rattle.row_links.proofs.Finding.{cells_sym, same_mark}
 use Rattle.operator_law.specs.Bags.{weigh}
 use Rattle.operator_law.specs.declared.delta.Signed.{Signed}
@@ -61,27 +63,27 @@ filter_within p q (x ∷ xs) h = by (p x) (q x) refl refl (filter_within p q xs 
     by false false e f rest = ap (λ (b : Bool). filter p (cond b (x ∷ filter q xs) (filter q xs))) f ∙ rest ∙ sym (ap (λ (b : Bool). cond b (x ∷ filter p xs) (filter p xs)) e)
 
 -- the group of a move's number has all moves that have its cells
-pub grouped : (other_first : Bool) (other_key key : List ℕ) (ns group : List Signed) (m : Signed) (number : ℕ) → number ≡ mark_of (cells_at key m.row) → group ≡ filter (of_mark other_key number) ns
+pub grouped : (seed : Seed) (other_first : Bool) (other_key key : List ℕ) (ns group : List Signed) (m : Signed) (number : ℕ) → number ≡ mark_of seed (cells_at key m.row) → group ≡ filter (of_mark seed other_key number) ns
     → crossed_with other_first other_key key group m ≡ crossed_with other_first other_key key ns m
-grouped other_first other_key key ns group m number is all =
-    ap with_all all ∙ ap (map (crossed other_first m)) (filter_within (is_beside other_key key m) (of_mark other_key number) ns same_number)
+grouped seed other_first other_key key ns group m number is all =
+    ap with_all all ∙ ap (map (crossed other_first m)) (filter_within (is_beside other_key key m) (of_mark seed other_key number) ns same_number)
   where
     with_all : List Signed → List Signed
     with_all ms = crossed_with other_first other_key key ms m
 
-    same_number : (n : Signed) → is_beside other_key key m n ≡ true → of_mark other_key number n ≡ true
-    same_number n e = eq-eqb (mark_of (cells_at other_key n.row)) number (same_mark (cells_at other_key n.row) (cells_at key m.row) e ∙ sym is)
+    same_number : (n : Signed) → is_beside other_key key m n ≡ true → of_mark seed other_key number n ≡ true
+    same_number n e = eq-eqb (mark_of seed (cells_at other_key n.row)) number (same_mark seed (cells_at other_key n.row) (cells_at key m.row) e ∙ sym is)
 
 -- one more move stands in its group
-pub groups_more : (key : List ℕ) (ms : List Signed) (i : ℕ) (m : Signed) (number : ℕ) (k : ℕ) (was now : List Signed) → i < length ms → m ≡ get_or ms i m → number ≡ mark_of (cells_at key m.row)
-    → was ≡ filter (of_mark key k) (take i ms) → now ≡ cond (nat_eq number k) (was ++ m ∷ []) was → now ≡ filter (of_mark key k) (take (i + 1) ms)
-groups_more key ms i m number k was now lt at is h e =
+pub groups_more : (seed : Seed) (key : List ℕ) (ms : List Signed) (i : ℕ) (m : Signed) (number : ℕ) (k : ℕ) (was now : List Signed) → i < length ms → m ≡ get_or ms i m → number ≡ mark_of seed (cells_at key m.row)
+    → was ≡ filter (of_mark seed key k) (take i ms) → now ≡ cond (nat_eq number k) (was ++ m ∷ []) was → now ≡ filter (of_mark seed key k) (take (i + 1) ms)
+groups_more seed key ms i m number k was now lt at is h e =
     e
     ∙ ap (λ (n : ℕ). cond (nat_eq n k) (was ++ m ∷ []) was) is
-    ∙ one (of_mark key k m)
-    ∙ ap (λ ns. ns ++ filter (of_mark key k) (m ∷ [])) h
-    ∙ sym (filter_append (of_mark key k) (take i ms) (m ∷ []))
-    ∙ ap (filter (of_mark key k)) (ap (λ (n : Signed). take i ms ++ n ∷ []) at ∙ sym (take_more ms i m lt))
+    ∙ one (of_mark seed key k m)
+    ∙ ap (λ ns. ns ++ filter (of_mark seed key k) (m ∷ [])) h
+    ∙ sym (filter_append (of_mark seed key k) (take i ms) (m ∷ []))
+    ∙ ap (filter (of_mark seed key k)) (ap (λ (n : Signed). take i ms ++ n ∷ []) at ∙ sym (take_more ms i m lt))
   where
     one : (b : Bool) → cond b (was ++ m ∷ []) was ≡ was ++ cond b (m ∷ []) []
     one true = refl

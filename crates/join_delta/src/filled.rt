@@ -11,16 +11,16 @@ use crate::key_places::KeyPlaces;
 use crate::partners::joined_row;
 use crate::side::add_all;
 use row_links::Linked;
-use ss_text::{NoMemory, Row};
+use ss_text::{NoMemory, Row, Seed};
 use std::alloc::Global;
 
 // These rows, to be found by the cells of this key. They are moved.
-fn kept_rows(alloc: Global, key: &KeyPlaces, rows: Vec<Row>) -> Result<Linked, NoMemory>
+fn kept_rows(alloc: Global, seed: Seed, key: &KeyPlaces, rows: Vec<Row>) -> Result<Linked, NoMemory>
     ensures rows { IfOk result (λ kept. rows_of kept.live ≡ rows.items) }
     ensures keys { IfOk result (λ kept. kept.keys ≡ key.now ∷ []) }
 {
     let count = rows.len();
-    let mut kept = no_rows(alloc, key)?;
+    let mut kept = no_rows(alloc, seed, key)?;
     kept.reserve(alloc, rows)?;
     add_all(&mut kept, count);
     // The list that they waited in is given back.
@@ -73,7 +73,7 @@ impl Join {
     {
         let left_key = KeyPlaces::of(alloc, self.left_key.as_slice())?;
         let right_key = KeyPlaces::of(alloc, self.right_key.as_slice())?;
-        let left = kept_rows(alloc, &left_key, left)?;
+        let left = kept_rows(alloc, self.left.seed(), &left_key, left)?;
         Ok(Join {
             left_key,
             right_key,
@@ -88,7 +88,7 @@ impl Join {
     pub fn filled(&self, alloc: Global, left: Vec<Row>, right: Vec<Row>) -> Result<Join, NoMemory>
         ensures keeps { IfOk result (λ join. join ≡ record { left_key = self.now.left_key; right_key = self.now.right_key; left = left.items; right = right.items; waiting = None }) }
     {
-        let right = kept_rows(alloc, &self.right_key, right)?;
+        let right = kept_rows(alloc, self.left.seed(), &self.right_key, right)?;
         let join = self.filled_beside(alloc, left, right)?;
         Ok(join)
     }
@@ -103,7 +103,7 @@ impl Join {
         ensures keeps { IfOk result (λ r. r.0 ≡ record { left_key = self.now.left_key; right_key = self.now.right_key; left = left.items; right = right.items; waiting = None }) }
         ensures gives { let equal = matches self.now.left_key self.now.right_key in IfOk result (λ r. r.1.items ≡ joined equal left.items right.items) }
     {
-        let right = kept_rows(alloc, &self.right_key, right)?;
+        let right = kept_rows(alloc, self.left.seed(), &self.right_key, right)?;
         let rows = joined_rows(alloc, &right, self.left_key.as_slice(), &left)?;
         let join = self.filled_beside(alloc, left, right)?;
         Ok((join, rows))

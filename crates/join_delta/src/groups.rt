@@ -1,16 +1,17 @@
 //! Moves by the cells of a key.
 ghost use Rattle.std.specs.Prelude.{◌≡◌, None, false, nat_eq, slice_get, option_copied, IfOk, OnOk, IsTrue};
 ghost use Rattle.indexmap.specs.IndexMap.{get};
-ghost use Rattle.row_links.specs.Parts.{cells_at, mark_of};
+ghost use Rattle.row_links.specs.Parts.{cells_at};
+ghost use Rattle.row_links.specs.Marks.{mark_of};
 ghost use Rattle.join_delta.specs.Groups.{AreGroups, AddsTo};
 
 use indexmap::IndexMap;
 use operator_law::Signed;
-use ss_text::{NoMemory, Row, Text};
+use ss_text::{NoMemory, Row, Seed, Text};
 use std::alloc::Global;
-use std::hash::{FoldHasher, Hash, Hasher};
+use std::hash::{BuildHasher, Hash, Hasher};
 
-/// Moves whose key cells share a number, in their order, by this number.
+/// Moves whose key cells share a number, in their order, by this number. The map needs no seed: the numbers have one.
 pub(crate) type Groups<'m> = IndexMap<u64, Vec<&'m Signed>>;
 
 // A cell of a row, or none behind its end.
@@ -21,10 +22,10 @@ fn cell(row: &Row, position: usize) -> Option<&Text>
 }
 
 /// A number that equal key cells share.
-pub(crate) fn mark(key: &[usize], row: &Row) -> u64
-    ensures { result ≡ mark_of (cells_at key.now row.now) }
+pub(crate) fn mark(seed: Seed, key: &[usize], row: &Row) -> u64
+    ensures { result ≡ mark_of seed (cells_at key.now row.now) }
 {
-    let mut state = FoldHasher::default();
+    let mut state = seed.build_hasher();
     for position in key {
         cell(row, *position).hash(&mut state);
     }
@@ -66,14 +67,15 @@ fn add_to_group<'m>(
 /// Groups moves by the numbers of their key cells.
 pub(crate) fn groups_of<'m>(
     alloc: Global,
+    seed: Seed,
     moves: &'m [Signed],
     key: &[usize],
 ) -> Result<Groups<'m>, NoMemory>
-    ensures { IfOk result (λ groups. AreGroups groups key.now moves.now) }
+    ensures { IfOk result (λ groups. AreGroups seed groups key.now moves.now) }
 {
     let mut groups = IndexMap::new(alloc);
     for m in moves {
-        add_to_group(alloc, &mut groups, mark(key, &m.row), m)?;
+        add_to_group(alloc, &mut groups, mark(seed, key, &m.row), m)?;
     }
     Ok(groups)
 }

@@ -7,7 +7,7 @@ ghost use Rattle.join_delta.specs.Joins.{JoinValue};
 use crate::kept::Waiting;
 use crate::key_places::KeyPlaces;
 use row_links::Linked;
-use ss_text::NoMemory;
+use ss_text::{NoMemory, Seed};
 use std::alloc::Global;
 use std::marker::Model;
 
@@ -50,24 +50,29 @@ impl Model for Join {
 }
 
 /// No rows, to be found by the cells of this key.
-pub(crate) fn no_rows(alloc: Global, key: &KeyPlaces) -> Result<Linked, NoMemory>
+pub(crate) fn no_rows(alloc: Global, seed: Seed, key: &KeyPlaces) -> Result<Linked, NoMemory>
     ensures { IfOk result (λ rows. rows ≡ record { keys = key.now ∷ []; live = []; waiting = [] }) }
 {
     let mut positions = Vec::new(alloc);
     positions.extend_from_slice(key.as_slice())?;
     let mut keys = Vec::new(alloc);
     keys.push(positions)?;
-    Ok(Linked::new(alloc, keys))
+    Ok(Linked::new(alloc, seed, keys))
 }
 
 impl Join {
     /// Joins rows whose cells at these positions are equal, the first with the first, and so on. It keeps no rows. Where both
-    /// keys are empty all rows are joined.
-    pub fn new(alloc: Global, left: KeyPlaces, right: KeyPlaces) -> Result<Join, NoMemory>
+    /// keys are empty all rows are joined. Rows are hashed by a seed.
+    pub fn new(
+        alloc: Global,
+        seed: Seed,
+        left: KeyPlaces,
+        right: KeyPlaces,
+    ) -> Result<Join, NoMemory>
         ensures { IfOk result (λ join. join ≡ record { left_key = left; right_key = right; left = []; right = []; waiting = None }) }
     {
-        let left_rows = no_rows(alloc, &left)?;
-        let right_rows = no_rows(alloc, &right)?;
+        let left_rows = no_rows(alloc, seed, &left)?;
+        let right_rows = no_rows(alloc, seed, &right)?;
         Ok(Join {
             left_key: left,
             right_key: right,
@@ -75,5 +80,10 @@ impl Join {
             right: right_rows,
             waiting: None,
         })
+    }
+
+    /// The seed by which its rows are hashed.
+    pub fn seed(&self) -> Seed {
+        self.left.seed()
     }
 }

@@ -48,6 +48,6 @@ pub(crate) fn pairs<L: Ledger>(
         &mut moves,
         steps,
     )?;
-    add_products(alloc, first, second, &mut moves)?;
+    add_products(alloc, left.seed(), first, second, &mut moves)?;
     Ok(Delta { moves })
 }

@@ -1,7 +1,8 @@
 //! The pairs of moves of both sides that have the same key cells.
 ghost use Rattle.std.specs.Prelude.{◌≡◌, ◌+◌, ℕ, List, ◌∷◌, [], ◌++◌, OnOk};
 ghost use Rattle.std.specs.List.{flat_map};
-ghost use Rattle.row_links.specs.Parts.{cells_at, mark_of};
+ghost use Rattle.row_links.specs.Parts.{cells_at};
+ghost use Rattle.row_links.specs.Marks.{mark_of};
 ghost use Rattle.operator_law.specs.Bags.{weigh};
 ghost use Rattle.operator_law.specs.declared.delta.Signed.{Signed as SignedValue};
 ghost use Rattle.join_delta.specs.Joined.{matches, with_moves};
@@ -12,7 +13,7 @@ use crate::groups::{Groups, groups_of, mark};
 use crate::partners::add_joined;
 use operator_law::Signed;
 use row_links::agree;
-use ss_text::NoMemory;
+use ss_text::{NoMemory, Seed};
 use std::alloc::Global;
 
 // So few moves are compared with each of the other side; more of them are grouped by their key cells.
@@ -87,6 +88,7 @@ fn add_group(
 // Adds the pairs of a move with moves of the other side that are grouped: only a group can have its key cells.
 fn add_grouped(
     alloc: Global,
+    seed: Seed,
     m: &Signed,
     key: &[usize],
     groups: &Groups<'_>,
@@ -94,10 +96,10 @@ fn add_grouped(
     other_first: bool,
     out: &mut Vec<Signed>,
 ) -> Result<(), NoMemory>
-    ensures { let group = group_in groups.now (mark_of (cells_at key.now m.now.row)) in
+    ensures { let group = group_in groups.now (mark_of seed (cells_at key.now m.now.row)) in
         OnOk result (out.new.items ≡ out.old.items ++ crossed_with other_first other_key.now key.now group m.now) }
 {
-    match groups.get(&mark(key, &m.row)) {
+    match groups.get(&mark(seed, key, &m.row)) {
         Some(group) => add_group(alloc, m, key, group, other_key, other_first, out),
         None => Ok(()),
     }
@@ -122,6 +124,7 @@ fn add_with_few(
 // Adds the pairs of the moves of one side with those of the other, which it groups.
 fn add_with_many(
     alloc: Global,
+    seed: Seed,
     side: Keyed<'_>,
     many: Keyed<'_>,
     many_first: bool,
@@ -129,9 +132,9 @@ fn add_with_many(
 ) -> Result<(), NoMemory>
     ensures { OnOk result (out.new.items ≡ out.old.items ++ flat_map (crossed_with many_first many.entry.key.now side.entry.key.now many.entry.moves.now) side.entry.moves.now) }
 {
-    let groups = groups_of(alloc, many.moves, many.key)?;
+    let groups = groups_of(alloc, seed, many.moves, many.key)?;
     for m in side.moves {
-        add_grouped(alloc, m, side.key, &groups, many.key, many_first, out)?;
+        add_grouped(alloc, seed, m, side.key, &groups, many.key, many_first, out)?;
     }
     Ok(())
 }
@@ -139,6 +142,7 @@ fn add_with_many(
 // Adds the pairs of the moves of one side with those of the other.
 fn add_crossed(
     alloc: Global,
+    seed: Seed,
     side: Keyed<'_>,
     other: Keyed<'_>,
     other_first: bool,
@@ -149,13 +153,15 @@ fn add_crossed(
     if other.moves.len() <= FEW {
         add_with_few(alloc, side, other, other_first, out)
     } else {
-        add_with_many(alloc, side, other, other_first, out)
+        add_with_many(alloc, seed, side, other, other_first, out)
     }
 }
 
-/// Adds the pairs of the moves of both sides, in some order. The shorter list is compared whole or grouped, once.
+/// Adds the pairs of the moves of both sides, in some order. The shorter list is compared whole or grouped, once, by marks of
+/// a seed.
 pub(crate) fn add_products(
     alloc: Global,
+    seed: Seed,
     first: Keyed<'_>,
     second: Keyed<'_>,
     out: &mut Vec<Signed>,
@@ -164,8 +170,8 @@ pub(crate) fn add_products(
         OnOk result ((f : SignedValue → ℕ) → weigh f out.new.items ≡ weigh f out.old.items + weigh f both) }
 {
     if second.moves.len() <= first.moves.len() {
-        add_crossed(alloc, first, second, false, out)
+        add_crossed(alloc, seed, first, second, false, out)
     } else {
-        add_crossed(alloc, second, first, true, out)
+        add_crossed(alloc, seed, second, first, true, out)
     }
 }

@@ -5,7 +5,7 @@ ghost use Rattle.change_draft.specs.Drafts.{StandsOver};
 
 use change_draft::Draft;
 use schema_model::{Catalogue, Change, ChangeFault, Refusal};
-use ss_text::{NoMemory, Row, Text};
+use ss_text::{NoMemory, Row, Seed, Text};
 use std::alloc::Global;
 use std::test::Fail;
 
@@ -82,7 +82,7 @@ fn is_behind(alloc: Global, draft: &mut Draft, base: &Catalogue) -> Result<bool,
 fn changes_behind_those_that_are_held(rt: HostRuntime) -> Result<(), Fail> {
     let alloc = rt.alloc();
     let base = Catalogue::empty(alloc);
-    let mut draft = Draft::new(alloc);
+    let mut draft = Draft::new(alloc, Seed::fixed());
     let behind = is_behind(alloc, &mut draft, &base);
     assert_eq!(rt; behind, Ok(true));
     Ok(())
@@ -99,7 +99,7 @@ fn rows_refused(
     requires { StandsOver draft.old base.now.databases }
 {
     let none = first_refusal(alloc, draft, base, THREE)?;
-    let mut rows = Draft::new(alloc);
+    let mut rows = Draft::new(alloc, Seed::fixed());
     let refusal = first_refusal(alloc, &mut rows, draft.schema(base), ROWS)?;
     Ok(none.or(refusal))
 }
@@ -108,7 +108,7 @@ fn rows_refused(
 fn a_row_goes_as_often_as_it_came(rt: HostRuntime) -> Result<(), Fail> {
     let alloc = rt.alloc();
     let base = Catalogue::empty(alloc);
-    let mut draft = Draft::new(alloc);
+    let mut draft = Draft::new(alloc, Seed::fixed());
     let refusal = rows_refused(alloc, &mut draft, &base);
     assert_eq!(rt; refusal, Ok(Some(Refusal::NoRow)));
     Ok(())

@@ -10,7 +10,7 @@ ghost use Rattle.other_operators.specs.RowCounts.{count_in, row_move, row_moves,
 use counts::{Move, Net, count_of, make_room, store_all};
 use indexmap::IndexMap;
 use operator_law::{Delta, Kept, Signed};
-use ss_text::{NoMemory, Row};
+use ss_text::{NoMemory, Row, Seed};
 use std::alloc::Global;
 use std::marker::Model;
 use std::snapshot::Snapshot;
@@ -40,7 +40,7 @@ impl Model for BagReady {
 /// A bag of rows: how often each is there. It does not tell their order.
 #[derive(Drop)]
 pub struct Bag {
-    counts: IndexMap<Row, u128>,
+    counts: IndexMap<Row, u128, Seed>,
     waiting: Option<Waiting>,
 }
 
@@ -81,14 +81,14 @@ fn net_of(alloc: Global, moves: &[Signed]) -> Result<Net<Row>, NoMemory>
     ensures named { IfOk result (λ net. net.named.items ≡ ascending row_cmp (map (λ m. m.key) (row_moves moves.now))) }
 {
     let keys = row_moves(alloc, moves)?;
-    let net = Net::of(alloc, &keys)?;
+    let net = Net::of(alloc, Seed::fixed(), &keys)?;
     Ok(net)
 }
 
 // Takes the memory for the rows that move, and gives the count of each after the moves; the counts stay.
 fn made_ready(
     alloc: Global,
-    counts: &mut IndexMap<Row, u128>,
+    counts: &mut IndexMap<Row, u128, Seed>,
     moves: &[Signed],
 ) -> Result<Vec<(Row, Option<u128>)>, NoMemory>
     requires { CanBeCounted (counted row_eq counts.old) moves.now }
@@ -109,7 +109,7 @@ impl Bag {
         ensures none { result.waiting ≡ None }
     {
         Bag {
-            counts: IndexMap::new(alloc),
+            counts: IndexMap::with_hasher(alloc, Seed::fixed()),
             waiting: None,
         }
     }

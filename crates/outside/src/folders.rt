@@ -9,13 +9,16 @@ ghost use Rattle.outside.specs.Whole.{IsWhole};
 ghost use Rattle.outside.specs.Edits.{AllMade, NoneOrAllMade};
 
 use crate::{Edit, StoreFault};
-use ss_text::Text;
+use ss_text::{Seed, Text};
 use std::alloc::Global;
 
 /// Folders of files. A folder's name is its parts joined by `/`.
 pub trait Folders {
     /// What is known of it.
     ghost state: { Self → StoreState };
+
+    /// A seed for the hashes of what it holds. Nothing is promised of it, and no answer depends on it.
+    fn seed(&self) -> Seed;
 
     /// The names of the folders right in a folder, ascending. A missing folder has none.
     fn subfolders(&mut self, alloc: Global, folder: &Text) -> Result<Vec<Text>, StoreFault>

@@ -13,7 +13,7 @@ ghost use Rattle.outside.specs.MemCalls.{store_state};
 
 use crate::numbering::Numbering;
 use crate::{Edit, Folders, StoreFault, SureFolders};
-use ss_text::{NoMemory, Text};
+use ss_text::{NoMemory, Seed, Text};
 use std::alloc::Global;
 use std::marker::Model;
 
@@ -77,6 +77,10 @@ impl Folders for MemFolders {
     ghost whole = { λ s t h. told_is_whole s.tree t h };
 
     ghost state = { store_state };
+
+    fn seed(&self) -> Seed {
+        Seed::fixed()
+    }
 
     fn subfolders(&mut self, alloc: Global, folder: &Text) -> Result<Vec<Text>, StoreFault>
         ensures told { IfOk result (λ names. (t : Tree) → told self.old.tree ≡ Some t → names.items ≡ subfolders_of t folder.now) }

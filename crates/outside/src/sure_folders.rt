@@ -9,7 +9,7 @@ ghost use Rattle.outside.specs.Whole.{told};
 
 use crate::places::Files;
 use crate::{Edit, Folders, StoreFault, paths, places};
-use ss_text::{NoMemory, Text};
+use ss_text::{NoMemory, Seed, Text};
 use std::alloc::Global;
 use std::collections::{BTreeMap, BTreeSet};
 use std::marker::Model;
@@ -191,6 +191,10 @@ impl Folders for SureFolders {
     ghost whole = { λ s t h. told_is_whole s.tree t h };
 
     ghost state = { λ s. record { tree = told s.tree; writes = s.writes; read_faults = 0; write_faults = 0 } };
+
+    fn seed(&self) -> Seed {
+        Seed::fixed()
+    }
 
     fn subfolders(&mut self, alloc: Global, folder: &Text) -> Result<Vec<Text>, StoreFault> {
         Ok(paths::children(alloc, &self.folders, folder)?)

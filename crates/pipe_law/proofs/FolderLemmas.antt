@@ -25,7 +25,8 @@ use Rattle.view_folder.specs.Forms.{HasForm}
 use Rattle.view_folder.specs.Held.{files_fault, held, unless_refused, with_file}
 use Rattle.view_folder.specs.Records.{records_fault, table_in}
 use Rattle.view_folder.specs.Sync.{Holds}
-use Rattle.view_folder.specs.TableFiles.{spliced, table_files, table_records, table_text}
+use Rattle.view_folder.specs.TableFiles.{table_files, table_records, table_text}
+use Rattle.flow_law.specs.Records.{spliced}
 use Rattle.view_folder.proofs.FolderLemmas.{there}
 use Rattle.view_folder.proofs.FormLemmas.{written_sound, written_read}
 use Rattle.view_folder.proofs.LaterLemmas.{file_name_csv, same_file, bytes_of_label}

@@ -60,7 +60,7 @@ fn stage<L: Ledger>(
 {
     let change = (left, right);
     let joined = joined(alloc, join, &change, steps)?;
-    let next = net(alloc, joined)?;
+    let next = net(alloc, join.seed(), joined)?;
     sides.push(change)?;
     Ok(next)
 }

@@ -8,7 +8,7 @@ ghost use Rattle.plan_form.specs.Forms.{IsOutputOf};
 use operator_law::{Delta, Signed};
 use plan_form::{Output, fact_row};
 use schema_delta::net;
-use ss_text::NoMemory;
+use ss_text::{NoMemory, Seed};
 use std::alloc::Global;
 
 // Adds how a move of a full row moves its fact row, where the row counts.
@@ -37,12 +37,17 @@ fn fact_moves(alloc: Global, output: &Output, rows: &Delta) -> Result<Delta, NoM
     Ok(Delta { moves })
 }
 
-/// How moves of full rows move their fact rows, in net.
-pub(crate) fn facts(alloc: Global, output: &Output, rows: &Delta) -> Result<Delta, NoMemory>
+/// How moves of full rows move their fact rows, in net. These are hashed by a seed.
+pub(crate) fn facts(
+    alloc: Global,
+    seed: Seed,
+    output: &Output,
+    rows: &Delta,
+) -> Result<Delta, NoMemory>
     ensures same { (q : Query) → IsOutputOf q output.now → IfOk result (SameNet (fact_moves q rows.now)) }
     ensures net { IfOk result IsNet }
 {
     let moves = fact_moves(alloc, output, rows)?;
-    let facts = net(alloc, moves)?;
+    let facts = net(alloc, seed, moves)?;
     Ok(facts)
 }

@@ -8,7 +8,7 @@ ghost use Rattle.plan_translate.specs.Parts.{passing, each_passing, own_tests};
 use operator_law::Delta;
 use plan_form::{Equal, passes};
 use schema_delta::each_net;
-use ss_text::NoMemory;
+use ss_text::{NoMemory, Seed};
 use std::alloc::Global;
 
 // The moves of rows that pass.
@@ -41,9 +41,10 @@ fn each_passing(
     Ok(own)
 }
 
-/// The moves of each declaration's flat rows that pass its tests, in net.
+/// The moves of each declaration's flat rows that pass its tests, in net. These are hashed by a seed.
 pub(crate) fn own_moves(
     alloc: Global,
+    seed: Seed,
     tests: &[Vec<Equal>],
     deltas: Vec<Delta>,
 ) -> Result<Vec<Delta>, NoMemory>
@@ -52,7 +53,7 @@ pub(crate) fn own_moves(
     ensures net { IfOk result (λ own. AllByRecursion IsNet own.items) }
     ensures each { IfOk result (λ own. length own.items ≡ length tests.now) }
 {
-    let nets = each_net(alloc, deltas)?;
+    let nets = each_net(alloc, seed, deltas)?;
     let own = each_passing(alloc, tests, nets)?;
     Ok(own)
 }

@@ -6,27 +6,27 @@ ghost use Rattle.plan_translate.specs.Parts.{fresh_join};
 use join_delta::{Join, KeyPlaces};
 use plan_form::{Base, Equal};
 use schema_delta::FlatSpec;
-use ss_text::NoMemory;
+use ss_text::{NoMemory, Seed};
 use std::alloc::Global;
 
 // The join with a declaration, which keeps no rows.
-fn join_of(alloc: Global, base: &Base) -> Result<Join, NoMemory>
+fn join_of(alloc: Global, seed: Seed, base: &Base) -> Result<Join, NoMemory>
     ensures { IfOk result (λ join. join ≡ fresh_join base.now) }
 {
     let left = KeyPlaces::of(alloc, &base.left_key)?;
     let right = KeyPlaces::of(alloc, &base.right_key)?;
-    let join = Join::new(alloc, left, right)?;
+    let join = Join::new(alloc, seed, left, right)?;
     Ok(join)
 }
 
-/// The joins with all declarations behind the first.
-pub(crate) fn joins_of(alloc: Global, bases: &[Base]) -> Result<Vec<Join>, NoMemory>
+/// The joins with all declarations behind the first, which hash by a seed.
+pub(crate) fn joins_of(alloc: Global, seed: Seed, bases: &[Base]) -> Result<Vec<Join>, NoMemory>
     ensures { IfOk result (λ joins. joins.items ≡ map fresh_join (drop 1 bases.now)) }
 {
     let mut joins = Vec::new(alloc);
     if let [_first, further @ ..] = bases {
         for base in further {
-            joins.push(join_of(alloc, base)?)?;
+            joins.push(join_of(alloc, seed, base)?)?;
         }
     }
     Ok(joins)

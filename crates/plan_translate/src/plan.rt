@@ -19,7 +19,7 @@ use operator_law::Delta;
 use plan_form::{Equal, Form, Output, form_of};
 use schema_delta::FlatSpec;
 use schema_model::Catalogue;
-use ss_text::{NoMemory, Steps};
+use ss_text::{NoMemory, Seed, Steps};
 use std::alloc::Global;
 use std::marker::Model;
 use std::snapshot::Snapshot;
@@ -75,15 +75,15 @@ impl Model for Plan {
     ghost invariant = { IsPlan };
 }
 
-/// The plan of a view, which keeps nothing.
-pub fn translate(alloc: Global, view: &View) -> Result<Plan, NoMemory>
+/// The plan of a view, which keeps nothing. What it will keep is hashed by a seed.
+pub fn translate(alloc: Global, seed: Seed, view: &View) -> Result<Plan, NoMemory>
     requires { IsViewOfProfile (query_of view.now) }
     ensures view { IfOk result (λ plan. plan.view ≡ view.now) }
     ensures fresh { IfOk result IsFresh }
     ensures none { IfOk result (λ plan. plan.waiting ≡ None) }
 {
     let Form { bases, output } = form_of(alloc, view)?;
-    let joins = joins_of(alloc, &bases)?;
+    let joins = joins_of(alloc, seed, &bases)?;
     let (specs, tests) = asked(alloc, bases)?;
     let reads = reads_rows(&specs);
     Ok(Plan {
@@ -113,12 +113,12 @@ impl Plan {
             (c' : CatalogueValue) → FlatMoved c c' (query_in self.now) deltas.items → PlanStands c self.now → CountsWalk c c' (query_in self.now) steps.old steps.new }
         ensures rises { steps.old ≤ steps.new }
     {
-        let (first, further) = self.own_moves(alloc, deltas)?;
+        let (first, further) = self.own_moves(alloc, catalogue.seed(), deltas)?;
         let mut walk = self.walk_over(alloc, catalogue, first, further, steps)?;
         if self.reads {
             keep_left(alloc, &mut walk.sides);
         }
-        let facts = facts(alloc, &self.output, &walk.out)?;
+        let facts = facts(alloc, catalogue.seed(), &self.output, &walk.out)?;
         Ok(PlanMove {
             sides: walk.sides,
             facts,

@@ -17,7 +17,7 @@ use crate::own::own_moves;
 use crate::{Plan, WalkMoves, walk};
 use operator_law::Delta;
 use schema_model::Catalogue;
-use ss_text::{NoMemory, Steps};
+use ss_text::{NoMemory, Seed, Steps};
 use std::alloc::Global;
 use std::sync::ledger::Ledger;
 
@@ -48,6 +48,7 @@ impl Plan {
     pub(crate) fn own_moves(
         &self,
         alloc: Global,
+        seed: Seed,
         deltas: Vec<Delta>,
     ) -> Result<(Delta, Vec<Delta>), NoMemory>
         requires { length deltas.items ≡ length (specs_from (query_in self.now) 0 (query_in self.now).decls) }
@@ -57,7 +58,7 @@ impl Plan {
         ensures net { IfOk result (λ r. IsNet r.0 × AllByRecursion IsNet r.1.items) }
         ensures each { let q = query_in self.now in IfOk result (λ r. length r.1.items ≡ length (plan_joints q q.decls)) }
     {
-        let own = own_moves(alloc, &self.tests, deltas)?;
+        let own = own_moves(alloc, seed, &self.tests, deltas)?;
         Ok(split(own))
     }
 

@@ -1,7 +1,7 @@
 -- The cells of a row under names.
 use Rattle.std.proofs.Common.{◌≡◌, ◌||◌, ◌∙◌, ◌+◌, Bool, true, false, List, [], ◌∷◌, ◌++◌, Some, length, map, refl, sym, ap, arith}
-use Rattle.std.specs.Prelude.{◌&&◌, nat_lt, bytes_eq}
-use Rattle.std.specs.List.{position_or_len, list_all, AllByRecursion, IsDistinct}
+use Rattle.std.specs.Prelude.{◌&&◌, bytes_eq}
+use Rattle.std.specs.List.{list_all, AllByRecursion, IsDistinct}
 use Rattle.ss_text.specs.Texts.{Text, Row, text_eq, is_in}
 use Rattle.ss_text.proofs.KeyLemmas.{text_order, equal_itself}
 use Rattle.ss_text.proofs.PairLemmas.{turned}
@@ -9,14 +9,7 @@ use Rattle.ss_text.proofs.GroupLemmas.{map_agree}
 use Rattle.valuation_meaning.specs.Elements.{cell_under}
 use Rattle.valuation_meaning.specs.Meaning.{given}
 use Rattle.valuation_meaning.specs.Orders.{text_under, row_under}
-use Rattle.view_stack.proofs.SaysLemmas.{one_more}
-use Rattle.view_stack.proofs.StandsLemmas.{first_there, one_later, next_place}
-
-pub cell_here : (x : Text) (ns : Row) (cell : Text) (row : Row) (a : Text) → text_eq a x ≡ true → cell_under (x ∷ ns) a (cell ∷ row) ≡ Some cell
-cell_here x ns cell row a e = rw (e, first_there (length ns)) refl
-
-pub cell_later : (x : Text) (ns : Row) (cell : Text) (row : Row) (a : Text) → text_eq a x ≡ false → cell_under (x ∷ ns) a (cell ∷ row) ≡ cell_under ns a row
-cell_later x ns cell row a e = rw (e, one_more, one_later (position_or_len (text_eq a) ns) (length ns)) (next_place (nat_lt (position_or_len (text_eq a) ns) (length ns)) (position_or_len (text_eq a) ns) cell row)
+use Rattle.valuation_meaning.proofs.OrderLemmas.{cell_here, cell_later}
 
 -- a row that fits has a cell under each of its names
 pub cell_there : (ns row : Row) (a : Text) → length row ≡ length ns → is_in a ns ≡ true → cell_under ns a row ≡ Some (text_under ns row a)

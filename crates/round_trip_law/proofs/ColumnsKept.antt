@@ -15,12 +15,14 @@ use Rattle.flow_law.proofs.FactTableLemmas.{constant_tables}
 use Rattle.valuation_meaning.specs.Elements.{cell_under}
 use Rattle.valuation_meaning.specs.Meaning.{given, facts, shape_of, meaning}
 use Rattle.valuation_meaning.specs.Orders.{text_under, row_under}
-use Rattle.view_stack.specs.Stands.{spliced, records_of, catalogue_for, given_by}
+use Rattle.view_stack.specs.Stands.{catalogue_for, given_by}
+use Rattle.flow_law.specs.Records.{spliced, row_records}
 use Rattle.round_trip_law.specs.Forms.{Named, Parts, Source, from_columns, to_columns}
 use Rattle.round_trip_law.specs.Kept.{has_text, says}
-use Rattle.round_trip_law.proofs.CellLemmas.{cell_here, cell_later, cell_behind, own_texts, mapped_twice}
+use Rattle.round_trip_law.proofs.CellLemmas.{cell_behind, own_texts, mapped_twice}
+use Rattle.valuation_meaning.proofs.OrderLemmas.{cell_here, cell_later, In, in_all, in_any, in_append, append_in, in_map, map_in, in_kept, kept_in, flat_in, in_flat}
 use Rattle.round_trip_law.proofs.Entries.{Entry, AreFull, column_fact, said}
-use Rattle.round_trip_law.proofs.Members.{In, all_by, in_all, list_all_by, in_any, in_append, append_in, in_map, map_in, in_kept, kept_in, in_ascending, ascending_in, same_by, flat_in, in_flat}
+use Rattle.round_trip_law.proofs.Members.{all_by, list_all_by, in_ascending, ascending_in, same_by}
 use Rattle.round_trip_law.proofs.SourceLemmas.{Fitting, column_entry, column_entries, columns_said}
 use Rattle.round_trip_law.proofs.ValuesAt.{some_clash, own_value, value_of_some, IsOf}
 
@@ -73,7 +75,7 @@ module _ (p : Parts) (to : Named) (es : List Entry) where
         ap length e.2 ∙ in_all (λ (e : Entry). length e.key ≡ length p.keys) e.0 es e.1 full
 
     rows_are : (keys : List Row) → AllByRecursion (λ (key : Row). length key ≡ length p.keys) keys
-        → records_of (Some (length p.keys)) (map (λ (key : Row). let row : Row × Row = (key, map (value_for facts_made key) names_made) in row) keys) ≡ map row_made keys
+        → row_records (Some (length p.keys)) (map (λ (key : Row). let row : Row × Row = (key, map (value_for facts_made key) names_made) in row) keys) ≡ map row_made keys
     rows_are [] h = refl
     rows_are (key ∷ keys) h = λ i. spliced_last (length p.keys) key (map (value_for facts_made key) names_made) h.0 i ∷ rows_are keys h.1 i
 
@@ -87,7 +89,7 @@ module _ (p : Parts) (to : Named) (es : List Entry) where
           let keys : List Row = ascending row_cmp (map (λ (f : Fact). f.key) facts_made) in
           let same_keys : keys ≡ keys_made = ap (ascending row_cmp) (mapped_twice (λ (f : Fact). f.key) (column_fact to) es) in
           ap (catalogue_for to.db (shape_of (to_columns p to s))) tables_are
-          ∙ (λ i. database_value to.db (relation_value to.rel (spliced (Some (length p.keys)) p.keys (ascending text_cmp (names_are es i))) (records_of (Some (length p.keys)) (map (λ (key : Row). let row : Row × Row = (key, map (value_for facts_made key) (ascending text_cmp (names_are es i))) in row) (same_keys i))) ∷ []) ∷ [])
+          ∙ (λ i. database_value to.db (relation_value to.rel (spliced (Some (length p.keys)) p.keys (ascending text_cmp (names_are es i))) (row_records (Some (length p.keys)) (map (λ (key : Row). let row : Row × Row = (key, map (value_for facts_made key) (ascending text_cmp (names_are es i))) in row) (same_keys i))) ∷ []) ∷ [])
           ∙ (λ i. database_value to.db (relation_value to.rel (spliced_last (length p.keys) p.keys names_made refl i) (rows_are keys_made (all_by (λ (key : Row). length key ≡ length p.keys) keys_made key_long) i) ∷ []) ∷ [])
 
   -- ---- read back

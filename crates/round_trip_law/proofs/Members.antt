@@ -1,5 +1,5 @@
 -- The elements of lists: what is in lists that are made of others, and lists that have the same elements.
-use Rattle.std.proofs.Common.{◌≡◌, ◌||◌, ◌∙◌, ◌⊎◌, inl, inr, Bool, true, false, cond, List, [], ◌∷◌, ◌++◌, map, refl, sym, ap, subst}
+use Rattle.std.proofs.Common.{◌≡◌, ◌∙◌, inl, inr, Bool, true, List, [], ◌∷◌, map, refl, sym, subst}
 use Rattle.std.specs.Prelude.{filter, flat_map}
 use Rattle.std.specs.List.{list_any, list_all, AllByRecursion}
 use Rattle.std.specs.declared.cmp.Ordering.{Ordering}
@@ -7,30 +7,9 @@ use Rattle.ss_text.specs.Ascending.{ascending}
 use Rattle.ss_text.proofs.KeyLemmas.{IsKeyOrder, equal_itself, equal_is}
 use Rattle.ss_text.proofs.PairLemmas.{any_ascending}
 use Rattle.ss_text.proofs.SetLemmas.{SameElements}
-use Rattle.view_stack.proofs.SaysLemmas.{or_right}
+use Rattle.valuation_meaning.proofs.OrderLemmas.{In, in_any, any_in, in_map, map_in, flat_in, in_flat, in_kept, kept_in}
 use Rattle.view_stack.proofs.ScriptLemmas.{all_append}
 use Rattle.view_stack.proofs.StandsLemmas.{both_true}
-
-abbrev pub In : {A : Type 0} → A → List A → Type 0
-In x [] = ⊥
-In x (y ∷ ys) = (x ≡ y) ⊎ In x ys
-
-any_or : (b c : Bool) → (b || c) ≡ true → (b ≡ true) ⊎ (c ≡ true)
-any_or true c h = inl refl
-any_or false c h = inr h
-
-pub in_any : {A : Type 0} (p : A → Bool) (x : A) (xs : List A) → In x xs → p x ≡ true → list_any p xs ≡ true
-in_any p x [] i h = absurd i
-in_any p x (y ∷ ys) (inl e) h = ap (λ (b : Bool). b || list_any p ys) (ap p (sym e) ∙ h)
-in_any p x (y ∷ ys) (inr i) h = ap (λ (b : Bool). p y || b) (in_any p x ys i h) ∙ or_right (p y)
-
-pub any_in : {A : Type 0} (p : A → Bool) (xs : List A) → list_any p xs ≡ true → (x : A) × In x xs × (p x ≡ true)
-any_in p [] h = absurd (cc)
-any_in {A} p (y ∷ ys) h = by_first (any_or (p y) (list_any p ys) h) (any_in p ys)
-  where
-    by_first : (p y ≡ true) ⊎ (list_any p ys ≡ true) → (list_any p ys ≡ true → (x : A) × In x ys × (p x ≡ true)) → (x : A) × In x (y ∷ ys) × (p x ≡ true)
-    by_first (inl e) rest = (y, inl refl, e)
-    by_first (inr e) rest = let r = rest e in (r.0, inr r.1, r.2)
 
 -- lists of which each has the elements of the other
 pub same_by : {A : Type 0} (xs ys : List A) → ((x : A) → In x xs → In x ys) → ((x : A) → In x ys → In x xs) → SameElements xs ys
@@ -38,11 +17,6 @@ same_by xs ys f g = record { same = λ p. both_true (list_any p xs) (list_any p 
   where
     half : {A : Type 0} (p : A → Bool) (xs ys : List A) → ((x : A) → In x xs → In x ys) → list_any p xs ≡ true → list_any p ys ≡ true
     half p xs ys f h = let found = any_in p xs h in in_any p found.0 ys (f found.0 found.1) found.2
-
-pub in_all : {A : Type 0} (P : A → Type 0) (x : A) (xs : List A) → In x xs → AllByRecursion P xs → P x
-in_all P x [] i h = absurd i
-in_all P x (y ∷ ys) (inl e) h = subst P (sym e) h.0
-in_all P x (y ∷ ys) (inr i) h = in_all P x ys i h.1
 
 pub all_by : {A : Type 0} (P : A → Type 0) (xs : List A) → ((x : A) → In x xs → P x) → AllByRecursion P xs
 all_by P [] h = tt
@@ -59,60 +33,6 @@ all_flat P f (x ∷ xs) h = all_append P (f x) (flat_map f xs) h.0 (all_flat P f
 pub list_all_by : {A : Type 0} (p : A → Bool) (xs : List A) → ((x : A) → In x xs → p x ≡ true) → list_all p xs ≡ true
 list_all_by p [] h = refl
 list_all_by p (x ∷ xs) h = rw (h x (inl refl)) (list_all_by p xs (λ y i. h y (inr i)))
-
-pub in_map : {A B : Type 0} (f : A → B) (x : A) (xs : List A) → In x xs → In (f x) (map f xs)
-in_map f x [] i = absurd i
-in_map f x (y ∷ ys) (inl e) = inl (ap f e)
-in_map f x (y ∷ ys) (inr i) = inr (in_map f x ys i)
-
-pub map_in : {A B : Type 0} (f : A → B) (y : B) (xs : List A) → In y (map f xs) → (x : A) × In x xs × (y ≡ f x)
-map_in f y [] i = absurd i
-map_in f y (x ∷ xs) (inl e) = (x, inl refl, e)
-map_in f y (x ∷ xs) (inr i) = let r = map_in f y xs i in (r.0, inr r.1, r.2)
-
-pub in_append : {A : Type 0} (x : A) (xs ys : List A) → In x xs ⊎ In x ys → In x (xs ++ ys)
-in_append x [] ys (inl i) = absurd i
-in_append x [] ys (inr i) = i
-in_append x (y ∷ xs) ys (inl (inl e)) = inl e
-in_append x (y ∷ xs) ys (inl (inr i)) = inr (in_append x xs ys (inl i))
-in_append x (y ∷ xs) ys (inr i) = inr (in_append x xs ys (inr i))
-
-pub append_in : {A : Type 0} (x : A) (xs ys : List A) → In x (xs ++ ys) → In x xs ⊎ In x ys
-append_in x [] ys i = inr i
-append_in x (y ∷ xs) ys (inl e) = inl (inl e)
-append_in x (y ∷ xs) ys (inr i) = elim (append_in x xs ys i) [ inl j ↦ inl (inr j) | inr j ↦ inr j ]
-
-pub flat_in : {A B : Type 0} (f : A → List B) (xs : List A) (y : B) → In y (flat_map f xs) → (x : A) × In x xs × In y (f x)
-flat_in f [] y i = absurd i
-flat_in {A} f (x ∷ xs) y i = by_part (append_in y (f x) (flat_map f xs) i) (flat_in f xs y)
-  where
-    by_part : In y (f x) ⊎ In y (flat_map f xs) → (In y (flat_map f xs) → (z : A) × In z xs × In y (f z)) → (z : A) × In z (x ∷ xs) × In y (f z)
-    by_part (inl j) rest = (x, inl refl, j)
-    by_part (inr j) rest = let r = rest j in (r.0, inr r.1, r.2)
-
-pub in_flat : {A B : Type 0} (f : A → List B) (xs : List A) (x : A) (y : B) → In x xs → In y (f x) → In y (flat_map f xs)
-in_flat f [] x y i j = absurd i
-in_flat f (z ∷ xs) x y (inl e) j = in_append y (f z) (flat_map f xs) (inl (subst (λ a. In y (f a)) e j))
-in_flat f (z ∷ xs) x y (inr i) j = in_append y (f z) (flat_map f xs) (inr (in_flat f xs x y i j))
-
-pub in_kept : {A : Type 0} (p : A → Bool) (xs : List A) (x : A) → In x xs → p x ≡ true → In x (filter p xs)
-in_kept p [] x i h = absurd i
-in_kept p (y ∷ ys) x i h = by_first (p y) refl i (λ j. in_kept p ys x j h)
-  where
-    by_first : (b : Bool) → p y ≡ b → (x ≡ y) ⊎ In x ys → (In x ys → In x (filter p ys)) → In x (cond b (y ∷ filter p ys) (filter p ys))
-    by_first true e (inl s) rest = inl s
-    by_first true e (inr j) rest = inr (rest j)
-    by_first false e (inl s) rest = let bad : true ≡ false = sym h ∙ ap p s ∙ e in absurd (cc)
-    by_first false e (inr j) rest = rest j
-
-pub kept_in : {A : Type 0} (p : A → Bool) (xs : List A) (x : A) → In x (filter p xs) → In x xs × (p x ≡ true)
-kept_in p [] x i = absurd i
-kept_in p (y ∷ ys) x i = by_first (p y) refl i (kept_in p ys x)
-  where
-    by_first : (b : Bool) → p y ≡ b → In x (cond b (y ∷ filter p ys) (filter p ys)) → (In x (filter p ys) → In x ys × (p x ≡ true)) → ((x ≡ y) ⊎ In x ys) × (p x ≡ true)
-    by_first true e (inl s) rest = (inl s, ap p s ∙ e)
-    by_first true e (inr j) rest = let r = rest j in (inr r.0, r.1)
-    by_first false e j rest = let r = rest j in (inr r.0, r.1)
 
 -- each once, ascending
 module _ {K : Type 0} {R : K → K → Ordering} {E : K → K → Bool} (o : IsKeyOrder R E) where

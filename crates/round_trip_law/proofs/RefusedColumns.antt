@@ -18,7 +18,7 @@ use Rattle.valuation_meaning.specs.Refusal.{refusal}
 use Rattle.round_trip_law.specs.Forms.{Named, Parts, Source, to_columns}
 use Rattle.round_trip_law.specs.Kept.{is_refused}
 use Rattle.round_trip_law.proofs.Entries.{Entry, column_fact}
-use Rattle.round_trip_law.proofs.Members.{In, in_any}
+use Rattle.valuation_meaning.proofs.OrderLemmas.{In, in_any}
 use Rattle.round_trip_law.proofs.RefusedLemmas.{least_passes, any_mapped}
 use Rattle.round_trip_law.proofs.ValuesAt.{some_clash, conflict_is}
 

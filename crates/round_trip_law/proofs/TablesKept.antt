@@ -15,7 +15,8 @@ use Rattle.view_stack.specs.Stands.{given_by}
 use Rattle.round_trip_law.specs.Forms.{Parts, header, Source, from_tables, to_tables}
 use Rattle.round_trip_law.proofs.CellLemmas.{own_texts, text_next, IsApart, apart}
 use Rattle.round_trip_law.proofs.Entries.{Entry, AreFull, table_fact, said}
-use Rattle.round_trip_law.proofs.Members.{In, all_by, in_all, list_all_by, in_any, in_append, map_in, kept_in, ascending_in, regrouped}
+use Rattle.round_trip_law.proofs.Members.{all_by, list_all_by, ascending_in, regrouped}
+use Rattle.valuation_meaning.proofs.OrderLemmas.{In, in_all, in_any, in_append, map_in, kept_in}
 use Rattle.round_trip_law.proofs.SourceLemmas.{HasRest, table_entry, table_entries, tables_said}
 use Rattle.round_trip_law.proofs.TargetLemmas.{rest, table_of_name, names_of, tables_made, names_ascend}
 

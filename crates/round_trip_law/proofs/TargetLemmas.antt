@@ -12,14 +12,15 @@ use Rattle.flow_law.specs.Labelled.{AllBear}
 use Rattle.flow_law.specs.Tables.{TableValue}
 use Rattle.flow_law.proofs.FactTableLemmas.{constant_tables, variable_tables}
 use Rattle.valuation_meaning.specs.Meaning.{facts, shape_of, meaning}
-use Rattle.view_stack.specs.Stands.{records_of, relation_for, catalogue_for, given_by}
+use Rattle.view_stack.specs.Stands.{relation_for, catalogue_for, given_by}
+use Rattle.flow_law.specs.Records.{row_records}
 use Rattle.round_trip_law.specs.Forms.{Named, Parts, header, Source, to_values, to_tables}
 use Rattle.round_trip_law.specs.Kept.{alone}
 use Rattle.round_trip_law.proofs.CellLemmas.{mapped_twice}
 use Rattle.round_trip_law.proofs.Entries.{Entry, entry_row, value_fact}
 
 -- records without a variable column are the keys
-keys_back : (g : Row → Row) (ks : List Row) → records_of None (map (λ (k : Row). let row : Row × Row = (k, g k) in row) ks) ≡ ks
+keys_back : (g : Row → Row) (ks : List Row) → row_records None (map (λ (k : Row). let row : Row × Row = (k, g k) in row) ks) ≡ ks
 keys_back g [] = refl
 keys_back g (k ∷ ks) = ap (λ (rest : List Row). k ∷ rest) (keys_back g ks)
 

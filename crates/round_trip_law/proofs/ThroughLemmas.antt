@@ -28,7 +28,8 @@ use Rattle.round_trip_law.specs.Kept.{alone}
 use Rattle.round_trip_law.specs.Law.{IsThroughValues, AreThroughValues, ThroughValues}
 use Rattle.round_trip_law.proofs.CellLemmas.{own_texts, text_next, text_last, IsApart, apart}
 use Rattle.round_trip_law.proofs.Entries.{Entry, AreFull, entry_row, value_fact, column_fact, table_fact, counted, entry_of, said, AreNamed, Makes, makes_values, makes_columns, makes_tables, facts_are}
-use Rattle.round_trip_law.proofs.Members.{all_by, in_all, list_all_by, in_any, map_in, in_ascending, ascending_in, same_by}
+use Rattle.round_trip_law.proofs.Members.{all_by, list_all_by, in_ascending, ascending_in, same_by}
+use Rattle.valuation_meaning.proofs.OrderLemmas.{in_all, in_any, map_in}
 use Rattle.round_trip_law.proofs.SourceLemmas.{among, row_entry, values_said, values_named, columns_named, tables_named}
 use Rattle.round_trip_law.proofs.TargetLemmas.{values_made}
 

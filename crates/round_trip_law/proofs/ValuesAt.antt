@@ -19,7 +19,8 @@ use Rattle.view_stack.proofs.StandsLemmas.{both_true}
 use Rattle.round_trip_law.specs.Forms.{Named}
 use Rattle.round_trip_law.specs.Kept.{has_text}
 use Rattle.round_trip_law.proofs.Entries.{Entry, column_fact}
-use Rattle.round_trip_law.proofs.Members.{In, in_any, any_in, in_map, map_in, in_kept, kept_in, in_ascending, ascending_in}
+use Rattle.round_trip_law.proofs.Members.{in_ascending, ascending_in}
+use Rattle.valuation_meaning.proofs.OrderLemmas.{In, in_any, any_in, in_map, map_in, in_kept, kept_in}
 
 -- ---- texts that are not empty
 some_long : (t : Text) → not (length t == 0) ≡ has_text t

@@ -17,7 +17,8 @@ use Rattle.round_trip_law.specs.Kept.{there_and_back, is_refused, says, kept_nam
 use Rattle.round_trip_law.specs.Law.{HasKeys, IsThroughValues, ValuesKeepTexts}
 use Rattle.round_trip_law.proofs.ColumnsKept.{facts_made, row_made, columns_made}
 use Rattle.round_trip_law.proofs.Entries.{Entry, AreFull, column_fact, facts_are, makes_columns}
-use Rattle.round_trip_law.proofs.Members.{all_by, map_in, flat_in}
+use Rattle.round_trip_law.proofs.Members.{all_by}
+use Rattle.valuation_meaning.proofs.OrderLemmas.{map_in, flat_in}
 use Rattle.round_trip_law.proofs.RefusedColumns.{columns_refused}
 use Rattle.round_trip_law.proofs.SourceLemmas.{column_entry, column_entries, columns_said, columns_named}
 use Rattle.round_trip_law.proofs.RelationLemmas.{relation_fits}

@@ -15,7 +15,8 @@ use Rattle.round_trip_law.specs.Forms.{Named, Parts}
 use Rattle.round_trip_law.specs.Kept.{has_text, says, kept_names, kept_keys, text_for, clash_under, some_clash_under}
 use Rattle.round_trip_law.proofs.ColumnsKept.{facts_made, names_made, keys_made}
 use Rattle.round_trip_law.proofs.Entries.{Entry}
-use Rattle.round_trip_law.proofs.Members.{In, in_any, any_in, in_map, map_in, in_kept, kept_in, in_ascending, ascending_in, same_by, flat_in, in_flat}
+use Rattle.round_trip_law.proofs.Members.{in_ascending, ascending_in, same_by}
+use Rattle.valuation_meaning.proofs.OrderLemmas.{In, in_any, any_in, in_map, map_in, in_kept, kept_in, flat_in, in_flat}
 use Rattle.round_trip_law.proofs.RefusedColumns.{some_illegal}
 use Rattle.round_trip_law.proofs.RefusedLemmas.{any_mapped}
 use Rattle.round_trip_law.proofs.SourceLemmas.{column_entry, column_entries}

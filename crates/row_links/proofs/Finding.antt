@@ -5,6 +5,7 @@ use Rattle.std.specs.Option.{option_eq}
 use Rattle.std.specs.Cmp.Lexicographic.{pointwise_decides, bytes_decides}
 use Rattle.std.proofs.lemmas.Bool.{eq-eqb}
 use Rattle.ss_text.specs.Texts.{Row, Text, row_eq}
+use Rattle.ss_text.specs.declared.seed.Seed.{Seed}
 use borrow.Author.Tests.{ltb-true}
 use Rattle.slab.specs.Slab.{Slab, slab_len}
 use Rattle.row_links.specs.declared.link.Link.{Link}
@@ -12,7 +13,8 @@ use Rattle.row_links.specs.declared.chain.Chain.{Chain}
 use Rattle.row_links.specs.Links.{IsPath, IsOnce, first_or, after_at}
 use Rattle.row_links.specs.Chained.{Placed, IsChained, places, places_of}
 use Rattle.row_links.specs.AllChains.{marked, key_lists}
-use Rattle.row_links.specs.Parts.{whole, same_cells, mark_of}
+use Rattle.row_links.specs.Parts.{whole, same_cells}
+use Rattle.row_links.specs.Marks.{mark_of}
 use Rattle.row_links.specs.Live.{AreStored, first_place, following, at_place}
 use Rattle.row_links.proofs.Halfway.{key_at, length-key_lists}
 use Rattle.row_links.proofs.Marked.{own_chain}
@@ -31,8 +33,8 @@ some_decides (Some x) (Some y) = (λ e. ap Some ((bytes_decides x y).0 e), λ e.
 pub cells_equal : (a b : List (Option Text)) → same_cells a b ≡ true → a ≡ b
 cells_equal a b e = (pointwise_decides some_decides a b).0 e
 
-pub same_mark : (a b : List (Option Text)) → same_cells a b ≡ true → mark_of a ≡ mark_of b
-same_mark a b e = ap mark_of (cells_equal a b e)
+pub same_mark : (seed : Seed) (a b : List (Option Text)) → same_cells a b ≡ true → mark_of seed a ≡ mark_of seed b
+same_mark seed a b e = ap (mark_of seed) (cells_equal a b e)
 
 pub whole_same : (a b : Row) → same_cells (whole a) (whole b) ≡ row_eq a b
 whole_same [] [] = refl

@@ -3,6 +3,7 @@ use Rattle.std.proofs.Common.{◌≡◌, ℕ, ◌+◌, ◌<◌, ◌≤◌, List,
 use Rattle.std.proofs.lemmas.Bool.{cases_lt}
 use Rattle.std.proofs.lemmas.Option.{slice_get_within}
 use Rattle.ss_text.specs.Texts.{Row}
+use Rattle.ss_text.specs.declared.seed.Seed.{Seed}
 use Rattle.row_links.specs.declared.chain.Chain.{Chain}
 use Rattle.row_links.specs.declared.chains.Chains.{Chains}
 use Rattle.row_links.specs.Links.{IsChain, IsAbsent, IsOnce}
@@ -29,18 +30,18 @@ module _ (place : ℕ) (row : Row) (keys : List (List ℕ)) where
       subst (IsChained now) (sym (marked_append f live ((place, row) ∷ [])))
       (adds (marked f live) h (subst (IsAbsent place) (sym (places_marked f live)) absent) (subst IsOnce (sym (places_marked f live)) once))
 
-  pub all_added : (old new : Chains) (live : Placed) → IsChain new.order.items 0 (places live ++ place ∷ []) new.ends → ((marks : List (ℕ × ℕ)) → IsChained old.same marks → IsAbsent place (places marks) → IsOnce (places marks) → IsChained new.same (marks ++ (place, by_row row) ∷ [])) → Each (AddsByKey keys place row) old.keyed.items new.keyed.items → IsAbsent place (places live) → IsOnce (places live) → AllChained old keys live → AllChained new keys (live ++ (place, row) ∷ [])
-  all_added old new live order same each absent once h = record {
+  pub all_added : (old new : Chains) (live : Placed) → new.seed ≡ old.seed → IsChain new.order.items 0 (places live ++ place ∷ []) new.ends → ((marks : List (ℕ × ℕ)) → IsChained old.same marks → IsAbsent place (places marks) → IsOnce (places marks) → IsChained new.same (marks ++ (place, by_row old.seed row) ∷ [])) → Each (AddsByKey old.seed keys place row) old.keyed.items new.keyed.items → IsAbsent place (places live) → IsOnce (places live) → AllChained old keys live → AllChained new keys (live ++ (place, row) ∷ [])
+  all_added old new live seeds order same each absent once h = record {
     order = subst (λ (ps : List ℕ). IsChain new.order.items 0 ps new.ends) (sym (places_append live ((place, row) ∷ []))) order;
-    same = added_by by_row live old.same new.same same absent once h.same;
+    same = subst (λ (s : Seed). IsChained new.same (marked (by_row s) (live ++ (place, row) ∷ []))) (sym seeds) (added_by (by_row old.seed) live old.same new.same same absent once h.same);
     keyed = λ i now key e k.
         let was = each.each i now e in
         let its : was.2.0 ≡ key = (let k2 : slice_get keys i ≡ Some was.2.0 = was.2.1 in cc) in
-        let adds : Adds key place row was.0 now = subst (λ (ks : List ℕ). Adds ks place row was.0 now) its was.2.2 in
-        added_by (by_cells key) live was.0 now adds.chained absent once (h.keyed i was.0 key was.1 k);
+        let adds : Adds old.seed key place row was.0 now = subst (λ (ks : List ℕ). Adds old.seed ks place row was.0 now) its was.2.2 in
+        subst (λ (s : Seed). IsChained now (marked (by_cells s key) (live ++ (place, row) ∷ []))) (sym seeds) (added_by (by_cells old.seed key) live was.0 now adds.chained absent once (h.keyed i was.0 key was.1 k));
   }
 
-  pub room_left : (old new : Chains) → length new.order.items ≡ length old.order.items → ((a b : ℕ) → HasRoom old.same a (b + 1) → HasRoom new.same a b) → Each (AddsByKey keys place row) old.keyed.items new.keyed.items → (a b : ℕ) → AllHaveRoom old a (b + 1) → AllHaveRoom new a b
+  pub room_left : (old new : Chains) → length new.order.items ≡ length old.order.items → ((a b : ℕ) → HasRoom old.same a (b + 1) → HasRoom new.same a b) → Each (AddsByKey old.seed keys place row) old.keyed.items new.keyed.items → (a b : ℕ) → AllHaveRoom old a (b + 1) → AllHaveRoom new a b
   room_left old new order same each a b h = record {
     order = (let l = h.order in omega arith);
     same = same a b h.same;
@@ -54,16 +55,16 @@ module _ (place : ℕ) (row : Row) (keys : List (List ℕ)) where
       let once2 : IsOnce (places (marked f earlier ++ (place, f row) ∷ marked f later)) = subst (λ (ms : List (ℕ × ℕ)). IsOnce (places ms)) split (subst IsOnce (sym (places_marked f (earlier ++ (place, row) ∷ later))) once) in
       subst (IsChained now) (sym (marked_append f earlier later)) (takes (f row) (marked f earlier) (marked f later) (subst (IsChained was) split h) once2)
 
-  pub all_taken : (old new : Chains) (earlier later : Placed) → (IsChain old.order.items 0 (places earlier ++ place ∷ places later) old.ends → IsOnce (places earlier ++ place ∷ places later) → IsChain new.order.items 0 (places earlier ++ places later) new.ends) → ((m : ℕ) (xs ys : List (ℕ × ℕ)) → IsChained old.same (xs ++ (place, m) ∷ ys) → IsOnce (places (xs ++ (place, m) ∷ ys)) → IsChained new.same (xs ++ ys)) → Each (TakesFrom place) old.keyed.items new.keyed.items → IsOnce (places (earlier ++ (place, row) ∷ later)) → AllChained old keys (earlier ++ (place, row) ∷ later) → AllChained new keys (earlier ++ later)
-  all_taken old new earlier later order same each once h =
+  pub all_taken : (old new : Chains) (earlier later : Placed) → new.seed ≡ old.seed → (IsChain old.order.items 0 (places earlier ++ place ∷ places later) old.ends → IsOnce (places earlier ++ place ∷ places later) → IsChain new.order.items 0 (places earlier ++ places later) new.ends) → ((m : ℕ) (xs ys : List (ℕ × ℕ)) → IsChained old.same (xs ++ (place, m) ∷ ys) → IsOnce (places (xs ++ (place, m) ∷ ys)) → IsChained new.same (xs ++ ys)) → Each (TakesFrom place) old.keyed.items new.keyed.items → IsOnce (places (earlier ++ (place, row) ∷ later)) → AllChained old keys (earlier ++ (place, row) ∷ later) → AllChained new keys (earlier ++ later)
+  all_taken old new earlier later seeds order same each once h =
       let split = places_append earlier ((place, row) ∷ later) in
       record {
         order = subst (λ (ps : List ℕ). IsChain new.order.items 0 ps new.ends) (sym (places_append earlier later))
             (order (subst (λ (ps : List ℕ). IsChain old.order.items 0 ps old.ends) split h.order) (subst IsOnce split once));
-        same = taken_by by_row earlier later old.same new.same same once h.same;
+        same = subst (λ (s : Seed). IsChained new.same (marked (by_row s) (earlier ++ later))) (sym seeds) (taken_by (by_row old.seed) earlier later old.same new.same same once h.same);
         keyed = λ i now key e k.
             let was = each.each i now e in
-            taken_by (by_cells key) earlier later was.0 now was.2.chained once (h.keyed i was.0 key was.1 k);
+            subst (λ (s : Seed). IsChained now (marked (by_cells s key) (earlier ++ later))) (sym seeds) (taken_by (by_cells old.seed key) earlier later was.0 now was.2.chained once (h.keyed i was.0 key was.1 k));
       }
 
   -- how the chains hold a live row
@@ -100,14 +101,14 @@ keyed_each old mid new h each i now e =
       | inr w ↦ inr (w.0, m.2 [] w.1)
     ]
 
-pub all_kept : (old new : Chains) (lists : List (List ℕ)) (live : Placed) (count : ℕ) → IsLonger old.order.items new.order.items → new.ends ≡ old.ends → ((marks : List (ℕ × ℕ)) → IsChained old.same marks → IsChained new.same marks) → KeyedStay old.keyed.items new.keyed.items → length new.keyed.items ≤ count → (length old.keyed.items < count → live ≡ []) → AllChained old lists live → AllChained new lists live
-all_kept old new lists live count longer ends same keyed few none h = record {
+pub all_kept : (old new : Chains) (lists : List (List ℕ)) (live : Placed) (count : ℕ) → new.seed ≡ old.seed → IsLonger old.order.items new.order.items → new.ends ≡ old.ends → ((marks : List (ℕ × ℕ)) → IsChained old.same marks → IsChained new.same marks) → KeyedStay old.keyed.items new.keyed.items → length new.keyed.items ≤ count → (length old.keyed.items < count → live ≡ []) → AllChained old lists live → AllChained new lists live
+all_kept old new lists live count seeds longer ends same keyed few none h = record {
   order = chain_longer old.order.items new.order.items 0 (places live) old.ends new.ends longer ends h.order;
-  same = same (marked by_row live) h.same;
+  same = subst (λ (s : Seed). IsChained new.same (marked (by_row s) live)) (sym seeds) (same (marked (by_row old.seed) live) h.same);
   keyed = λ i now key e k. elim (keyed i now e) [
-    | inl w ↦ w.2 (marked (by_cells key) live) (h.keyed i w.0 key w.1 k)
+    | inl w ↦ subst (λ (s : Seed). IsChained now (marked (by_cells s key) live)) (sym seeds) (w.2 (marked (by_cells old.seed key) live) (h.keyed i w.0 key w.1 k))
     | inr w ↦
         let empty : live ≡ [] = none (let lt = slice_get_within new.keyed.items i now e in omega (arith, w.0)) in
-        subst (λ (es : Placed). IsChained now (marked (by_cells key) es)) (sym empty) w.1
+        subst (λ (es : Placed). IsChained now (marked (by_cells new.seed key) es)) (sym empty) w.1
   ];
 }

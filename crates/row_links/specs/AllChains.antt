@@ -2,11 +2,13 @@
 use Rattle.std.specs.Prelude.{◌≡◌, ℕ, ◌+◌, ◌≤◌, List, [], ◌∷◌, ◌++◌, Some, length, slice_get, Vec}
 use Rattle.std.specs.Global.{Global}
 use Rattle.ss_text.specs.Texts.{Row}
+use Rattle.ss_text.specs.declared.seed.Seed.{Seed}
 use Rattle.row_links.specs.declared.chain.Chain.{Chain}
 use Rattle.row_links.specs.declared.chains.Chains.{Chains}
 use Rattle.row_links.specs.Links.{IsChain, IsAbsent, IsOnce}
 use Rattle.row_links.specs.Chained.{Placed, IsChained, HasRoom, places}
-use Rattle.row_links.specs.Parts.{whole, cells_at, mark_of}
+use Rattle.row_links.specs.Parts.{whole, cells_at}
+use Rattle.row_links.specs.Marks.{mark_of}
 
 -- these rows' places, each with its row's mark
 abbrev pub marked : (Row → ℕ) → Placed → List (ℕ × ℕ)
@@ -14,11 +16,11 @@ marked f [] = []
 marked f (e ∷ es) = (e.0, f e.1) ∷ marked f es
 
 -- the mark of a row's cells, and of those at a key's positions
-abbrev pub by_row : Row → ℕ
-by_row row = mark_of (whole row)
+abbrev pub by_row : Seed → Row → ℕ
+by_row seed row = mark_of seed (whole row)
 
-abbrev pub by_cells : List ℕ → Row → ℕ
-by_cells key row = mark_of (cells_at key row)
+abbrev pub by_cells : Seed → List ℕ → Row → ℕ
+by_cells seed key row = mark_of seed (cells_at key row)
 
 abbrev pub key_lists : List (Vec ℕ Global) → List (List ℕ)
 key_lists [] = []
@@ -27,8 +29,8 @@ key_lists (k ∷ ks) = k.items ∷ key_lists ks
 -- the live rows are chained in their order, by equal rows, and by the cells at each key's positions
 pub record AllChained (c : Chains) (keys : List (List ℕ)) (live : Placed) : Type 0 where
   pub order : IsChain c.order.items 0 (places live) c.ends
-  pub same : IsChained c.same (marked by_row live)
-  pub keyed : (i : ℕ) (chain : Chain) (key : List ℕ) → slice_get c.keyed.items i ≡ Some chain → slice_get keys i ≡ Some key → IsChained chain (marked (by_cells key) live)
+  pub same : IsChained c.same (marked (by_row c.seed) live)
+  pub keyed : (i : ℕ) (chain : Chain) (key : List ℕ) → slice_get c.keyed.items i ≡ Some chain → slice_get keys i ≡ Some key → IsChained chain (marked (by_cells c.seed key) live)
 
 -- places below this number can be chained, and so many more rows
 pub record AllHaveRoom (c : Chains) (below more : ℕ) : Type 0 where
@@ -42,12 +44,12 @@ pub record Each (rel : ℕ → Chain → Chain → Type 0) (old new : List Chain
   pub each : (i : ℕ) (now : Chain) → slice_get new i ≡ Some now → (was : Chain) × (slice_get old i ≡ Some was) × rel i was now
 
 -- a row was added at a place to the chain of a key
-pub record Adds (key : List ℕ) (place : ℕ) (row : Row) (was now : Chain) : Type 0 where
-  pub chained : (marks : List (ℕ × ℕ)) → IsChained was marks → IsAbsent place (places marks) → IsOnce (places marks) → IsChained now (marks ++ (place, by_cells key row) ∷ [])
+pub record Adds (seed : Seed) (key : List ℕ) (place : ℕ) (row : Row) (was now : Chain) : Type 0 where
+  pub chained : (marks : List (ℕ × ℕ)) → IsChained was marks → IsAbsent place (places marks) → IsOnce (places marks) → IsChained now (marks ++ (place, by_cells seed key row) ∷ [])
   pub room : (a b : ℕ) → HasRoom was a (b + 1) → HasRoom now a b
 
-abbrev pub AddsByKey : List (List ℕ) → ℕ → Row → ℕ → Chain → Chain → Type 0
-AddsByKey keys place row i was now = (key : List ℕ) × (slice_get keys i ≡ Some key) × Adds key place row was now
+abbrev pub AddsByKey : Seed → List (List ℕ) → ℕ → Row → ℕ → Chain → Chain → Type 0
+AddsByKey seed keys place row i was now = (key : List ℕ) × (slice_get keys i ≡ Some key) × Adds seed key place row was now
 
 -- a place was taken out of a chain
 pub record TakesFrom (place i : ℕ) (was now : Chain) : Type 0 where

@@ -1,10 +1,7 @@
 -- The part of a row that a chain goes by.
-use Rattle.std.specs.Prelude.{ℕ, List, Bool, Option, Some, map, fold, slice_get, bytes_eq}
+use Rattle.std.specs.Prelude.{ℕ, List, Bool, Option, Some, map, slice_get, bytes_eq}
 use Rattle.std.specs.Cmp.Lexicographic.{pointwise}
 use Rattle.std.specs.Option.{option_eq}
-use Rattle.std.specs.Hash as fed
-use Rattle.std.specs.Hash.FoldHasher as folding
-use Rattle.std.specs.declared.hash.FoldHasher.{FoldHasher}
 use Rattle.ss_text.specs.Texts.{Row, Text}
 use Rattle.row_links.specs.declared.part.Part.{Part}
 use Rattle.row_links.specs.declared.part.Part.TheVariants.{Whole, Cells}
@@ -23,11 +20,3 @@ picked (Cells positions) row = cells_at positions.now row
 
 abbrev pub same_cells : List (Option Text) → List (Option Text) → Bool
 same_cells a b = pointwise (option_eq bytes_eq) a b
-
--- the hasher's state after one more cell
-abbrev pub write_cell : FoldHasher → Option Text → FoldHasher
-write_cell state cell = fold folding.write state (fed.option (fed.slice fed.u8) cell)
-
--- the number that these cells share
-abbrev pub mark_of : List (Option Text) → ℕ
-mark_of cells = folding.finish (fold write_cell folding.initial cells)

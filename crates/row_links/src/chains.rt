@@ -8,11 +8,12 @@ ghost use Rattle.row_links.specs.AllChains.{AllChained, AllHaveRoom, AddsByKey, 
 use crate::chain::{Chain, grow};
 use crate::link::{Ends, Link, append, take_from};
 use crate::part::{Part, mark};
-use ss_text::{NoMemory, Row};
+use ss_text::{NoMemory, Row, Seed};
 use std::alloc::Global;
 
-/// The chains of some rows.
+/// The chains of some rows, and the seed of their marks.
 pub(crate) struct Chains {
+    pub seed: Seed,
     pub order: Vec<Link>,
     pub ends: Option<Ends>,
     pub same: Chain,
@@ -22,6 +23,7 @@ pub(crate) struct Chains {
 impl Drop for Chains {
     fn drop(self) {
         let Chains {
+            seed: _,
             order,
             ends: _,
             same,
@@ -35,12 +37,13 @@ impl Drop for Chains {
 
 impl Chains {
     /// No chains yet.
-    pub(crate) fn new(alloc: Global) -> Chains
+    pub(crate) fn new(alloc: Global, seed: Seed) -> Chains
         ensures chained { (keys : List (List ℕ)) → AllChained result keys [] }
         ensures none { length result.keyed.items ≡ 0 }
         ensures no_ends { result.ends ≡ None }
     {
         Chains {
+            seed,
             order: Vec::new(alloc),
             ends: None,
             same: Chain::new(alloc),
@@ -59,8 +62,8 @@ impl Chains {
         ensures count { length self.new.keyed.items ≡ length self.old.keyed.items }
     {
         self.ends = Some(append(&mut self.order, self.ends, place, 0));
-        self.same.add(place, mark(Part::Whole, row));
-        add_to_each(&mut self.keyed, keys, place, row);
+        self.same.add(place, mark(self.seed, Part::Whole, row));
+        add_to_each(&mut self.keyed, self.seed, keys, place, row);
     }
 
     /// Takes the row at a place out of its chains.
@@ -126,14 +129,14 @@ fn reserve_each(chains: &mut Vec<Chain>, below: usize, more: usize) -> Result<()
 }
 
 // Adds a row to the chain of each key.
-fn add_to_each(chains: &mut Vec<Chain>, keys: &Vec<Vec<usize>>, place: usize, row: &Row)
+fn add_to_each(chains: &mut Vec<Chain>, seed: Seed, keys: &Vec<Vec<usize>>, place: usize, row: &Row)
     requires count { length chains.old.items ≤ length keys.now.items }
     requires room { (i : ℕ) (was : Chain) → slice_get chains.old.items i ≡ Some was → HasRoom was (place + 1) 1 }
     requires chained { (i : ℕ) (was : Chain) → slice_get chains.old.items i ≡ Some was → (marks : List (ℕ × ℕ)) × IsChained was marks }
-    ensures added { Each (AddsByKey (key_lists keys.now.items) place row.now) chains.old.items chains.new.items }
+    ensures added { Each (AddsByKey seed (key_lists keys.now.items) place row.now) chains.old.items chains.new.items }
 {
     for i in 0..chains.len() {
-        chains[i].add(place, mark(Part::Cells(&keys[i]), row));
+        chains[i].add(place, mark(seed, Part::Cells(&keys[i]), row));
     }
 }
 

@@ -11,7 +11,7 @@ use crate::chains::Chains;
 use crate::part::{Part, mark};
 use crate::seek::{after, has_more, seek};
 use slab::Slab;
-use ss_text::{NoMemory, Row, Steps};
+use ss_text::{NoMemory, Row, Seed, Steps};
 use std::alloc::Global;
 use std::marker::Model;
 use std::mem;
@@ -56,29 +56,34 @@ impl Model for Linked {
 }
 
 impl Linked {
-    /// No rows, to be found by the cells at each of these lists of positions.
-    pub fn new(alloc: Global, keys: Vec<Vec<usize>>) -> Linked
+    /// No rows, to be found by the cells at each of these lists of positions, which are hashed by a seed.
+    pub fn new(alloc: Global, seed: Seed, keys: Vec<Vec<usize>>) -> Linked
         ensures { result ≡ record { keys = key_lists keys.items; live = []; waiting = [] } }
     {
         Linked {
             keys,
             rows: Slab::new(alloc),
-            chains: Chains::new(alloc),
+            chains: Chains::new(alloc, seed),
             waiting: Vec::new(alloc),
         }
     }
 
     /// The rows of a list, which are taken out of it, in its order and without keys. Where there is no memory the list
     /// keeps them.
-    pub fn of_rows(alloc: Global, rows: &mut Vec<Row>) -> Result<Linked, NoMemory>
+    pub fn of_rows(alloc: Global, seed: Seed, rows: &mut Vec<Row>) -> Result<Linked, NoMemory>
         ensures live { IfOk result (λ linked. rows_alone linked.live ≡ rows.old.items) }
         ensures kept { OnErr result (rows.new ≡ rows.old) }
     {
         let count = rows.len();
-        let mut linked = Linked::new(alloc, Vec::new(alloc));
+        let mut linked = Linked::new(alloc, seed, Vec::new(alloc));
         linked.reserve_moved(alloc, rows)?;
         add_all(&mut linked, count);
         Ok(linked)
+    }
+
+    /// The seed by which they are hashed.
+    pub fn seed(&self) -> Seed {
+        self.chains.seed
     }
 
     /// The number of live rows.
@@ -120,7 +125,10 @@ impl Linked {
         ensures found { result ≡ first_place (rows_like row.now self.now.live) }
         ensures once { IsOnce (places self.now.live) }
     {
-        let from = self.chains.same.first(mark(Part::Whole, row));
+        let from = self
+            .chains
+            .same
+            .first(mark(self.chains.seed, Part::Whole, row));
         seek(
             &self.rows,
             &self.chains.same.links,
@@ -135,7 +143,10 @@ impl Linked {
     pub fn has_more_like(&self, row: &Row, count: u128) -> bool
         ensures { result ≡ nat_lt count (length (rows_like row.now self.now.live)) }
     {
-        let from = self.chains.same.first(mark(Part::Whole, row));
+        let from = self
+            .chains
+            .same
+            .first(mark(self.chains.seed, Part::Whole, row));
         has_more(&self.rows, &self.chains.same.links, from, row, count)
     }
 
@@ -148,7 +159,7 @@ impl Linked {
             Some(chain) => seek(
                 &self.rows,
                 &chain.links,
-                chain.first(mark(Part::Whole, value)),
+                chain.first(mark(self.chains.seed, Part::Whole, value)),
                 Part::Cells(&self.keys[key]),
                 Part::Whole,
                 value,
@@ -167,7 +178,7 @@ impl Linked {
             Some(chain) => seek(
                 &self.rows,
                 &chain.links,
-                chain.first(mark(Part::Cells(positions), row)),
+                chain.first(mark(self.chains.seed, Part::Cells(positions), row)),
                 Part::Cells(&self.keys[key]),
                 Part::Cells(positions),
                 row,

@@ -3,7 +3,7 @@ use Rattle.std.proofs.Common.{◌≡◌, ◌<◌, ◌∷◌, [], ℕ, Vec, List,
 use Rattle.std.specs.Prelude.{insert, remove}
 use Rattle.std.specs.List.{AllByRecursion}
 use Rattle.row_shelves.specs.Stocks.{Stock}
-use Rattle.row_shelves.specs.Shelves.{on_shelf, IsShelf}
+use Rattle.row_shelves.specs.Shelves.{on_shelf, IsShelf, full}
 
 pub all_weaker : {X : Type 0} (P Q : X → Type 0) → ((x : X) → P x → Q x) → (xs : List X) → AllByRecursion P xs → AllByRecursion Q xs
 all_weaker P Q step [] h = tt
@@ -34,5 +34,5 @@ nothing [] n e z = refl
 nothing (x ∷ xs) n e z = absurd (omega (arith, e, z))
 
 -- a shelf by its numbers
-pub is_shelf : {Z : Type 0} (s : Vec Stock Z) → 0 < s.len → s.cap ≡ 64 → s.len < s.cap → IsShelf s
+pub is_shelf : {Z : Type 0} (s : Vec Stock Z) → 0 < s.len → s.cap ≡ full → s.len < s.cap → IsShelf s
 is_shelf s some large room = record { some = omega (arith, some, s.ok.0); large = large; room = room }

@@ -6,12 +6,12 @@ use Rattle.ss_text.specs.Texts.{Row}
 use Rattle.ss_text.proofs.KeyLemmas.{row_order, keys_seen}
 use Rattle.flow_law.specs.Tables.{key_of}
 use Rattle.row_shelves.specs.Stocks.{Stock, stock_key, row_of, rows_of}
-use Rattle.row_shelves.specs.Shelves.{joined, all_rows, AreShelves, IsShelf, seen_shelf, shelf_changed, same_shelf}
+use Rattle.row_shelves.specs.Shelves.{joined, all_rows, AreShelves, IsShelf, seen_shelf, shelf_changed, same_shelf, full}
 
 -- what a shelf is by its rows, their number and the room
 record IsSeen {A : Type 0} (t : List A × ℕ × ℕ) : Type 0 where
   some : 0 < length t.0
-  large : t.2 ≡ 64
+  large : t.2 ≡ full
   room : t.1 < t.2
 
 still_seen : (g : Stock → Stock) (ts : List (List Stock × ℕ × ℕ)) → AllByRecursion IsSeen ts → AllByRecursion IsSeen (map (shelf_changed g) ts)

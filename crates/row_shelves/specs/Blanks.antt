@@ -5,11 +5,12 @@ use Rattle.std.specs.List.{sum_by}
 use Rattle.std.specs.Vec.{vec_len, vec_capacity}
 use Rattle.ss_text.specs.Texts.{Text}
 use Rattle.row_shelves.specs.Stocks.{Stock}
+use Rattle.row_shelves.specs.Shelves.{full}
 
 -- an empty shelf with room
 pub record IsNewShelf {Z : Type 0} (s : Vec Stock Z) : Type 0 where
   pub none : s.items ≡ []
-  pub large : vec_capacity s ≡ 64
+  pub large : vec_capacity s ≡ full
 
 -- no cells, and room for so many
 pub record IsNewRow (bound : ℕ) (cells : Vec Text Global) : Type 0 where

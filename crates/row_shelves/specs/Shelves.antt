@@ -7,6 +7,10 @@ use Rattle.ss_text.specs.Texts.{Row, row_cmp}
 use Rattle.row_shelves.specs.Stocks.{Stock, stock_key, stock, rows_of, Has}
 use Rattle.row_shelves.specs.declared.spot.Spot.{Spot}
 
+-- how many rows a shelf has room for
+abbrev pub full : ℕ
+full = 64
+
 -- the elements of all shelves, in order
 abbrev pub joined : {S A : Type 0} → (S → List A) → List S → List A
 joined rows [] = []
@@ -26,23 +30,23 @@ first_key s = stock_key (slice_index_or (on_shelf s) 0 (stock [] [] 0))
 -- a shelf with a row, which may be full
 pub record IsFilled {Z : Type 0} (s : Vec Stock Z) : Type 0 where
   pub some : 0 < length s.items
-  pub large : vec_capacity s ≡ 64
+  pub large : vec_capacity s ≡ full
 
 -- a shelf that takes a row more without memory, which may be empty
 pub record HasRoom {Z : Type 0} (s : Vec Stock Z) : Type 0 where
-  pub large : vec_capacity s ≡ 64
+  pub large : vec_capacity s ≡ full
   pub room : vec_len s < vec_capacity s
 
 -- a shelf with a row that takes one more
 pub record IsShelf {Z : Type 0} (s : Vec Stock Z) : Type 0 where
   pub some : 0 < length s.items
-  pub large : vec_capacity s ≡ 64
+  pub large : vec_capacity s ≡ full
   pub room : vec_len s < vec_capacity s
 
 -- a shelf that is full
 pub record IsLong {Z : Type 0} (s : Vec Stock Z) : Type 0 where
-  pub many : 64 ≤ vec_len s
-  pub large : vec_capacity s ≡ 64
+  pub many : full ≤ vec_len s
+  pub large : vec_capacity s ≡ full
 
 -- a shelf with room for more than one row
 pub record IsOpen {Z : Type 0} (s : Vec Stock Z) : Type 0 where

@@ -7,7 +7,7 @@ ghost use Rattle.join_delta.specs.Walks.{rows_of};
 ghost use Rattle.schema_delta.specs.Cancelled.{Apart};
 
 use row_links::Linked;
-use ss_text::{NoMemory, Row};
+use ss_text::{NoMemory, Row, Seed};
 use std::alloc::Global;
 
 // Takes one of the others away that equals the row, or keeps the row.
@@ -22,20 +22,25 @@ fn keep(others: &mut Linked, row: Row, kept: &mut Vec<Row>) -> Result<(), NoMemo
     Ok(())
 }
 
-// These rows, each to be found by its cells.
-fn found_rows(alloc: Global, rows: Vec<Row>) -> Result<Linked, NoMemory>
+// These rows, each to be found by its cells, which are hashed by a seed.
+fn found_rows(alloc: Global, seed: Seed, rows: Vec<Row>) -> Result<Linked, NoMemory>
     ensures { IfOk result (λ found. rows_of found.live ≡ rows.items) }
 {
     let mut rows = rows;
-    let found = Linked::of_rows(alloc, &mut rows)?;
+    let found = Linked::of_rows(alloc, seed, &mut rows)?;
     Ok(found)
 }
 
 /// Rows without others: each as often as it is there more often than among the others.
-pub(crate) fn without(alloc: Global, rows: Vec<Row>, others: Vec<Row>) -> Result<Vec<Row>, NoMemory>
+pub(crate) fn without(
+    alloc: Global,
+    seed: Seed,
+    rows: Vec<Row>,
+    others: Vec<Row>,
+) -> Result<Vec<Row>, NoMemory>
     ensures { IfOk result (λ kept. (r : RowValue) → weigh (is r) kept.items ≡ weigh (is r) rows.items - weigh (is r) others.items) }
 {
-    let mut found = found_rows(alloc, others)?;
+    let mut found = found_rows(alloc, seed, others)?;
     let mut kept = Vec::new(alloc);
     for row in rows {
         keep(&mut found, row, &mut kept)?;

@@ -13,7 +13,7 @@ use crate::one_row::{is_of_rows, rows_change};
 use crate::{FlatSpec, each_net};
 use operator_law::Delta;
 use schema_model::{Catalogue, Change};
-use ss_text::{NoMemory, Steps};
+use ss_text::{NoMemory, Seed, Steps};
 use std::alloc::Global;
 use std::sync::ledger::Ledger;
 
@@ -41,7 +41,7 @@ pub fn flat_group<L: Ledger>(
     for change in changes {
         let all = moved_on(alloc, &present, change, specs, deltas, steps)?;
         make(&mut present, change)?;
-        deltas = thinned(alloc, all, &mut in_net)?;
+        deltas = thinned(alloc, catalogue.seed(), all, &mut in_net)?;
     }
     Ok(deltas)
 }
@@ -129,7 +129,12 @@ fn moved_on<L: Ledger>(
 // The moves of each declaration in net, where they are twice as many as those that were last in net, or as those of the
 // first change. So they are made net no more often than they double.
 #[tactic(auto, using(crate::proofs::NetLaw::each_same))]
-fn thinned(alloc: Global, deltas: Vec<Delta>, in_net: &mut usize) -> Result<Vec<Delta>, NoMemory>
+fn thinned(
+    alloc: Global,
+    seed: Seed,
+    deltas: Vec<Delta>,
+    in_net: &mut usize,
+) -> Result<Vec<Delta>, NoMemory>
     ensures { IfOk result (λ same. AllZip SameNet deltas.items same.items) }
 {
     let moves = count(&deltas);
@@ -140,7 +145,7 @@ fn thinned(alloc: Global, deltas: Vec<Delta>, in_net: &mut usize) -> Result<Vec<
     if moves <= in_net.saturating_mul(2) {
         return Ok(deltas);
     }
-    let nets = each_net(alloc, deltas)?;
+    let nets = each_net(alloc, seed, deltas)?;
     *in_net = count(&nets);
     Ok(nets)
 }

@@ -12,7 +12,7 @@ use Rattle.schema_model.specs.declared.change.Change.TheVariants.{Insert, Delete
 use Rattle.schema_model.specs.declared.refusal.Refusal.{Refusal}
 use Rattle.schema_model.specs.declared.refusal.Which.{Which}
 use Rattle.schema_model.specs.declared.refusal.Which.TheVariants.{Databases, Relations, Attributes, Rows}
-use Rattle.schema_model.specs.Limits.{most_rows}
+use Rattle.schema_model.specs.Limits.{most_rows, most_attributes, most_relations, most_databases}
 
 -- of a list of refusals none stands
 first_none : (o : Option Refusal) (os : List (Option Refusal)) → first_of (o ∷ os) ≡ None → (o ≡ None) × (first_of os ≡ None)
@@ -116,16 +116,16 @@ module _ (c : CatalogueValue) (db rel : Text) where
         row_there = sym (ap (list_any (row_eq row)) one.0.rows) ∙ unnot (list_any (row_eq row) (rows_of c db rel)) (passed (not (list_any (row_eq row) (rows_of c db rel))) _ three.0);
       }
 
-  pub add_has : (name fill : Text) → fault c (AddAttribute db rel name fill) ≡ None → record { at : Standing c db rel; new : is_in name at.r.attributes ≡ false; room : length at.r.attributes < 4000 }
+  pub add_has : (name fill : Text) → fault c (AddAttribute db rel name fill) ≡ None → record { at : Standing c db rel; new : is_in name at.r.attributes ≡ false; room : length at.r.attributes < most_attributes }
   add_has name fill h =
-      let one = both_stand c db rel (attribute_there c db rel name ∷ full 4000 (length (attributes_of c db rel)) Attributes ∷ []) h in
-      let two = first_none (attribute_there c db rel name) (full 4000 (length (attributes_of c db rel)) Attributes ∷ []) one.1 in
-      let three = first_none (full 4000 (length (attributes_of c db rel)) Attributes) [] two.1 in
-      let room : length (attributes_of c db rel) < 4000 = room_for_one 4000 (length (attributes_of c db rel)) Attributes three.0 in
+      let one = both_stand c db rel (attribute_there c db rel name ∷ full most_attributes (length (attributes_of c db rel)) Attributes ∷ []) h in
+      let two = first_none (attribute_there c db rel name) (full most_attributes (length (attributes_of c db rel)) Attributes ∷ []) one.1 in
+      let three = first_none (full most_attributes (length (attributes_of c db rel)) Attributes) [] two.1 in
+      let room : length (attributes_of c db rel) < most_attributes = room_for_one most_attributes (length (attributes_of c db rel)) Attributes three.0 in
       record {
         at = one.0;
         new = sym (ap (is_in name) one.0.attributes) ∙ passed (is_in name (attributes_of c db rel)) _ two.0;
-        room = subst (λ (names : Row). length names < 4000) one.0.attributes room;
+        room = subst (λ (names : Row). length names < most_attributes) one.0.attributes room;
       }
 
   name_there : (name : Text) (at : Standing c db rel) → no_attribute c db rel name ≡ None → is_in name at.r.attributes ≡ true
@@ -154,27 +154,27 @@ module _ (c : CatalogueValue) (db rel : Text) where
       }
 
   pub create_has : (attributes : Row) → fault c (CreateRelation db rel attributes) ≡ None
-      → record { d : DatabaseValue; database : database_of c db ≡ Some d; legal : is_table_label rel ≡ true; free : relation_in rel d ≡ None; once : first_repeated attributes ≡ None; room : length d.relations < 4000; few : length attributes ≤ 4000 }
+      → record { d : DatabaseValue; database : database_of c db ≡ Some d; legal : is_table_label rel ≡ true; free : relation_in rel d ≡ None; once : first_repeated attributes ≡ None; room : length d.relations < most_relations; few : length attributes ≤ most_attributes }
   create_has attributes h =
-      let last = too_many 4000 (length attributes) Attributes ∷ [] in
-      let one = first_none (no_database c db) (illegal_name rel ∷ relation_there c db rel ∷ name_twice attributes ∷ full 4000 (length (relations_of c db)) Relations ∷ last) h in
-      let two = first_none (illegal_name rel) (relation_there c db rel ∷ name_twice attributes ∷ full 4000 (length (relations_of c db)) Relations ∷ last) one.1 in
-      let three = first_none (relation_there c db rel) (name_twice attributes ∷ full 4000 (length (relations_of c db)) Relations ∷ last) two.1 in
-      let four = first_none (name_twice attributes) (full 4000 (length (relations_of c db)) Relations ∷ last) three.1 in
-      let five = first_none (full 4000 (length (relations_of c db)) Relations) last four.1 in
-      let six = first_none (too_many 4000 (length attributes) Attributes) [] five.1 in
+      let last = too_many most_attributes (length attributes) Attributes ∷ [] in
+      let one = first_none (no_database c db) (illegal_name rel ∷ relation_there c db rel ∷ name_twice attributes ∷ full most_relations (length (relations_of c db)) Relations ∷ last) h in
+      let two = first_none (illegal_name rel) (relation_there c db rel ∷ name_twice attributes ∷ full most_relations (length (relations_of c db)) Relations ∷ last) one.1 in
+      let three = first_none (relation_there c db rel) (name_twice attributes ∷ full most_relations (length (relations_of c db)) Relations ∷ last) two.1 in
+      let four = first_none (name_twice attributes) (full most_relations (length (relations_of c db)) Relations ∷ last) three.1 in
+      let five = first_none (full most_relations (length (relations_of c db)) Relations) last four.1 in
+      let six = first_none (too_many most_attributes (length attributes) Attributes) [] five.1 in
       let d = database_stands c db one.0 in
       let there : database_of c db ≡ Some d.0 = d.1 in
       let relations : relations_of c db ≡ d.0.relations = ap (λ o. option_map_or (λ (x : DatabaseValue). x.relations) o []) there in
-      let room : length (relations_of c db) < 4000 = room_for_one 4000 (length (relations_of c db)) Relations five.0 in
+      let room : length (relations_of c db) < most_relations = room_for_one most_relations (length (relations_of c db)) Relations five.0 in
       record {
         d = d.0;
         database = d.1;
         legal = name_legal rel two.0;
         free = relation_free c db rel d.0 d.1 three.0;
         once = none_mapped _ (first_repeated attributes) four.0;
-        room = subst (λ (rs : List RelationValue). length rs < 4000) relations room;
-        few = not_too_many 4000 (length attributes) Attributes six.0;
+        room = subst (λ (rs : List RelationValue). length rs < most_relations) relations room;
+        few = not_too_many most_attributes (length attributes) Attributes six.0;
       }
 
   pub drop_relation_has : fault c (DropRelation db rel) ≡ None → Standing c db rel
@@ -190,12 +190,12 @@ module _ (c : CatalogueValue) (db rel : Text) where
       record { at = at; legal = name_legal to two.0; free = relation_free c db to at.d at.database four.0 }
 
 module _ (c : CatalogueValue) (db : Text) where
-  pub create_database_has : fault c (CreateDatabase db) ≡ None → record { legal : is_table_label db ≡ true; free : database_of c db ≡ None; room : length c < 200 }
+  pub create_database_has : fault c (CreateDatabase db) ≡ None → record { legal : is_table_label db ≡ true; free : database_of c db ≡ None; room : length c < most_databases }
   create_database_has h =
-      let one = first_none (illegal_name db) (database_there c db ∷ full 200 (length c) Databases ∷ []) h in
-      let two = first_none (database_there c db) (full 200 (length c) Databases ∷ []) one.1 in
-      let three = first_none (full 200 (length c) Databases) [] two.1 in
-      record { legal = name_legal db one.0; free = database_free c db two.0; room = room_for_one 200 (length c) Databases three.0 }
+      let one = first_none (illegal_name db) (database_there c db ∷ full most_databases (length c) Databases ∷ []) h in
+      let two = first_none (database_there c db) (full most_databases (length c) Databases ∷ []) one.1 in
+      let three = first_none (full most_databases (length c) Databases) [] two.1 in
+      record { legal = name_legal db one.0; free = database_free c db two.0; room = room_for_one most_databases (length c) Databases three.0 }
 
   pub drop_database_has : fault c (DropDatabase db) ≡ None → (d : DatabaseValue) × (database_of c db ≡ Some d)
   drop_database_has h = database_stands c db (first_none (no_database c db) [] h).0

@@ -26,6 +26,7 @@ use Rattle.schema_model.specs.declared.edit.RelationEdit.TheVariants.{Header}
 use Rattle.schema_model.specs.declared.edit.DatabaseEdit.TheVariants as inner
 use Rattle.schema_model.specs.declared.edit.CatalogueEdit.TheVariants as outer
 use Rattle.schema_model.proofs.Seen.{same_seen, at_seen}
+use Rattle.schema_model.specs.Limits.{most_attributes}
 
 pub same_some : {A : Type 0} (a b : A) → Some a ≡ Some b → a ≡ b
 same_some a b h = ap (λ o. option_map_or (λ x. x) o a) h
@@ -198,7 +199,7 @@ module _ (ds : List DatabaseState) (db rel : Text) (i j : ℕ) (shown new : Data
       let same : d ≡ plain_database shown = same_some d (plain_database shown) (sym there ∙ found_at text_order database_name db (plain_databases ds) i (database_value [] []) h.names.ascend at ∙ ap Some database_is) in
       not_found (λ (x : RelationValue). text_eq rel x.name) (plain_database shown).relations (subst (λ (x : DatabaseValue). relation_in rel x ≡ None) same none) any
 
-pub header_of : (attributes : Row) → IsTrue (nat_le 1 (length attributes)) → length attributes ≤ 4000 → first_repeated attributes ≡ None → IsHeader attributes
+pub header_of : (attributes : Row) → IsTrue (nat_le 1 (length attributes)) → length attributes ≤ most_attributes → first_repeated attributes ≡ None → IsHeader attributes
 header_of attributes some few once = record { some = at_least some; few = few; distinct = none_repeated attributes once }
   where
     at_least : IsTrue (nat_le 1 (length attributes)) → 1 ≤ length attributes

@@ -12,6 +12,7 @@ use Rattle.schema_model.specs.Changes.{with_attribute, less_attribute, renamed_a
 use Rattle.schema_model.specs.Refusals.{first_repeated}
 use Rattle.schema_model.specs.Sound.{IsRelation}
 use Rattle.schema_model.proofs.ChangeLemmas.{all_removed, place_within}
+use Rattle.schema_model.specs.Limits.{most_attributes}
 
 neither : (a b : Bool) → (a || b) ≡ false → (a ≡ false) × (b ≡ false)
 neither true b h = absurd (cc)
@@ -104,7 +105,7 @@ pub none_repeated : (names : Row) → first_repeated names ≡ None → IsDistin
 none_repeated names h = none_earlier names (λ k lt. none_in_range (λ i. is_in (slice_index_or names i []) (take i names)) (length names) 0 h k (omega arith) (omega arith))
 
 -- a relation with one attribute more, one less, and one of another name
-pub attribute_added : (r : RelationValue) (name fill : Text) → IsRelation r → is_in name r.attributes ≡ false → length r.attributes < 4000 → IsRelation (with_attribute name fill r)
+pub attribute_added : (r : RelationValue) (name fill : Text) → IsRelation r → is_in name r.attributes ≡ false → length r.attributes < most_attributes → IsRelation (with_attribute name fill r)
 attribute_added r name fill h new room = record {
   header = record {
     some = rw (length_last r.attributes name) (omega arith);

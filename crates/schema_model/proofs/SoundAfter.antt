@@ -19,7 +19,7 @@ use Rattle.schema_model.proofs.ChangeLemmas.{row_less, one_row_less}
 use Rattle.schema_model.proofs.RelationsKept.{attribute_added, attribute_dropped, attribute_renamed, none_repeated}
 use Rattle.schema_model.proofs.NamedLists.{AreNamed, changed, come, gone, held, still_none}
 use Rattle.schema_model.proofs.Asks.{Standing, insert_has, delete_has, add_has, drop_has, rename_has, create_has, drop_relation_has, rename_relation_has, create_database_has, drop_database_has, rename_database_has}
-use Rattle.schema_model.specs.Limits.{most_rows}
+use Rattle.schema_model.specs.Limits.{most_rows, most_attributes, most_relations}
 
 named_databases : (c : CatalogueValue) → IsSound c → AreNamed database_name IsDatabase c
 named_databases c h = record { names = h.names; each = h.databases }
@@ -50,12 +50,12 @@ relation_changed c db rel at f keeps h sound rows =
 
 -- the relations of one database changed, with as many rows as before
 relations_changed : (c : CatalogueValue) (db : Text) (d : DatabaseValue) (f : List RelationValue → List RelationValue) → IsSound c → database_of c db ≡ Some d
-    → AreNamed relation_name IsRelation (f d.relations) → length (f d.relations) ≤ 4000 → sum_by (λ (r : RelationValue). length r.rows) (f d.relations) ≤ rows_in d → IsSound (at_database db (with_relations f) c)
+    → AreNamed relation_name IsRelation (f d.relations) → length (f d.relations) ≤ most_relations → sum_by (λ (r : RelationValue). length r.rows) (f d.relations) ≤ rows_in d → IsSound (at_database db (with_relations f) c)
 relations_changed c db d f h there named few rows =
     database_changed c db d (with_relations f) (λ x. refl) h there (record { names = named.names; few = few; relations = named.each }) (omega (arith, rows, h.rows))
 
 -- a new relation has a header
-header_of : (attributes : Row) → IsTrue (nat_le 1 (length attributes)) → length attributes ≤ 4000 → first_repeated attributes ≡ None → IsHeader attributes
+header_of : (attributes : Row) → IsTrue (nat_le 1 (length attributes)) → length attributes ≤ most_attributes → first_repeated attributes ≡ None → IsHeader attributes
 header_of attributes some few once = record { some = at_least some; few = few; distinct = none_repeated attributes once }
   where
     at_least : IsTrue (nat_le 1 (length attributes)) → 1 ≤ length attributes

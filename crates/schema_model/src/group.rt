@@ -14,7 +14,7 @@ ghost use Rattle.schema_model.specs.Limits.{most_rows};
 use crate::edit::{DatabaseEdit, RelationEdit, RowEdit};
 use crate::ready::place_of;
 use crate::{Change, Database};
-use ss_text::{NoMemory, Row, Text};
+use ss_text::{NoMemory, Row, Seed, Text};
 use std::alloc::Global;
 use std::snapshot::Snapshot;
 
@@ -35,6 +35,7 @@ pub(crate) fn are_of_rows(changes: &[Change]) -> bool
 /// The edits that make changes of rows, all their memory taken. The first to be made is the last.
 pub(crate) fn rows_ready(
     databases: &mut Vec<Database>,
+    seed: Seed,
     changes: &[Change],
 ) -> Result<Vec<RowEdit>, NoMemory>
     requires sound { IsSound (plain_databases databases.old.items) }
@@ -44,7 +45,7 @@ pub(crate) fn rows_ready(
     ensures ready { IfOk result (λ edits. AreReady databases.new.items changes.now edits.items) }
 {
     let alloc = *databases.allocator();
-    prepare_all(databases, changes)?;
+    prepare_all(databases, seed, changes)?;
     let mut edits = Vec::with_capacity(alloc, changes.len())?;
     let mut left = changes;
     while let Some((change, earlier)) = left.split_last() {
@@ -55,23 +56,27 @@ pub(crate) fn rows_ready(
 }
 
 // Links the relations that rows are to go from, and lets no row wait that was to come before.
-fn prepare_all(databases: &mut Vec<Database>, changes: &[Change]) -> Result<(), NoMemory>
+fn prepare_all(
+    databases: &mut Vec<Database>,
+    seed: Seed,
+    changes: &[Change],
+) -> Result<(), NoMemory>
     requires { IsSound (plain_databases databases.old.items) }
     ensures { plain_databases databases.new.items ≡ plain_databases databases.old.items }
 {
     for change in changes {
-        prepare(databases, change)?;
+        prepare(databases, seed, change)?;
     }
     Ok(())
 }
 
-fn prepare(databases: &mut Vec<Database>, change: &Change) -> Result<(), NoMemory>
+fn prepare(databases: &mut Vec<Database>, seed: Seed, change: &Change) -> Result<(), NoMemory>
     requires { IsSound (plain_databases databases.old.items) }
     ensures { plain_databases databases.new.items ≡ plain_databases databases.old.items }
 {
     match change {
         Change::Insert { db, rel, .. } => forget_rows(databases, db, rel),
-        Change::Delete { db, rel, .. } => link_rows(databases, db, rel),
+        Change::Delete { db, rel, .. } => link_rows(databases, seed, db, rel),
         _ => Ok(()),
     }
 }
@@ -91,6 +96,7 @@ fn forget_rows(databases: &mut Vec<Database>, db: &Text, rel: &Text) -> Result<(
 /// walk of all: takes all memory that this needs.
 pub(crate) fn link_rows(
     databases: &mut Vec<Database>,
+    seed: Seed,
     db: &Text,
     rel: &Text,
 ) -> Result<(), NoMemory>
@@ -99,7 +105,7 @@ pub(crate) fn link_rows(
 {
     if let Some((db, rel)) = places(databases, db, rel) {
         let database = &mut databases[db];
-        database.link_rows(rel)?;
+        database.link_rows(seed, rel)?;
     }
     Ok(())
 }

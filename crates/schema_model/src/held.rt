@@ -9,7 +9,7 @@ ghost use Rattle.schema_model.specs.HeldRows.{rows_held, placed_held, waiting_he
 
 use crate::listed::Listed;
 use crate::rows::Rows;
-use ss_text::{NoMemory, Row};
+use ss_text::{NoMemory, Row, Seed};
 use std::alloc::Global;
 use std::mem::replace;
 use std::rc::Rc;
@@ -128,12 +128,12 @@ impl Held {
     }
 
     /// Links the rows, where no copy holds them: takes all memory that this needs.
-    pub(crate) fn link(&mut self, alloc: Global) -> Result<(), NoMemory>
+    pub(crate) fn link(&mut self, alloc: Global, seed: Seed) -> Result<(), NoMemory>
         ensures { placed_rows (placed_held self.new) ≡ placed_rows (placed_held self.old) }
     {
         match &mut self.own {
-            Some(rows) => rows.link(alloc),
-            None => link_home(alloc, &mut self.home),
+            Some(rows) => rows.link(alloc, seed),
+            None => link_home(alloc, seed, &mut self.home),
         }
     }
 
@@ -233,11 +233,11 @@ fn put_copy(alloc: Global, home: &mut Rc<Rows>, row: Row) -> Result<(), NoMemory
     Ok(())
 }
 
-fn link_home(alloc: Global, home: &mut Rc<Rows>) -> Result<(), NoMemory>
+fn link_home(alloc: Global, seed: Seed, home: &mut Rc<Rows>) -> Result<(), NoMemory>
     ensures { placed_rows (placed_in home.new.value) ≡ placed_rows (placed_in home.old.value) }
 {
     match Rc::get_mut(home) {
-        Some(rows) => rows.link(alloc),
+        Some(rows) => rows.link(alloc, seed),
         None => Ok(()),
     }
 }

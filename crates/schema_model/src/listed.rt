@@ -6,7 +6,7 @@ ghost use Rattle.schema_model.specs.Placed.{placed_rows, first_place, after_plac
 ghost use Rattle.schema_model.specs.ListedRows.{listed_rows, IsNext};
 
 use row_links::Linked;
-use ss_text::{NoMemory, Row};
+use ss_text::{NoMemory, Row, Seed};
 use std::alloc::Global;
 use std::marker::Model;
 use std::snapshot::Snapshot;
@@ -156,13 +156,13 @@ impl Listed {
         take_first(&mut self.rows, row);
     }
 
-    /// The same rows, linked. They are taken out of the list, but for want of memory.
-    pub(crate) fn link(&mut self, alloc: Global) -> Result<Linked, NoMemory>
+    /// The same rows, linked by their hashes. They are taken out of the list, but for want of memory.
+    pub(crate) fn link(&mut self, alloc: Global, seed: Seed) -> Result<Linked, NoMemory>
         ensures linked { IfOk result (λ linked. placed_rows linked.live ≡ self.old.rows) }
         ensures kept { OnErr result (self.new.rows ≡ self.old.rows) }
     {
         self.waiting.clear();
-        Linked::of_rows(alloc, &mut self.rows)
+        Linked::of_rows(alloc, seed, &mut self.rows)
     }
 }
 

@@ -14,13 +14,14 @@ ghost use Rattle.schema_model.specs.Edits.{Makes};
 use crate::edit::{CatalogueEdit, DatabaseEdit, RelationEdit};
 use crate::sheets::{delete_ready, drop_attribute_ready, rename_attribute_ready};
 use crate::{Change, Database, Relation};
-use ss_text::{NoMemory, Row, Text};
+use ss_text::{NoMemory, Row, Seed, Text};
 use std::alloc::Global;
 use std::snapshot::Snapshot;
 
-/// The edit that makes a change, all its memory taken.
+/// The edit that makes a change, all its memory taken. Where it links rows it does so by the seed.
 pub(crate) fn ready(
     databases: &mut Vec<Database>,
+    seed: Seed,
     change: &Change,
 ) -> Result<CatalogueEdit, NoMemory>
     requires well_formed { IsTrue (is_well_formed change.now) }
@@ -31,7 +32,7 @@ pub(crate) fn ready(
 {
     match change {
         Change::Insert { db, rel, row } => insert_ready(databases, db, rel, row),
-        Change::Delete { db, rel, row } => delete_ready(databases, db, rel, row),
+        Change::Delete { db, rel, row } => delete_ready(databases, seed, db, rel, row),
         Change::DropAttribute { db, rel, name } => drop_attribute_ready(databases, db, rel, name),
         Change::RenameAttribute { db, rel, name, to } => {
             rename_attribute_ready(databases, db, rel, name, to)

@@ -8,7 +8,7 @@ ghost use Rattle.schema_model.specs.RowsKept.{placed_in, waiting_in};
 
 use crate::listed::Listed;
 use row_links::Linked;
-use ss_text::{NoMemory, Row};
+use ss_text::{NoMemory, Row, Seed};
 use std::alloc::Global;
 use std::snapshot::Snapshot;
 
@@ -153,11 +153,11 @@ impl Rows {
     /// Links them, where they are not linked yet, so that a row is found and taken out without a walk of all. No row
     /// waits then. Where there is no memory they stay in the list.
     #[tactic(auto, using(crate::proofs::NumberedLemmas::rows_numbered))]
-    pub(crate) fn link(&mut self, alloc: Global) -> Result<(), NoMemory>
+    pub(crate) fn link(&mut self, alloc: Global, seed: Seed) -> Result<(), NoMemory>
         ensures { placed_rows (placed_in self.new) ≡ placed_rows (placed_in self.old) }
     {
         let linked = match self {
-            Rows::Listed(listed) => listed.link(alloc)?,
+            Rows::Listed(listed) => listed.link(alloc, seed)?,
             Rows::Linked(_) => return Ok(()),
         };
         *self = Rows::Linked(linked);

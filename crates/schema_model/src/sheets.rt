@@ -11,11 +11,12 @@ ghost use Rattle.schema_model.specs.Edits.{Makes};
 use crate::Database;
 use crate::edit::{CatalogueEdit, DatabaseEdit, RelationEdit};
 use crate::ready::place_of;
-use ss_text::{NoMemory, Row, Text};
+use ss_text::{NoMemory, Row, Seed, Text};
 use std::alloc::Global;
 
 pub(crate) fn delete_ready(
     databases: &mut Vec<Database>,
+    seed: Seed,
     db: &Text,
     rel: &Text,
     row: &Row,
@@ -33,7 +34,7 @@ pub(crate) fn delete_ready(
     let Ok(rel) = database.place_of(rel) else {
         unreachable!()
     };
-    database.link_rows(rel)?;
+    database.link_rows(seed, rel)?;
     database.own_rows(rel)?;
     let edit = DatabaseEdit::At {
         rel,

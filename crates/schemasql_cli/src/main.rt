@@ -1,7 +1,8 @@
 //! The program `schemasql`: its words, the current folder, standard input, standard output and the file of a journal go to
 //! `run_with_disk`, and its exit status is the number of the status that comes out.
 //!
-//! It is the trusted edge: its adapters tell nothing of what real folders, streams and files hold.
+//! It is the trusted edge: its adapters tell nothing of what real folders, streams and files hold. The folders have a seed
+//! that is made of a random number.
 #![tactic(auto)]
 
 mod streams;
@@ -11,12 +12,13 @@ ghost use Rattle.std.specs.Prelude.{◌≡◌, ◌<◌};
 
 use host_disk::HostDisk;
 use host_folders::HostFolders;
-use ss_text::{Steps, Text};
+use ss_text::{Seed, Steps, Text};
 use ss_top::{Status, run_with_disk};
 use std::fs::File;
 use std::io::Error;
 use std::marker::Brand;
 use std::process::ExitCode;
+use std::random::RandomSource;
 use std::sync::ledger::{Blank, Ledger};
 use streams::{HostSink, HostSource};
 use words::{words_of, writes_of};
@@ -48,7 +50,7 @@ fn run_here<L: Ledger>(rt: &HostRuntime, words: &[Text], blank: Blank) -> Status
     requires parts { blank.parts ≡ L.parts }
     requires some { 0 < L.parts }
 {
-    let mut store = HostFolders::of(*rt, writes_of(words));
+    let mut store = HostFolders::of(*rt, writes_of(words), seed_of(rt));
     let mut input = HostSource::of(rt.stdin());
     let mut output = HostSink::of(rt.stdout());
     let mut disk = HostDisk::of(*rt);
@@ -62,4 +64,13 @@ fn run_here<L: Ledger>(rt: &HostRuntime, words: &[Text], blank: Blank) -> Status
         &mut disk,
         &mut steps,
     )
+}
+
+// The seed of this run. Where the system gives no number, it is the one that is the same in each run.
+fn seed_of(rt: &impl RandomSource) -> Seed {
+    let mut bytes = [0; 8];
+    match rt.fill_bytes(&mut bytes) {
+        Ok(()) => Seed::of(u64::from_le_bytes(bytes)),
+        Err(_) => Seed::fixed(),
+    }
 }

@@ -28,7 +28,7 @@ use Rattle.view_folder.proofs.FormLemmas.{none_mapped}
 use Rattle.source_law.proofs.NamedLemmas.{ascending_by_name, length_ascending, sum_ascending, all_ascending}
 use Rattle.source_law.proofs.TreeLemmas.{folders_ascend}
 use Rattle.source_law.proofs.FileLemmas.{read_at, read_all, file_legal, files_legal, database_differ, found_relation, found_database}
-use Rattle.schema_model.specs.Limits.{most_rows}
+use Rattle.schema_model.specs.Limits.{most_rows, most_databases, most_relations}
 
 -- what is loaded
 refused_not : (r : Option LoadFault) (x c : CatalogueValue) → unless_refused r x ≡ Ok c → (r ≡ None) × (x ≡ c)
@@ -140,7 +140,7 @@ module _ (t : Tree) where
   database_sound : (db : Text) (count : ℕ) → count ≤ most_rows → database_fault t db count ≡ None → IsDatabase (database_in t db) × (count + rows_in (database_in t db) ≤ most_rows)
   database_sound db count few none =
       let folder = database_folder db in
-      let parts = no_fault (nat_lt 4000 (length (files_in t db))) (load.Limit Relations) (files_fault db count (database_files t db)) none in
+      let parts = no_fault (nat_lt most_relations (length (files_in t db))) (load.Limit Relations) (files_fault db count (database_files t db)) none in
       let sound = files_sound t db folder count (files_in t db) few parts.1 in
       let all = map relation_of_file (database_files t db) in
       let apart = database_differ t db in
@@ -151,7 +151,7 @@ module _ (t : Tree) where
             ascend = ascending_by_name relation_name all;
             legal = all_legal (ascending by_name all) (all_ascending relation_name (λ (r : RelationValue). is_table_label r.name ≡ true) all (names_of_files t db folder (files_in t db) (files_legal t db)));
           };
-          few = omega (arith, many, files_few t db folder (files_in t db), not_above 4000 (length (files_in t db)) parts.0);
+          few = omega (arith, many, files_few t db folder (files_in t db), not_above most_relations (length (files_in t db)) parts.0);
           relations = all_ascending relation_name IsRelation all sound.0;
         },
         omega (arith, rows, sound.1),
@@ -173,11 +173,11 @@ module _ (t : Tree) where
   pub sound_loaded : (c : CatalogueValue) → loaded t ≡ Ok c → IsSound c
   sound_loaded c h =
       let parts = loaded_parts t c h in
-      let fine = no_fault (nat_lt 200 (length (databases_in t))) (load.Limit Databases) (databases_fault t 0 (databases_in t)) parts.0 in
+      let fine = no_fault (nat_lt most_databases (length (databases_in t))) (load.Limit Databases) (databases_fault t 0 (databases_in t)) parts.0 in
       let sound = databases_sound 0 (databases_in t) (omega arith) fine.1 in
       subst IsSound parts.1 (record {
         names = subst AreNames (sym (names_of (databases_in t))) (names_legal _ (folders_ascend t sources_folder));
-        few = omega (arith, length-map (databases_in t) (database_in t), not_above 200 (length (databases_in t)) fine.0);
+        few = omega (arith, length-map (databases_in t) (database_in t), not_above most_databases (length (databases_in t)) fine.0);
         databases = sound.0;
         rows = omega (arith, sound.1);
       })

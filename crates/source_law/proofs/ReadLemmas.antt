@@ -26,7 +26,7 @@ use Rattle.source_law.proofs.NamedLemmas.{differs_back, in_kept, named, same_nam
 use Rattle.source_law.proofs.TreeLemmas.{folders_ascend}
 use Rattle.source_law.proofs.FileLemmas.{read_at, read_all, database_differ, found_relation, found_database}
 use Rattle.source_law.proofs.LoadedLemmas.{names_of}
-use Rattle.schema_model.specs.Limits.{most_rows}
+use Rattle.schema_model.specs.Limits.{most_rows, most_attributes, most_databases, most_relations}
 
 -- the records of a sound relation have no fault
 parts_none : {A : Type 0} (a b : Option A) → a ≡ None → b ≡ None → option_or a b ≡ None
@@ -47,7 +47,7 @@ none_repeated seen [] d = refl
 none_repeated seen (t ∷ ts) d = rw (apart_from seen t ts d) (none_repeated (seen ++ t ∷ []) ts (subst (IsDistinct bytes_eq) (sym (append_assoc seen (t ∷ []) ts)) d))
 
 header_sound : (header : Row) → IsHeader header → header_fault header ≡ None
-header_sound header h = rw (le-ltb 4000 (length header) h.few, none_repeated [] header h.distinct) refl
+header_sound header h = rw (le-ltb most_attributes (length header) h.few, none_repeated [] header h.distinct) refl
 
 rows_sound : (want nth count : ℕ) (rows : List Row) → AllByRecursion (λ (row : Row). length row ≡ want) rows → count + length rows ≤ most_rows → rows_fault want nth count rows ≡ None
 unfolding rows_fault
@@ -136,8 +136,8 @@ database_fine t db count sound few =
     let apart = database_differ t db in
     let many : length (ascending by_name all) ≡ length (database_files t db) = length_ascending relation_name all apart ∙ length-map (database_files t db) relation_of_file in
     let rows : rows_in (database_in t db) ≡ sum_by (λ (r : RelationValue). length r.rows) all = sum_ascending relation_name (λ (r : RelationValue). length r.rows) all apart in
-    let narrow : length (files_in t db) ≤ 4000 = omega (arith, sound.few, many, files_count t db) in
-    rw (le-ltb 4000 (length (files_in t db)) narrow) (files_fine t db (database_folder db) count (files_in t db) (all_back relation_name IsRelation all apart sound.relations) (subst (λ (n : ℕ). count + n ≤ most_rows) rows few))
+    let narrow : length (files_in t db) ≤ most_relations = omega (arith, sound.few, many, files_count t db) in
+    rw (le-ltb most_relations (length (files_in t db)) narrow) (files_fine t db (database_folder db) count (files_in t db) (all_back relation_name IsRelation all apart sound.relations) (subst (λ (n : ℕ). count + n ≤ most_rows) rows few))
 
 module _ (t : Tree) where
   databases_fine : (count : ℕ) (dbs : List Text) → AllByRecursion IsDatabase (map (database_in t) dbs) → count + row_count (map (database_in t) dbs) ≤ most_rows → databases_fault t count dbs ≡ None
@@ -153,8 +153,8 @@ module _ (t : Tree) where
   sound_loads : IsSound (catalogue_in t) → loaded t ≡ Ok (catalogue_in t)
   unfolding loaded
   sound_loads h =
-      let few : length (databases_in t) ≤ 200 = omega (arith, h.few, length-map (databases_in t) (database_in t)) in
-      rw (le-ltb 200 (length (databases_in t)) few, databases_fine 0 (databases_in t) h.databases (omega (arith, h.rows))) refl
+      let few : length (databases_in t) ≤ most_databases = omega (arith, h.few, length-map (databases_in t) (database_in t)) in
+      rw (le-ltb most_databases (length (databases_in t)) few, databases_fine 0 (databases_in t) h.databases (omega (arith, h.rows))) refl
 
 -- folders and files of a catalogue, by their names
 module _ (u : Tree) (c : CatalogueValue) (s : IsSound c)

@@ -10,7 +10,7 @@ ghost use Rattle.split_op.specs.Added.{CanAddPart};
 
 use indexmap::IndexMap;
 use operator_law::Fresh;
-use ss_text::{NoMemory, Row, Text};
+use ss_text::{NoMemory, Row, Seed, Text};
 use std::alloc::Global;
 use unfold_op::TableOperator;
 
@@ -33,7 +33,7 @@ fn fresh_with<I: TableOperator>(
 
 // Gives a label an operator.
 fn put<I: TableOperator>(
-    parts: &mut IndexMap<Text, I>,
+    parts: &mut IndexMap<Text, I, Seed>,
     label: Text,
     inner: I,
 ) -> Result<(), NoMemory>
@@ -47,7 +47,7 @@ fn put<I: TableOperator>(
 pub(crate) fn add_fact<I: TableOperator>(
     alloc: Global,
     pattern: &I,
-    parts: &mut IndexMap<Text, I>,
+    parts: &mut IndexMap<Text, I, Seed>,
     label: &Text,
     key: Row,
     cell: Option<(Text, Text)>,

@@ -23,7 +23,7 @@ use crate::part::part_lines;
 use flow_law::{EvalFault, IllegalLabel, TableLine};
 use indexmap::IndexMap;
 use operator_law::Operator;
-use ss_text::{NoMemory, Steps, Text, table_label_legal};
+use ss_text::{NoMemory, Seed, Steps, Text, table_label_legal};
 use std::alloc::Global;
 use std::sync::ledger::Ledger;
 use unfold_op::TableOperator;
@@ -57,7 +57,7 @@ fn is_illegal<I: TableOperator>(part: Option<&I>, group: &Group) -> bool
 
 /// The least label that is not legal and has facts after the change.
 pub(crate) fn first_illegal_table<I: TableOperator>(
-    parts: &IndexMap<Text, I>,
+    parts: &IndexMap<Text, I, Seed>,
     groups: &[Group],
 ) -> Result<Option<IllegalLabel>, NoMemory>
     requires { (shape : Shape) × (pattern : I) × (old : List RowValue) × (new : List RowValue) × FitsParts I.table shape pattern (get text_eq parts.now) groups.now old new }
@@ -111,7 +111,7 @@ fn judge_group<I: TableOperator, L: Ledger>(
 fn judge_groups<I: TableOperator, L: Ledger>(
     alloc: Global,
     pattern: &I,
-    parts: &IndexMap<Text, I>,
+    parts: &IndexMap<Text, I, Seed>,
     groups: &[Group],
     judged: &mut Judged,
     steps: &mut Steps<L>,
@@ -147,7 +147,7 @@ fn judge_groups<I: TableOperator, L: Ledger>(
 pub(crate) fn lines_of<I: TableOperator, L: Ledger>(
     alloc: Global,
     pattern: &I,
-    parts: &IndexMap<Text, I>,
+    parts: &IndexMap<Text, I, Seed>,
     groups: &[Group],
     steps: &mut Steps<L>,
 ) -> Result<Vec<TableLine>, EvalFault>

@@ -18,7 +18,7 @@ use crate::stages::{Stage, reserve_stages};
 use flow_law::{EvalFault, TableLine};
 use indexmap::IndexMap;
 use operator_law::{Delta, Kept, Operator};
-use ss_text::{NoMemory, Steps, Text};
+use ss_text::{NoMemory, Seed, Steps, Text};
 use std::alloc::Global;
 use std::sync::ledger::Ledger;
 use unfold_op::TableOperator;
@@ -28,7 +28,7 @@ use unfold_op::TableOperator;
 pub(crate) fn moved_lines<I: TableOperator, L: Ledger>(
     alloc: Global,
     pattern: &I,
-    parts: &IndexMap<Text, I>,
+    parts: &IndexMap<Text, I, Seed>,
     change: &Delta,
     steps: &mut Steps<L>,
 ) -> Result<Vec<TableLine>, EvalFault>
@@ -54,7 +54,7 @@ pub(crate) fn moved_lines<I: TableOperator, L: Ledger>(
 pub(crate) fn moved_stages<I: TableOperator>(
     alloc: Global,
     pattern: &I,
-    parts: &mut IndexMap<Text, I>,
+    parts: &mut IndexMap<Text, I, Seed>,
     change: &Delta,
 ) -> Result<Vec<Stage<I>>, NoMemory>
     requires { (shape : Shape) × (old : List RowValue) × (new : List RowValue) × MovesAll I.table shape pattern.now (get text_eq parts.old) change.now old new × CanKeepSplit shape new }

@@ -13,7 +13,7 @@ use crate::stages::{Stage, commit_stages};
 use flow_law::{EvalFault, Shape, TableLine};
 use indexmap::IndexMap;
 use operator_law::{Delta, Fresh, Kept, Operator};
-use ss_text::{NoMemory, Row, Steps, Text};
+use ss_text::{NoMemory, Row, Seed, Steps, Text};
 use std::alloc::Global;
 use std::marker::Model;
 use std::snapshot::Snapshot;
@@ -47,7 +47,7 @@ impl Model for SplitReady {
 pub struct Split<I: TableOperator> {
     shape: Shape,
     pattern: I,
-    parts: IndexMap<Text, I>,
+    parts: IndexMap<Text, I, Seed>,
     waiting: Option<Waiting<I>>,
 }
 
@@ -66,8 +66,8 @@ impl<I: TableOperator> Model for Split<I> {
 
 impl<I: TableOperator> Split<I> {
     /// No facts, of tables of this form, whose label is a variable. The operator of a label is made like the pattern, whose tables
-    /// have the same columns.
-    pub fn new(alloc: Global, shape: Shape, pattern: I) -> Split<I>
+    /// have the same columns, and is found by a hash of a seed.
+    pub fn new(alloc: Global, seed: Seed, shape: Shape, pattern: I) -> Split<I>
         requires label { shape.label ≡ None }
         requires columns { SameColumns shape (I.table pattern).shape }
         ensures shape { result.shape ≡ shape }
@@ -78,7 +78,7 @@ impl<I: TableOperator> Split<I> {
         Split {
             shape,
             pattern,
-            parts: IndexMap::new(alloc),
+            parts: IndexMap::with_hasher(alloc, seed),
             waiting: None,
         }
     }
@@ -204,7 +204,7 @@ impl<I: TableOperator> Fresh for Split<I> {
             constants,
             spot: self.shape.spot,
         };
-        Ok(Split::new(alloc, shape, pattern))
+        Ok(Split::new(alloc, *self.parts.hasher(), shape, pattern))
     }
 
     ghost stands = { λ s x h. h };

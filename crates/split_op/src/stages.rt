@@ -18,7 +18,7 @@ use crate::groups::Group;
 use counts::{make_room, store};
 use indexmap::IndexMap;
 use operator_law::{Delta, Fresh, Kept, Operator};
-use ss_text::{NoMemory, Text};
+use ss_text::{NoMemory, Seed, Text};
 use std::alloc::Global;
 use unfold_op::TableOperator;
 
@@ -41,7 +41,7 @@ fn moved<I: TableOperator>(inner: I, ready: I::Ready) -> Option<I>
 }
 
 // Takes out the operator of a label.
-fn take_out<I: TableOperator>(parts: &mut IndexMap<Text, I>, label: &Text) -> Option<I>
+fn take_out<I: TableOperator>(parts: &mut IndexMap<Text, I, Seed>, label: &Text) -> Option<I>
     ensures value { result ≡ get text_eq parts.old label.now }
     ensures others { (q : TextValue) → text_eq label.now q ≡ false → get text_eq parts.new q ≡ get text_eq parts.old q }
     ensures room { spare parts.old ≤ spare parts.new }
@@ -50,7 +50,11 @@ fn take_out<I: TableOperator>(parts: &mut IndexMap<Text, I>, label: &Text) -> Op
 }
 
 // The operator that was made for a label, or else the one that is kept, which is taken out.
-fn inner_of<I: TableOperator>(parts: &mut IndexMap<Text, I>, label: &Text, fresh: Option<I>) -> I
+fn inner_of<I: TableOperator>(
+    parts: &mut IndexMap<Text, I, Seed>,
+    label: &Text,
+    fresh: Option<I>,
+) -> I
     requires { IsSome (option_or fresh (get text_eq parts.old label.now)) }
     ensures value { option_or fresh (get text_eq parts.old label.now) ≡ Some result }
     ensures others { (q : TextValue) → text_eq label.now q ≡ false → get text_eq parts.new q ≡ get text_eq parts.old q }
@@ -68,7 +72,7 @@ fn inner_of<I: TableOperator>(parts: &mut IndexMap<Text, I>, label: &Text, fresh
 }
 
 // Moves the facts of one label. There is room for one operator more.
-fn commit_stage<I: TableOperator>(parts: &mut IndexMap<Text, I>, stage: Stage<I>)
+fn commit_stage<I: TableOperator>(parts: &mut IndexMap<Text, I, Seed>, stage: Stage<I>)
     requires ready { (form : Shape) × IsStage I.table I.waiting I.made_for form (get text_eq parts.old) stage }
     requires room { 0 < spare parts.old }
     ensures moved { (form : Shape) → IsStage I.table I.waiting I.made_for form (get text_eq parts.old) stage → MovesPart I.table I.made_for form (get text_eq parts.old) (get text_eq parts.new) stage }
@@ -86,7 +90,10 @@ fn commit_stage<I: TableOperator>(parts: &mut IndexMap<Text, I>, stage: Stage<I>
 }
 
 /// Moves the facts of each label, for which there is room. This takes no memory and cannot fail.
-pub(crate) fn commit_stages<I: TableOperator>(parts: &mut IndexMap<Text, I>, stages: Vec<Stage<I>>)
+pub(crate) fn commit_stages<I: TableOperator>(
+    parts: &mut IndexMap<Text, I, Seed>,
+    stages: Vec<Stage<I>>,
+)
     requires ready { (form : Shape) × AllByRecursion (IsStage I.table I.waiting I.made_for form (get text_eq parts.old)) stages.items }
     requires ascend { IsStrictlySortedBy text_cmp (map (λ s. s.label) stages.items) }
     requires room { length stages.items ≤ spare parts.old }
@@ -103,7 +110,7 @@ pub(crate) fn commit_stages<I: TableOperator>(parts: &mut IndexMap<Text, I>, sta
 // Makes the operator of a label ready, where it has one. What it keeps stays.
 fn reserve_kept<I: TableOperator>(
     alloc: Global,
-    parts: &mut IndexMap<Text, I>,
+    parts: &mut IndexMap<Text, I, Seed>,
     group: &Group,
 ) -> Result<Option<I::Ready>, NoMemory>
     requires { (shape : Shape) × (x : List RowValue) × (y : List RowValue) × FitsPart I.table shape (get text_eq parts.old group.now.label) group.now x y × CanKeep shape y }
@@ -143,7 +150,7 @@ fn reserve_fresh<I: TableOperator>(
 fn reserve_stage<I: TableOperator>(
     alloc: Global,
     pattern: &I,
-    parts: &mut IndexMap<Text, I>,
+    parts: &mut IndexMap<Text, I, Seed>,
     group: &Group,
 ) -> Result<Stage<I>, NoMemory>
     requires { (shape : Shape) × (x : List RowValue) × (y : List RowValue) × SameColumns shape (I.table pattern.now).shape
@@ -177,7 +184,7 @@ fn reserve_stage<I: TableOperator>(
 pub(crate) fn reserve_stages<I: TableOperator>(
     alloc: Global,
     pattern: &I,
-    parts: &mut IndexMap<Text, I>,
+    parts: &mut IndexMap<Text, I, Seed>,
     groups: &[Group],
 ) -> Result<Vec<Stage<I>>, NoMemory>
     requires ascend { IsStrictlySortedBy text_cmp (map group_label groups.now) }

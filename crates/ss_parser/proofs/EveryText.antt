@@ -23,7 +23,7 @@ use Rattle.ss_parser.specs.Ahead.{ends, is_end}
 use Rattle.ss_parser.specs.Terms.{one, just, key, sign, says_key, says_sign, is_key, is_sign, an_ident, ident, a_name, name, some, a_literal, literal, dotted, ident_term, is_ident, a_term}
 use Rattle.ss_parser.specs.Declarations.{decl_of, var, arrow_var, column_var, cell_var, in_relation, in_database, behind_name, named, decl}
 use Rattle.ss_parser.specs.Conditions.{an_operator, operator, comparison, any_of, all_of, all, any, negation, group, starts_term, opens, inside, nested, unit}
-use Rattle.ss_parser.specs.Views.{head_of, columns, target, header, selection, declarations, says_finish, is_finish, finish, closed, end, filtered, unfiltered, ending, tree_with, view}
+use Rattle.ss_parser.specs.Views.{head_of, columns, target, header, selection, declarations, says_finish, is_finish, finish, closed, end, filtered, unfiltered, ending, tree_with, view, most_open}
 use Rattle.ss_parser.specs.Refused.{HasReading, IsRefused, fault_at, fault_by}
 use Rattle.ss_parser.proofs.ViewLaws.{name_laws, a_term_laws, decl_laws, after_term, word as a_word, the_sign, unit_laws, all_laws, after_all}
 use Rattle.ss_parser.proofs.PhraseLaws.{always}
@@ -318,9 +318,9 @@ fault_named Open_quote at e = cc
 
 pub every_text : (bytes : List ℕ) → HasReading bytes
 every_text bytes = ⊎_elim
-    (λ (r : AllRead (view 64) (pieces bytes)). inl (r.0, is_read bytes (pieces bytes) refl r.0 r.1))
-    (λ (s : Stopped (view 64) (pieces bytes)). inr (by s.0 s.1 s.2 s.3)) (view_decided 64 (pieces bytes) (pieces_ended bytes))
+    (λ (r : AllRead (view most_open) (pieces bytes)). inl (r.0, is_read bytes (pieces bytes) refl r.0 r.1))
+    (λ (s : Stopped (view most_open) (pieces bytes)). inr (by s.0 s.1 s.2 s.3)) (view_decided most_open (pieces bytes) (pieces_ended bytes))
   where
-    by : (deep : Bool) (first : Piece) (others : List Piece) → (view 64).stops deep (pieces bytes) (first ∷ others) → (f : ParseFault) × (f ≢ fault.NoMemory) × IsRefused bytes f
+    by : (deep : Bool) (first : Piece) (others : List Piece) → (view most_open).stops deep (pieces bytes) (first ∷ others) → (f : ParseFault) × (f ≢ fault.NoMemory) × IsRefused bytes f
     by false first others s = (fault_at first, fault_named first.says first.at, refused bytes (pieces bytes) refl (first ∷ others) (fault_at first) s refl)
     by true first others s = (fault.TooDeep first.at, (λ e. cc), refused_too_deep bytes (pieces bytes) refl (first ∷ others) first.at s refl)

@@ -17,7 +17,7 @@ use Rattle.ss_parser.specs.Phrases.{more as further}
 use Rattle.ss_parser.specs.Terms.{one, just, key, sign, is_key, is_sign, an_ident, ident, a_name, name, some, a_literal, literal, dotted, ident_term, is_ident, a_term}
 use Rattle.ss_parser.specs.Declarations.{decl_of, var, arrow_var, column_var, cell_var, in_relation, in_database, behind_name, named, decl}
 use Rattle.ss_parser.specs.Conditions.{an_operator, operator, comparison, any_of, all_of, all, any, negation, group, starts_term, opens, inside, unit}
-use Rattle.ss_parser.specs.Views.{Head, head_of, columns, target, header, selection, declarations, is_finish, finish, closed, end, filtered, unfiltered, ending, tree_with, view}
+use Rattle.ss_parser.specs.Views.{Head, head_of, columns, target, header, selection, declarations, is_finish, finish, closed, end, filtered, unfiltered, ending, tree_with, view, most_open}
 use Rattle.ss_parser.specs.Refused.{AreView, IsRead}
 use Rattle.ss_parser.proofs.Printable.{IsIdent, GoodName, GoodTerm, GoodRange, GoodDecl, Each, SomeEach, Inside, Bare, Members, GoodTree, bare_more, bare_inside}
 
@@ -261,12 +261,12 @@ ending_keeps n =
     then_keeps end (λ _. gives (Some c)) (λ _. Unit {0}) (GoodFilter n) end_keeps (λ _ _. gives_keeps (Some c) (GoodFilter n) h))))
     (then_keeps end (λ _. gives None) (λ _. Unit {0}) (GoodFilter n) end_keeps (λ _ _. gives_keeps None (GoodFilter n) tt))
 
-view_keeps : Keeps (view 64) GoodTree
+view_keeps : Keeps (view most_open) GoodTree
 view_keeps =
-    then_keeps header (λ h. selection >>= λ select. declarations >>= λ decls. ending 64 >>= λ c. gives (tree_with h select decls c)) GoodHead GoodTree header_keeps (λ h k.
-    then_keeps selection (λ select. declarations >>= λ decls. ending 64 >>= λ c. gives (tree_with h select decls c)) (SomeEach GoodTerm) GoodTree selection_keeps (λ select l.
-    then_keeps declarations (λ decls. ending 64 >>= λ c. gives (tree_with h select decls c)) (SomeEach GoodDecl) GoodTree declarations_keeps (λ decls m.
-    then_keeps (ending 64) (λ c. gives (tree_with h select decls c)) (GoodFilter 64) GoodTree (ending_keeps 64) (λ c f.
+    then_keeps header (λ h. selection >>= λ select. declarations >>= λ decls. ending most_open >>= λ c. gives (tree_with h select decls c)) GoodHead GoodTree header_keeps (λ h k.
+    then_keeps selection (λ select. declarations >>= λ decls. ending most_open >>= λ c. gives (tree_with h select decls c)) (SomeEach GoodTerm) GoodTree selection_keeps (λ select l.
+    then_keeps declarations (λ decls. ending most_open >>= λ c. gives (tree_with h select decls c)) (SomeEach GoodDecl) GoodTree declarations_keeps (λ decls m.
+    then_keeps (ending most_open) (λ c. gives (tree_with h select decls c)) (GoodFilter most_open) GoodTree (ending_keeps most_open) (λ c f.
     gives_keeps (tree_with h select decls c) GoodTree (record { view_db = k.view_db; label = k.label; columns = k.columns; select = l; decls = m; condition = f })))))
 
 -- what is read from a text is good

@@ -14,6 +14,7 @@ use Rattle.view_def.specs.Tree.{ViewTree}
 use Rattle.view_def.specs.Print.{is_any, is_joined}
 use Rattle.ss_lexer.specs.Lexemes.{keywords}
 use Rattle.ss_lexer.proofs.Chunks.{IsWord}
+use Rattle.ss_parser.specs.Views.{most_open}
 
 -- a word that spells no keyword
 abbrev pub IsIdent : Text → Type 0
@@ -75,7 +76,7 @@ pub record GoodTree (t : ViewTree) : Type 0 where
   pub columns : SomeEach GoodName t.columns
   pub select : SomeEach GoodTerm t.select
   pub decls : SomeEach GoodDecl t.decls
-  pub condition : IfSome t.condition (λ c. Bare c 64)
+  pub condition : IfSome t.condition (λ c. Bare c most_open)
 
 -- with one more it has so too
 inside_more : (b : Bool) (B : ℕ → Type 0) → ((n : ℕ) → B n → B (suc n)) → (n : ℕ) → Inside b B n → Inside b B (suc n)

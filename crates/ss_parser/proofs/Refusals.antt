@@ -6,7 +6,7 @@ use Rattle.std.proofs.Math.Seq.{take-append_seam, take-append-add}
 use Rattle.view_def.specs.Tree.{ViewTree}
 use Rattle.ss_lexer.specs.Lexemes.{Lexeme, Ident, Key, Quoted, Literal, Mark, Finish, Bad_byte, Open_quote, Piece, pieces}
 use Rattle.ss_parser.specs.Phrases.{next}
-use Rattle.ss_parser.specs.Views.{view}
+use Rattle.ss_parser.specs.Views.{view, most_open}
 use Rattle.ss_parser.specs.declared.fault.ParseFault.{ParseFault}
 use Rattle.ss_parser.specs.declared.fault.ParseFault.TheVariants as fault
 use Rattle.ss_parser.specs.Refused.{AreView, Begin, FirstBad, IsRead, IsFaultAt, IsRefusedAt, IsRefused, fault_by, fault_at}
@@ -47,7 +47,7 @@ more_stops m n le ts rest s =
 -- one tree only is read
 pub one_tree : (bytes : List ℕ) (t u : ViewTree) → IsRead bytes t → IsRead bytes u → t ≡ u
 unfolding AreView
-one_tree bytes t u r s = ((view_laws 64).one _ t u [] [] r s).0
+one_tree bytes t u r s = ((view_laws most_open).one _ t u [] [] r s).0
 
 -- the same pieces up to and with the next
 same_next : (xs ys : List Piece) → take 1 xs ≡ take 1 ys → next ys ≡ next xs
@@ -90,17 +90,17 @@ module _ (levels : ℕ) (deep : Bool) (ts rest : List Piece) (s : (view levels).
       l.not_both deep other.0 other.1 [] same.0 other.3 (subst (λ m. (view levels).stops deep m same.0) (sym same.1) (at.again same.0 same.2))
 
 -- however many may be open
-unexpected : (ts rest : List Piece) (k : ℕ) → (view 64).stops false ts rest → k + length rest ≡ length ts → (m : ℕ) → Begin m ts (suc k) → ⊥
+unexpected : (ts rest : List Piece) (k : ℕ) → (view most_open).stops false ts rest → k + length rest ≡ length ts → (m : ℕ) → Begin m ts (suc k) → ⊥
 unfolding AreView
 unexpected ts rest k s e m other = ⊎_elim
-    (λ (le : m < 64). begins_no_more 64 false ts rest s k e (other.0, other.1, other.2, more_levels m 64 (omega arith) other.0 other.1 [] other.3))
-    (λ (le : 64 ≤ m). begins_no_more m false ts rest (more_stops 64 m le ts rest s) k e other) (cases_lt m 64)
+    (λ (le : m < most_open). begins_no_more most_open false ts rest s k e (other.0, other.1, other.2, more_levels m most_open (omega arith) other.0 other.1 [] other.3))
+    (λ (le : most_open ≤ m). begins_no_more m false ts rest (more_stops most_open m le ts rest s) k e other) (cases_lt m most_open)
 
 -- where one more may be open
-too_deep : (ts rest : List Piece) (k : ℕ) → (view 64).stops true ts rest → k + length rest ≡ length ts → Begin 65 ts (suc k)
+too_deep : (ts rest : List Piece) (k : ℕ) → (view most_open).stops true ts rest → k + length rest ≡ length ts → Begin (suc most_open) ts (suc k)
 unfolding AreView
 too_deep ts rest k s e =
-    let g = (view_wider 64).goes ts rest s in
+    let g = (view_wider most_open).goes ts rest s in
     let k_is : length g.done + 1 ≡ suc k = omega (arith, ap length g.is, length-append g.done rest) in (
       g.done ++ (g.one ∷ (g.some ++ [])),
       g.value,
@@ -117,30 +117,30 @@ got (x ∷ done) rest p e = got done rest p e
 
 -- what is read, and what is refused, of a text
 module _ (bytes : List ℕ) (ps : List Piece) (is : ps ≡ pieces bytes) where
-  pub is_read : (t : ViewTree) → (view 64).reads ps t [] → IsRead bytes t
+  pub is_read : (t : ViewTree) → (view most_open).reads ps t [] → IsRead bytes t
   unfolding AreView
-  is_read t r = subst (λ m. (view 64).reads m t []) is r
+  is_read t r = subst (λ m. (view most_open).reads m t []) is r
 
-  pub not_read : (deep : Bool) (rest : List Piece) (t : ViewTree) → (view 64).stops deep ps rest → IsRead bytes t → ⊥
+  pub not_read : (deep : Bool) (rest : List Piece) (t : ViewTree) → (view most_open).stops deep ps rest → IsRead bytes t → ⊥
   unfolding AreView
-  not_read deep rest t s r = (view_laws 64).not_both deep (pieces bytes) t [] rest r (subst (λ m. (view 64).stops deep m rest) is s)
+  not_read deep rest t s r = (view_laws most_open).not_both deep (pieces bytes) t [] rest r (subst (λ m. (view most_open).stops deep m rest) is s)
 
-  module _ (deep : Bool) (rest : List Piece) (p : Piece) (s : (view 64).stops deep ps rest) (e : next rest ≡ Some p) where
+  module _ (deep : Bool) (rest : List Piece) (p : Piece) (s : (view most_open).stops deep ps rest) (e : next rest ≡ Some p) where
     place : ℕ
-    place = length ((view_laws 64).stuck deep ps rest s).done
+    place = length ((view_laws most_open).stuck deep ps rest s).done
 
     place_is : place + length rest ≡ length ps
     unfolding place
-    place_is = let at = (view_laws 64).stuck deep ps rest s in sym (ap length at.is ∙ length-append at.done rest)
+    place_is = let at = (view_laws most_open).stuck deep ps rest s in sym (ap length at.is ∙ length-append at.done rest)
 
     at_place : slice_get ps place ≡ Some p
     unfolding place
-    at_place = let at = (view_laws 64).stuck deep ps rest s in ap (λ m. slice_get m (length at.done)) at.is ∙ got at.done rest p e
+    at_place = let at = (view_laws most_open).stuck deep ps rest s in ap (λ m. slice_get m (length at.done)) at.is ∙ got at.done rest p e
 
     refused_at : (f : ParseFault) → IsFaultAt ps place p f → IsRefusedAt ps f
-    refused_at f h = (place, p, at_place, record { before = begins 64 deep ps rest s place place_is; not_with = begins_no_more 64 deep ps rest s place place_is }, h)
+    refused_at f h = (place, p, at_place, record { before = begins most_open deep ps rest s place place_is; not_with = begins_no_more most_open deep ps rest s place place_is }, h)
 
-  module _ (rest : List Piece) (p : Piece) (s : (view 64).stops false ps rest) (e : next rest ≡ Some p) where
+  module _ (rest : List Piece) (p : Piece) (s : (view most_open).stops false ps rest) (e : next rest ≡ Some p) where
     none_at : (m : ℕ) → Begin m ps (suc (place false rest p s e)) → ⊥
     none_at = unexpected ps rest (place false rest p s e) s (place_is false rest p s e)
 
@@ -154,16 +154,16 @@ module _ (bytes : List ℕ) (ps : List Piece) (is : ps ≡ pieces bytes) where
     refused_by (Mark t) says = subst (λ m. IsRefusedAt m (fault.Unexpected p.at)) is (refused_at false rest p s e (fault.Unexpected p.at) (sym (ap (λ l. fault_by l p.at) says), none_at))
     refused_by Finish says = subst (λ m. IsRefusedAt m (fault.Unexpected p.at)) is (refused_at false rest p s e (fault.Unexpected p.at) (sym (ap (λ l. fault_by l p.at) says), none_at))
 
-  pub refused : (rest : List Piece) (f : ParseFault) → (view 64).stops false ps rest → option_map fault_at (next rest) ≡ Some f → IsRefused bytes f
+  pub refused : (rest : List Piece) (f : ParseFault) → (view most_open).stops false ps rest → option_map fault_at (next rest) ≡ Some f → IsRefused bytes f
   refused [] f s e = absurd (cc)
   refused (p ∷ rest) f s e = subst (IsRefused bytes) (ap (λ o. unwrap_or o f) e) (refused_by (p ∷ rest) p s refl p.says refl)
 
-  pub refused_too_deep : (rest : List Piece) (at : ℕ) → (view 64).stops true ps rest → option_map (λ (p : Piece). p.at) (next rest) ≡ Some at → IsRefused bytes (fault.TooDeep at)
+  pub refused_too_deep : (rest : List Piece) (at : ℕ) → (view most_open).stops true ps rest → option_map (λ (p : Piece). p.at) (next rest) ≡ Some at → IsRefused bytes (fault.TooDeep at)
   refused_too_deep [] at s e = absurd (cc)
   refused_too_deep (p ∷ rest) at s e =
       let k = place true (p ∷ rest) p s refl in
       let same : at ≡ p.at = sym (ap (λ o. unwrap_or o at) e) in
-      subst (λ m. IsRefusedAt m (fault.TooDeep at)) is (refused_at true (p ∷ rest) p s refl (fault.TooDeep at) (same, view_stops_at 64 ps (p ∷ rest) s, too_deep ps (p ∷ rest) k s (place_is true (p ∷ rest) p s refl)))
+      subst (λ m. IsRefusedAt m (fault.TooDeep at)) is (refused_at true (p ∷ rest) p s refl (fault.TooDeep at) (same, view_stops_at most_open ps (p ∷ rest) s, too_deep ps (p ∷ rest) k s (place_is true (p ∷ rest) p s refl)))
 
 -- fewer pieces begin a view too
 fewer : (ps us : List Piece) (m n : ℕ) → m ≤ n → take n us ≡ take n ps → take m us ≡ take m ps
@@ -182,11 +182,11 @@ begin_fewer levels ps m n le b = (b.0, b.1, fewer ps b.0 m n le b.2, b.3)
 
 -- no place before is the first bad one
 not_before : (ps : List Piece) (k j : ℕ) → FirstBad ps k → FirstBad ps j → j ≤ k
-not_before ps k j f g = ⊎_elim (λ (lt : k < j). absurd (f.not_with (begin_fewer 64 ps (suc k) j (omega arith) g.before))) (λ (le : j ≤ k). le) (cases_lt k j)
+not_before ps k j f g = ⊎_elim (λ (lt : k < j). absurd (f.not_with (begin_fewer most_open ps (suc k) j (omega arith) g.before))) (λ (le : j ≤ k). le) (cases_lt k j)
 
 -- too deep, or the fault of the piece
 WhichFault : List Piece → ℕ → Piece → ParseFault → Type 0
-WhichFault ps k p f = ((f ≡ fault.TooDeep p.at) × Begin 65 ps (suc k)) ⊎ ((f ≡ fault_at p) × ((levels : ℕ) → Begin levels ps (suc k) → ⊥))
+WhichFault ps k p f = ((f ≡ fault.TooDeep p.at) × Begin (suc most_open) ps (suc k)) ⊎ ((f ≡ fault_at p) × ((levels : ℕ) → Begin levels ps (suc k) → ⊥))
 
 which : (ps : List Piece) (k : ℕ) (p : Piece) (f : ParseFault) → IsFaultAt ps k p f → WhichFault ps k p f
 unfolding WhichFault
@@ -199,8 +199,8 @@ which ps k p fault.NoMemory h = inr h
 same_fault : (ps : List Piece) (k : ℕ) (p : Piece) (f g : ParseFault) → WhichFault ps k p f → WhichFault ps k p g → f ≡ g
 unfolding WhichFault
 same_fault ps k p f g (inl a) (inl b) = a.0 ∙ sym b.0
-same_fault ps k p f g (inl a) (inr b) = absurd (b.1 65 a.1)
-same_fault ps k p f g (inr a) (inl b) = absurd (a.1 65 b.1)
+same_fault ps k p f g (inl a) (inr b) = absurd (b.1 (suc most_open) a.1)
+same_fault ps k p f g (inr a) (inl b) = absurd (a.1 (suc most_open) b.1)
 same_fault ps k p f g (inr a) (inr b) = a.0 ∙ sym b.0
 
 one_refusal_at : (ps : List Piece) (f g : ParseFault) → IsRefusedAt ps f → IsRefusedAt ps g → f ≡ g

@@ -22,7 +22,7 @@ use Rattle.ss_parser.specs.Phrases.{Phrase, gives, ◌>>=◌, by_next, listed, l
 use Rattle.ss_parser.specs.Terms.{just, key, sign, is_key, is_sign, an_ident, ident, a_name, name, some, a_literal, literal, dotted, ident_term, is_ident, a_term}
 use Rattle.ss_parser.specs.Declarations.{decl_of, var, arrow_var, column_var, cell_var, in_relation, in_database, behind_name, named, decl}
 use Rattle.ss_parser.specs.Conditions.{an_operator, operator, comparison, any_of, all_of, all, any, negation, group, starts_term, opens, inside, unit}
-use Rattle.ss_parser.specs.Views.{head_of, columns, target, header, selection, declarations, says_finish, finish, closed, end, filtered, unfiltered, ending, tree_with, view}
+use Rattle.ss_parser.specs.Views.{head_of, columns, target, header, selection, declarations, says_finish, finish, closed, end, filtered, unfiltered, ending, tree_with, view, most_open}
 use Rattle.ss_parser.specs.Refused.{AreView, IsRead}
 use Rattle.ss_parser.proofs.PhraseLaws.{always, no_comma}
 use Rattle.ss_parser.proofs.ViewLaws.{after_term, after_all, after_any, after_comma}
@@ -492,19 +492,19 @@ abbrev ending_first : Option Raw → Lexeme
 ending_first None = Finish
 ending_first (Some c) = Key (codes "where")
 
-ending_prints : (c : Option Raw) → IfSome c (λ r. Bare r 64) → PrintsAll (ending 64) c (ending_text c) (ending_first c)
+ending_prints : (c : Option Raw) → IfSome c (λ r. Bare r most_open) → PrintsAll (ending most_open) c (ending_text c) (ending_first c)
 ending_prints None h =
-    second_prints_all (is_key (codes "where")) (filtered 64) unfiltered None (codes "\n") Finish
+    second_prints_all (is_key (codes "where")) (filtered most_open) unfiltered None (codes "\n") Finish
     (mapped_prints_all end (λ _. None) tt (codes "\n") Finish end_prints) (λ pc k. rw k refl)
 ending_prints (Some c) h =
-    let a = any_printed c 64 h in
+    let a = any_printed c most_open h in
     let v = condition_text c ++ codes "\n" in
     let same : (32 ∷ codes "WHERE ") ++ v ≡ ending_text (Some c) = sym (append_assoc (codes " WHERE ") (condition_text c) (codes "\n")) in
-    subst (λ t. PrintsAll (ending 64) (Some c) t (Key (codes "where"))) same
-    (first_prints_all (is_key (codes "where")) (filtered 64) unfiltered (Some c) ((32 ∷ codes "WHERE ") ++ v) (Key (codes "where"))
-    (then_prints_all (key (codes "where")) (λ _. any (unit 64) >>= λ c. end >>= λ _. gives (Some c)) always tt (Some c) false (32 ∷ codes "WHERE ") v (Key (codes "where")) a.0
+    subst (λ t. PrintsAll (ending most_open) (Some c) t (Key (codes "where"))) same
+    (first_prints_all (is_key (codes "where")) (filtered most_open) unfiltered (Some c) ((32 ∷ codes "WHERE ") ++ v) (Key (codes "where"))
+    (then_prints_all (key (codes "where")) (λ _. any (unit most_open) >>= λ c. end >>= λ _. gives (Some c)) always tt (Some c) false (32 ∷ codes "WHERE ") v (Key (codes "where")) a.0
     (spaced (key (codes "where")) always tt false (codes "WHERE ") (Key (codes "where")) where_prints)
-    (then_prints_all (any (unit 64)) (λ c. end >>= λ _. gives (Some c)) after_any c (Some c) true (condition_text c) (codes "\n") a.0 Finish a.1
+    (then_prints_all (any (unit most_open)) (λ c. end >>= λ _. gives (Some c)) after_any c (Some c) true (condition_text c) (codes "\n") a.0 Finish a.1
     (mapped_prints_all end (λ _. Some c) tt (codes "\n") Finish end_prints) (λ pc k. rw k refl) (λ _. refl)) (λ _ _. refl) (λ e. absurd (cc))) (λ pc k. rw k refl))
 
 -- the header
@@ -576,7 +576,7 @@ print_is : (t : ViewTree) → print t ≡ printed_text (name_text t.view_db) (na
 unfolding print printed_text
 print_is t = refl
 
-view_prints_all : (t : ViewTree) → GoodTree t → PrintsAll (view 64) t (print t) (Key (codes "create"))
+view_prints_all : (t : ViewTree) → GoodTree t → PrintsAll (view most_open) t (print t) (Key (codes "create"))
 unfolding built_text
 view_prints_all t g =
     let h = head_of t.view_db t.label t.columns in
@@ -585,14 +585,14 @@ view_prints_all t g =
     let w = codes "CREATE " ++ (codes "VIEW " ++ ((name_text t.view_db ++ (codes "::" ++ (name_text t.label ++ (codes "(" ++ (columns_text t.columns ++ codes ")"))))) ++ (32 ∷ codes "AS "))) in
     let e = ending_text t.condition in
     let same = built_is_printed (name_text t.view_db) (name_text t.label) (columns_text t.columns) (join_by term_text (codes ", ") t.select) (join_by declaration_text (codes ", ") t.decls) (filter_text t.condition) ∙ sym (print_is t) in
-    subst (λ (v : Text). PrintsAll (view 64) t v (Key (codes "create"))) same
-    (then_prints_all header (λ h. selection >>= λ select. declarations >>= λ decls. ending 64 >>= λ c. gives (tree_with h select decls c)) always h t false w (ts ++ (ds ++ e)) (Key (codes "create")) (Key (codes "select"))
+    subst (λ (v : Text). PrintsAll (view most_open) t v (Key (codes "create"))) same
+    (then_prints_all header (λ h. selection >>= λ select. declarations >>= λ decls. ending most_open >>= λ c. gives (tree_with h select decls c)) always h t false w (ts ++ (ds ++ e)) (Key (codes "create")) (Key (codes "select"))
     (header_prints t.view_db t.label t.columns g.view_db g.label g.columns)
-    (then_prints_all selection (λ select. declarations >>= λ decls. ending 64 >>= λ c. gives (tree_with h select decls c)) (after_comma after_term) t.select t true ts (ds ++ e) (Key (codes "select")) (Key (codes "from"))
+    (then_prints_all selection (λ select. declarations >>= λ decls. ending most_open >>= λ c. gives (tree_with h select decls c)) (after_comma after_term) t.select t true ts (ds ++ e) (Key (codes "select")) (Key (codes "from"))
     (selection_prints t.select g.select)
-    (then_prints_all declarations (λ decls. ending 64 >>= λ c. gives (tree_with h t.select decls c)) (after_comma always) t.decls t true ds e (Key (codes "from")) (ending_first t.condition)
+    (then_prints_all declarations (λ decls. ending most_open >>= λ c. gives (tree_with h t.select decls c)) (after_comma always) t.decls t true ds e (Key (codes "from")) (ending_first t.condition)
     (spaced declarations (after_comma always) t.decls true (codes "FROM " ++ join_by declaration_text (codes ", ") t.decls) (Key (codes "from")) (declarations_prints t.decls g.decls))
-    (mapped_prints_all (ending 64) (λ c. tree_with h t.select t.decls c) t.condition e (ending_first t.condition) (ending_prints t.condition g.condition))
+    (mapped_prints_all (ending most_open) (λ c. tree_with h t.select t.decls c) t.condition e (ending_first t.condition) (ending_prints t.condition g.condition))
     (ending_fits t.condition) (λ _. ending_breaks t.condition)) (λ pc k. rw k refl) (λ _. refl)) (λ _ _. refl) (λ k. absurd (cc)))
 
 -- what is read from a text, printed, is read again

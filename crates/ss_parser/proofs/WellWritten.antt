@@ -9,6 +9,7 @@ use Rattle.view_def.specs.Written.{has_two, is_well_joined, are_well_joined, is_
 use Rattle.ss_parser.specs.Refused.{IsRead}
 use Rattle.ss_parser.proofs.Printable.{SomeEach, Inside, Two, Bare, Members}
 use Rattle.ss_parser.proofs.Kept.{good_tree}
+use Rattle.ss_parser.specs.Views.{most_open}
 
 one_at_least : {A : Type 0} (G : A → Type 0) (xs : List A) → SomeEach G xs → 1 ≤ length xs
 one_at_least G [] h = absurd h
@@ -35,9 +36,9 @@ mutual
   members_joined needed none n h = refl
   members_joined needed (more c cs) n h = and_from (is_well_joined c) (are_well_joined cs) (inside_has (needed c) (Bare c) (is_well_joined c) n (bare_joined c) h.0) (members_joined needed cs n h.1)
 
-filter_joined : (o : Option Raw) → IfSome o (λ c. Bare c 64) → is_well_joined_filter o ≡ true
+filter_joined : (o : Option Raw) → IfSome o (λ c. Bare c most_open) → is_well_joined_filter o ≡ true
 filter_joined None h = refl
-filter_joined (Some c) h = bare_joined c 64 h
+filter_joined (Some c) h = bare_joined c most_open h
 
 pub read_is_written : (bytes : List ℕ) (t : ViewTree) → IsRead bytes t → IsWritten t
 read_is_written bytes t r =

@@ -6,7 +6,7 @@ use Rattle.ss_lexer.specs.Lexemes.{Lexeme, Bad_byte, Open_quote, Piece, pieces}
 use Rattle.ss_parser.specs.declared.fault.ParseFault.{ParseFault}
 use Rattle.ss_parser.specs.declared.fault.ParseFault.TheVariants as fault
 use Rattle.ss_parser.specs.Conditions.{opens}
-use Rattle.ss_parser.specs.Views.{view}
+use Rattle.ss_parser.specs.Views.{view, most_open}
 
 -- these pieces are a view with this tree, with at most so many of NOT and "(" open at once
 unfoldable pub AreView : ℕ → List Piece → ViewTree → Type 0
@@ -14,7 +14,7 @@ AreView levels ps t = (view levels).reads ps t []
 
 -- the bytes are a view text with this tree
 abbrev pub IsRead : List ℕ → ViewTree → Type 0
-IsRead bytes t = AreView 64 (pieces bytes) t
+IsRead bytes t = AreView most_open (pieces bytes) t
 
 -- some view begins with the first k of these pieces
 abbrev pub Begin : ℕ → List Piece → ℕ → Type 0
@@ -22,8 +22,8 @@ Begin levels ps k = (us : List Piece) × (t : ViewTree) × (take k us ≡ take k
 
 -- the pieces before the place k begin some view, and with the one there they begin none
 pub record FirstBad (ps : List Piece) (k : ℕ) : Type 0 where
-  pub before : Begin 64 ps k
-  pub not_with : Begin 64 ps (suc k) → ⊥
+  pub before : Begin most_open ps k
+  pub not_with : Begin most_open ps (suc k) → ⊥
 
 -- the fault of a piece with which no view goes on: that of the text where it says one, or that it is not expected
 abbrev pub fault_by : Lexeme → ℕ → ParseFault
@@ -37,7 +37,7 @@ fault_at p = fault_by p.says p.at
 -- a NOT or "(" is too deep, where a view that may have one more open goes on with it; another fault is that of the piece,
 -- with which no view goes on, however many it may have open
 abbrev pub IsFaultAt : List Piece → ℕ → Piece → ParseFault → Type 0
-IsFaultAt ps k p (fault.TooDeep at) = (at ≡ p.at) × IsTrue (opens p) × Begin 65 ps (suc k)
+IsFaultAt ps k p (fault.TooDeep at) = (at ≡ p.at) × IsTrue (opens p) × Begin (suc most_open) ps (suc k)
 IsFaultAt ps k p f = (f ≡ fault_at p) × ((levels : ℕ) → Begin levels ps (suc k) → ⊥)
 
 -- the fault stands at the first piece with which these begin no view

@@ -11,6 +11,10 @@ use Rattle.ss_parser.specs.Terms.{just, key, sign, is_key, is_sign, name, some, 
 use Rattle.ss_parser.specs.Declarations.{decl}
 use Rattle.ss_parser.specs.Conditions.{any, unit}
 
+-- how many of NOT and "(" may be open at once
+abbrev pub most_open : ℕ
+most_open = 64
+
 -- the part before SELECT
 pub record Head : Type 0 where
   pub view_db : Name

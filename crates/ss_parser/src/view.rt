@@ -4,7 +4,7 @@ ghost use Rattle.view_def.specs.RawConditions.{raw_of};
 ghost use Rattle.view_def.specs.Tree.{ViewTree, tree_of};
 ghost use Rattle.view_def.specs.Written.{IsWritten};
 ghost use Rattle.view_def.specs.Print.{print};
-ghost use Rattle.ss_parser.specs.Views.{columns as columns_phrase, target as target_phrase, header as header_phrase, selection, declarations as declarations_phrase, end as end_phrase, filtered, ending as ending_phrase, view as view_phrase};
+ghost use Rattle.ss_parser.specs.Views.{columns as columns_phrase, target as target_phrase, header as header_phrase, selection, declarations as declarations_phrase, end as end_phrase, filtered, ending as ending_phrase, view as view_phrase, most_open};
 ghost use Rattle.ss_parser.specs.Heads.{head_in};
 ghost use Rattle.ss_parser.specs.Refused.{IsRead, IsRefused, IsReadAs};
 ghost use Rattle.ss_parser.specs.Parses.{Parses, ParsesAll};
@@ -49,7 +49,7 @@ struct Header {
 impl Reader<'_> {
     // A view, up to the end of the text.
     fn view(&mut self, alloc: Global) -> Result<ViewText, ParseStop>
-        ensures { ParsesAll tree_of (view_phrase 64) self.old self.new result }
+        ensures { ParsesAll tree_of (view_phrase most_open) self.old self.new result }
     {
         let header = self.header(alloc)?;
         let select = self.select_part(alloc)?;
@@ -124,7 +124,7 @@ impl Reader<'_> {
 
     // A condition or none, and the end.
     fn ending(&mut self, alloc: Global) -> Result<Option<RawCond>, ParseStop>
-        ensures { ParsesAll (option_map raw_of) (ending_phrase 64) self.old self.new result }
+        ensures { ParsesAll (option_map raw_of) (ending_phrase most_open) self.old self.new result }
     {
         if self.is_key(Keyword::Where) {
             self.where_part(alloc)
@@ -136,7 +136,7 @@ impl Reader<'_> {
 
     // WHERE, a condition, and the end.
     fn where_part(&mut self, alloc: Global) -> Result<Option<RawCond>, ParseStop>
-        ensures { ParsesAll (option_map raw_of) (filtered 64) self.old self.new result }
+        ensures { ParsesAll (option_map raw_of) (filtered most_open) self.old self.new result }
     {
         self.key(Keyword::Where)?;
         let condition = self.any(alloc, MOST_OPEN)?;

@@ -4,9 +4,12 @@ use Rattle.std.specs.List.{list_all, list_any}
 use Rattle.std.specs.Str.{is_utf8}
 use Rattle.ss_text.specs.Texts.{Text, Row}
 
--- 1 to 200 bytes
+abbrev pub most_label_bytes : ℕ
+most_label_bytes = 200
+
+-- at least one byte, and not too many
 abbrev pub has_label_length : Text → Bool
-has_label_length t = nat_le 1 (length t) && nat_le (length t) 200
+has_label_length t = nat_le 1 (length t) && nat_le (length t) most_label_bytes
 
 -- no control byte: none below 0x20, and not 0x7f
 abbrev pub is_column_byte : ℕ → Bool

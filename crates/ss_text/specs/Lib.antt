@@ -6,3 +6,4 @@ pub mod Whole
 pub mod Keys
 mod Held
 pub mod Front
+pub mod Seeds

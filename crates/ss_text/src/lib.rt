@@ -1,7 +1,9 @@
-//! Texts, rows of texts, the tests on them that several crates share, lists of them that ascend, and their fronts.
+//! Texts, rows of texts, the tests on them that several crates share, lists of them that ascend, their fronts, and the
+//! seed by which a run hashes them.
 //!
 //! Its contract: a `Text` is a list of bytes and a `Row` a list of texts, with the equality, order and hash of
-//! these lists; a front is a number by which they compare where two differ. It knows nothing of files, relations or views.
+//! these lists; a front is a number by which they compare where two differ; a seed is where a hash begins. It knows nothing
+//! of files, relations or views.
 #![tactic(auto)]
 
 mod ascending;
@@ -10,6 +12,7 @@ mod label;
 mod memory;
 mod number;
 mod row;
+mod seed;
 mod sets;
 mod short;
 mod steps;
@@ -21,6 +24,7 @@ pub use label::{column_label_legal, table_label_legal};
 pub use memory::NoMemory;
 pub use number::whole;
 pub use row::Row;
+pub use seed::Seed;
 pub use sets::{put, put_all};
 pub use steps::Steps;
 pub use text::Text;

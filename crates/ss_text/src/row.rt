@@ -7,6 +7,7 @@ ghost use Rattle.std.specs.Cmp.{partial_equiv_from_equiv, partial_order_from_agr
 ghost use Rattle.std.specs.Cmp.Lexicographic.{pointwise, slice_cmp, lists_equiv, lists_total, lists_ties, nat_list_eq_equiv, nat_list_cmp_total, texts_ties, bytes_decides};
 
 use crate::{NoMemory, Text};
+use std::alloc::Global;
 use std::cmp::Ordering;
 use std::hash::{Hash, Hasher};
 use std::marker::Model;
@@ -32,6 +33,17 @@ impl Row {
         ensures { result ≡ cells.items }
     {
         Row { texts: cells }
+    }
+
+    /// The row of copies of these texts, in this order.
+    pub fn of_copies(alloc: Global, texts: &[Text]) -> Result<Row, NoMemory>
+        ensures { IfOk result (λ row. row ≡ texts.now) }
+    {
+        let mut copies = Vec::with_capacity(alloc, texts.len())?;
+        for text in texts {
+            copies.push(text.copy()?)?;
+        }
+        Ok(Row::of(copies))
     }
 
     /// Its texts, in order.

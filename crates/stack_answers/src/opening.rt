@@ -22,7 +22,7 @@ use csv_catalog::first_repeated;
 use outside::{Folders, Sink, Stop};
 use schema_model::Catalogue;
 use ss_print::{refuse, refuse_level};
-use ss_text::{NoMemory, Steps, Text};
+use ss_text::{NoMemory, Seed, Steps, Text};
 use stack_levels::{Levels, OpenFault};
 use std::alloc::Global;
 use std::sync::ledger::Ledger;
@@ -83,7 +83,7 @@ fn open_views<F: Folders, K: Sink, L: Ledger>(
     ensures blames { Blames (world_of (F.state store.old) (K.state output.old)) (world_of (F.state store.new) (K.state output.new)) result }
     ensures steps { steps.new ≡ steps.old }
 {
-    match repeated_database(alloc, &definitions)? {
+    match repeated_database(alloc, store.seed(), &definitions)? {
         Some(db) => {
             let fields = twice_fields(alloc, &db)?;
             refuse(alloc, output, &fields)?;
@@ -97,11 +97,15 @@ fn open_views<F: Folders, K: Sink, L: Ledger>(
 }
 
 // The view database at the first place whose view database stands earlier too.
-fn repeated_database(alloc: Global, definitions: &[Definition]) -> Result<Option<Text>, NoMemory>
+fn repeated_database(
+    alloc: Global,
+    seed: Seed,
+    definitions: &[Definition],
+) -> Result<Option<Text>, NoMemory>
     ensures { IfOk result (λ db. db ≡ first_repeated (map (λ (q : Query). q.view_db) (defined_views definitions.now))) }
 {
     let databases = databases_of(alloc, definitions)?;
-    first_repeated(alloc, &databases)
+    first_repeated(alloc, seed, &databases)
 }
 
 // Opens views over one another, the lowest over the source relations.

@@ -11,7 +11,7 @@ ghost use Rattle.stack_levels.specs.Taking.{HaveTaken, HaveApplied, AreRefused};
 use crate::{Level, LevelsRefused, TableLabels};
 use change_script::Script;
 use schema_model::Change;
-use ss_text::{NoMemory, Steps, Text};
+use ss_text::{NoMemory, Seed, Steps, Text};
 use std::alloc::Global;
 use std::marker::Model;
 use std::sync::ledger::Ledger;
@@ -77,6 +77,14 @@ impl Levels {
         ensures names { result.now.changed ≡ lowest_names self.now }
     {
         self.levels[0].session()
+    }
+
+    /// The seed by which all is hashed that is kept for the levels.
+    pub fn seed(&self) -> Seed {
+        match self.levels.first() {
+            Some(level) => level.session().catalogue().seed(),
+            None => Seed::fixed(),
+        }
     }
 
     /// Makes changes of the lowest level's catalogue, with all that they come to at the levels above, and answers each level's

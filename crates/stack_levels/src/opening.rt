@@ -138,7 +138,8 @@ fn given_by(alloc: Global, level: &Level) -> Result<Catalogue, OpenFault>
     ensures refused { IfErr result (IsOpenFault (option_map limit_refusal (first_limit (database_by level.now.session.catalogue level.now.session.query)))) }
     ensures among { IfErr result (IsAmong 2) }
 {
-    match catalogue_of(alloc, level.view_db(), level.shape(), level.tables()) {
+    let seed = level.session().catalogue().seed();
+    match catalogue_of(alloc, seed, level.view_db(), level.shape(), level.tables()) {
         Ok(catalogue) => Ok(catalogue),
         Err(fault) => Err(limit_fault(alloc, fault)),
     }

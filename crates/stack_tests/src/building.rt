@@ -14,7 +14,7 @@ use apply_law::Applies;
 use flow_law::EvalFault;
 use schema_model::{Catalogue, Change};
 use ss_parser::parse;
-use ss_text::{NoMemory, Row, Steps, Text, table_label_legal};
+use ss_text::{NoMemory, Row, Seed, Steps, Text, table_label_legal};
 use std::alloc::Global;
 use std::sync::ledger::Ledger;
 use std::test::Fail;
@@ -106,7 +106,7 @@ fn catalogue_above<A: Applies>(
     if !table_label_legal(name) {
         return Ok(None);
     }
-    match catalogue_of(alloc, name, level.shape(), level.tables()) {
+    match catalogue_of(alloc, Seed::fixed(), name, level.shape(), level.tables()) {
         Ok(catalogue) => Ok(Some(catalogue)),
         Err(LiftFault::NoMemory) => Err(NoMemory),
         Err(LiftFault::Limit { .. }) => Ok(None),

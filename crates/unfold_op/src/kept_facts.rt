@@ -9,7 +9,7 @@ use crate::form::{FactForm, KeyAlone, KeyAndCell};
 use crate::one_table::{OneTable, TableReady};
 use flow_law::{EvalFault, TableLine};
 use operator_law::{Delta, Fresh, Kept, Operator};
-use ss_text::{NoMemory, Row, Steps, Text};
+use ss_text::{NoMemory, Row, Seed, Steps, Text};
 use std::alloc::Global;
 use std::marker::{Model, PhantomData};
 use std::sync::ledger::Ledger;
@@ -45,25 +45,30 @@ impl<F: FactForm> Model for KeptFacts<F> {
 }
 
 impl<F: FactForm> KeptFacts<F> {
-    /// No facts, beside these constant columns.
-    pub fn new(alloc: Global, constants: Row) -> KeptFacts<F>
+    /// No facts, beside these constant columns. They are hashed by a seed.
+    pub fn new(alloc: Global, seed: Seed, constants: Row) -> KeptFacts<F>
         ensures shape { result.shape ≡ record { label = None; constants = constants; spot = F.SPOT } }
         ensures keeps { KeepsFacts result [] }
         ensures none { result.waiting ≡ None }
     {
         KeptFacts {
-            table: OneTable::new(alloc, constants, F::SPOT),
+            table: OneTable::new(alloc, seed, constants, F::SPOT),
             form: PhantomData,
         }
     }
 
     /// The same, with room for so many facts.
-    pub fn with_room(alloc: Global, constants: Row, facts: usize) -> Result<KeptFacts<F>, NoMemory>
+    pub fn with_room(
+        alloc: Global,
+        seed: Seed,
+        constants: Row,
+        facts: usize,
+    ) -> Result<KeptFacts<F>, NoMemory>
         ensures shape { IfOk result (λ o. o.shape ≡ record { label = None; constants = constants; spot = F.SPOT }) }
         ensures keeps { IfOk result (λ o. KeepsFacts o []) }
         ensures none { IfOk result (λ o. o.waiting ≡ None) }
     {
-        let table = OneTable::with_room(alloc, constants, F::SPOT, facts)?;
+        let table = OneTable::with_room(alloc, seed, constants, F::SPOT, facts)?;
         Ok(KeptFacts {
             table,
             form: PhantomData,

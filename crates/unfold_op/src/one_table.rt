@@ -18,7 +18,7 @@ use crate::frame::{framed, total_after};
 use fact_counts::{FactCounts, NewCounts, commit, prepare, reserve};
 use flow_law::{EvalFault, Shape, TableLine};
 use operator_law::{Delta, Signed};
-use ss_text::{NoMemory, Row, Text};
+use ss_text::{NoMemory, Row, Seed, Text};
 use std::alloc::Global;
 use std::marker::Model;
 use std::snapshot::Snapshot;
@@ -111,19 +111,20 @@ impl OneTable {
         }
     }
 
-    /// No facts, of a table with these constant columns.
-    pub(crate) fn new(alloc: Global, constants: Row, spot: Option<usize>) -> OneTable
+    /// No facts, of a table with these constant columns, which are hashed by a seed.
+    pub(crate) fn new(alloc: Global, seed: Seed, constants: Row, spot: Option<usize>) -> OneTable
         ensures shape { result.shape ≡ record { label = None; constants = constants; spot = spot } }
         ensures keeps { KeepsFacts (seen result) [] }
         ensures whole { IsOneTable result }
         ensures none { result.waiting ≡ None }
     {
-        OneTable::of(alloc, constants, spot, FactCounts::new(alloc))
+        OneTable::of(alloc, constants, spot, FactCounts::new(alloc, seed))
     }
 
     /// The same, with room for so many facts.
     pub(crate) fn with_room(
         alloc: Global,
+        seed: Seed,
         constants: Row,
         spot: Option<usize>,
         facts: usize,
@@ -138,7 +139,7 @@ impl OneTable {
         } else {
             (facts, 0)
         };
-        let counts = FactCounts::with_room(alloc, keys, places)?;
+        let counts = FactCounts::with_room(alloc, seed, keys, places)?;
         Ok(OneTable::of(alloc, constants, spot, counts))
     }
 
@@ -151,7 +152,7 @@ impl OneTable {
         ensures none { IfOk result (λ t. t.waiting ≡ None) }
     {
         let constants = self.shape.constants.copy()?;
-        Ok(OneTable::new(alloc, constants, self.shape.spot))
+        Ok(OneTable::new(alloc, self.counts.seed(), constants, self.shape.spot))
     }
 
     /// Keeps a fact beside those that are kept: its label, its key, and its column and value where the table has a variable
@@ -193,7 +194,7 @@ impl OneTable {
             → lines.items ≡ lines_between label.now (fact_table (facts_in self.now.shape old)) (fact_table (facts_in self.now.shape new))) }
         ensures stops { IfErr result (MayStop (seen self.now) change.now) }
     {
-        let nets = nets_of(alloc, &self.shape, &change.moves)?;
+        let nets = nets_of(alloc, self.counts.seed(), &self.shape, &change.moves)?;
         match prepare(alloc, label, &self.shape.constants, &self.counts, &nets) {
             Ok(lines) => Ok(lines),
             Err(stop) => Err(stop),
@@ -233,7 +234,7 @@ impl OneTable {
         self.waiting = None;
         let label = label_for(&self.shape, &self.label, &change.moves).copy()?;
         let total = total_after(self.total, &change.moves);
-        let nets = nets_of(alloc, &self.shape, &change.moves)?;
+        let nets = nets_of(alloc, self.counts.seed(), &self.shape, &change.moves)?;
         let counts = reserve(alloc, &mut self.counts, &nets)?;
         self.waiting = Some(Waiting {
             of: Snapshot::of(change),

@@ -3,18 +3,8 @@ ghost use Rattle.std.specs.Prelude.{◌≡◌, length, IfOk};
 ghost use Rattle.flow_law.specs.FactRows.{fact_width, fact_in};
 
 use flow_law::Shape;
-use ss_text::{NoMemory, Row, Text};
+use ss_text::{NoMemory, Row};
 use std::alloc::Global;
-
-fn copies(alloc: Global, cells: &[Text]) -> Result<Row, NoMemory>
-    ensures { IfOk result (λ row. row ≡ cells.now) }
-{
-    let mut texts = Vec::with_capacity(alloc, cells.len())?;
-    for cell in cells {
-        texts.push(cell.copy()?)?;
-    }
-    Ok(Row::of(texts))
-}
 
 /// The key of the fact in a row.
 pub(crate) fn key_in(alloc: Global, shape: &Shape, row: &Row) -> Result<Row, NoMemory>
@@ -22,6 +12,6 @@ pub(crate) fn key_in(alloc: Global, shape: &Shape, row: &Row) -> Result<Row, NoM
     ensures { IfOk result (λ key. key ≡ (fact_in shape.now row.now).key) }
 {
     let cells = row.cells();
-    let key = copies(alloc, &cells[1..shape.constants.cells().len() + 1])?;
+    let key = Row::of_copies(alloc, &cells[1..shape.constants.cells().len() + 1])?;
     Ok(key)
 }

@@ -33,7 +33,7 @@ use Rattle.flow_law.specs.declared.refused.EvalFault.TheVariants as eval
 use Rattle.valuation_meaning.specs.Orders.{text_under, row_under, rows_under, SameRelation, SameRelations, SameDatabase, DifferInOrder}
 
 -- ---- elements of lists
-abbrev In : {A : Type 0} → A → List A → Type 0
+abbrev pub In : {A : Type 0} → A → List A → Type 0
 In x [] = ⊥
 In x (y ∷ ys) = (x ≡ y) ⊎ In x ys
 
@@ -45,12 +45,12 @@ or_right : (b : Bool) → (b || true) ≡ true
 or_right true = refl
 or_right false = refl
 
-in_any : {A : Type 0} (p : A → Bool) (x : A) (xs : List A) → In x xs → p x ≡ true → list_any p xs ≡ true
+pub in_any : {A : Type 0} (p : A → Bool) (x : A) (xs : List A) → In x xs → p x ≡ true → list_any p xs ≡ true
 in_any p x [] i h = absurd i
 in_any p x (y ∷ ys) (inl e) h = ap (λ (b : Bool). b || list_any p ys) (ap p (sym e) ∙ h)
 in_any p x (y ∷ ys) (inr i) h = ap (λ (b : Bool). p y || b) (in_any p x ys i h) ∙ or_right (p y)
 
-any_in : {A : Type 0} (p : A → Bool) (xs : List A) → list_any p xs ≡ true → (x : A) × In x xs × (p x ≡ true)
+pub any_in : {A : Type 0} (p : A → Bool) (xs : List A) → list_any p xs ≡ true → (x : A) × In x xs × (p x ≡ true)
 any_in p [] h = absurd (cc)
 any_in {A} p (y ∷ ys) h = by_first (any_or (p y) (list_any p ys) h) (any_in p ys)
   where
@@ -58,17 +58,17 @@ any_in {A} p (y ∷ ys) h = by_first (any_or (p y) (list_any p ys) h) (any_in p 
     by_first (inl e) rest = (y, inl refl, e)
     by_first (inr e) rest = let r = rest e in (r.0, inr r.1, r.2)
 
-in_map : {A B : Type 0} (f : A → B) (x : A) (xs : List A) → In x xs → In (f x) (map f xs)
+pub in_map : {A B : Type 0} (f : A → B) (x : A) (xs : List A) → In x xs → In (f x) (map f xs)
 in_map f x [] i = absurd i
 in_map f x (y ∷ ys) (inl e) = inl (ap f e)
 in_map f x (y ∷ ys) (inr i) = inr (in_map f x ys i)
 
-map_in : {A B : Type 0} (f : A → B) (y : B) (xs : List A) → In y (map f xs) → (x : A) × In x xs × (y ≡ f x)
+pub map_in : {A B : Type 0} (f : A → B) (y : B) (xs : List A) → In y (map f xs) → (x : A) × In x xs × (y ≡ f x)
 map_in f y [] i = absurd i
 map_in f y (x ∷ xs) (inl e) = (x, inl refl, e)
 map_in f y (x ∷ xs) (inr i) = let r = map_in f y xs i in (r.0, inr r.1, r.2)
 
-in_all : {A : Type 0} (P : A → Type 0) (x : A) (xs : List A) → In x xs → AllByRecursion P xs → P x
+pub in_all : {A : Type 0} (P : A → Type 0) (x : A) (xs : List A) → In x xs → AllByRecursion P xs → P x
 in_all P x [] i h = absurd i
 in_all P x (y ∷ ys) (inl e) h = subst P (sym e) h.0
 in_all P x (y ∷ ys) (inr i) h = in_all P x ys i h.1
@@ -145,10 +145,10 @@ next_place : (b : Bool) (p : ℕ) (cell : Text) (row : Row) → option_and_then 
 next_place true p cell row = refl
 next_place false p cell row = refl
 
-cell_here : (x : Text) (ns : Row) (cell : Text) (row : Row) (a : Text) → text_eq a x ≡ true → cell_under (x ∷ ns) a (cell ∷ row) ≡ Some cell
+pub cell_here : (x : Text) (ns : Row) (cell : Text) (row : Row) (a : Text) → text_eq a x ≡ true → cell_under (x ∷ ns) a (cell ∷ row) ≡ Some cell
 cell_here x ns cell row a e = rw (e, first_there (length ns)) refl
 
-cell_later : (x : Text) (ns : Row) (cell : Text) (row : Row) (a : Text) → text_eq a x ≡ false → cell_under (x ∷ ns) a (cell ∷ row) ≡ cell_under ns a row
+pub cell_later : (x : Text) (ns : Row) (cell : Text) (row : Row) (a : Text) → text_eq a x ≡ false → cell_under (x ∷ ns) a (cell ∷ row) ≡ cell_under ns a row
 cell_later x ns cell row a e = rw (e, one_more, one_later (position_or_len (text_eq a) ns) (length ns)) (next_place (nat_lt (position_or_len (text_eq a) ns) (length ns)) (position_or_len (text_eq a) ns) cell row)
 
 text_here : (x : Text) (ns : Row) (cell : Text) (row : Row) (a : Text) → text_eq a x ≡ true → text_under (x ∷ ns) (cell ∷ row) a ≡ cell
@@ -548,19 +548,19 @@ module _ (fs gs : List Fact) (same : SameElements fs gs) where
   illegal_same shape = λ i. option_or (table_same i) (column_same shape.constants i)
 
 -- ---- facts
-in_append : {A : Type 0} (x : A) (xs ys : List A) → In x xs ⊎ In x ys → In x (xs ++ ys)
+pub in_append : {A : Type 0} (x : A) (xs ys : List A) → In x xs ⊎ In x ys → In x (xs ++ ys)
 in_append x [] ys (inl i) = absurd i
 in_append x [] ys (inr i) = i
 in_append x (y ∷ xs) ys (inl (inl e)) = inl e
 in_append x (y ∷ xs) ys (inl (inr i)) = inr (in_append x xs ys (inl i))
 in_append x (y ∷ xs) ys (inr i) = inr (in_append x xs ys (inr i))
 
-append_in : {A : Type 0} (x : A) (xs ys : List A) → In x (xs ++ ys) → In x xs ⊎ In x ys
+pub append_in : {A : Type 0} (x : A) (xs ys : List A) → In x (xs ++ ys) → In x xs ⊎ In x ys
 append_in x [] ys i = inr i
 append_in x (y ∷ xs) ys (inl e) = inl (inl e)
 append_in x (y ∷ xs) ys (inr i) = elim (append_in x xs ys i) [ inl j ↦ inl (inr j) | inr j ↦ inr j ]
 
-flat_in : {A B : Type 0} (f : A → List B) (xs : List A) (y : B) → In y (flat_map f xs) → (x : A) × In x xs × In y (f x)
+pub flat_in : {A B : Type 0} (f : A → List B) (xs : List A) (y : B) → In y (flat_map f xs) → (x : A) × In x xs × In y (f x)
 flat_in f [] y i = absurd i
 flat_in {A} f (x ∷ xs) y i = by_part (append_in y (f x) (flat_map f xs) i) (flat_in f xs y)
   where
@@ -568,12 +568,12 @@ flat_in {A} f (x ∷ xs) y i = by_part (append_in y (f x) (flat_map f xs) i) (fl
     by_part (inl j) rest = (x, inl refl, j)
     by_part (inr j) rest = let r = rest j in (r.0, inr r.1, r.2)
 
-in_flat : {A B : Type 0} (f : A → List B) (xs : List A) (x : A) (y : B) → In x xs → In y (f x) → In y (flat_map f xs)
+pub in_flat : {A B : Type 0} (f : A → List B) (xs : List A) (x : A) (y : B) → In x xs → In y (f x) → In y (flat_map f xs)
 in_flat f [] x y i j = absurd i
 in_flat f (z ∷ xs) x y (inl e) j = in_append y (f z) (flat_map f xs) (inl (subst (λ a. In y (f a)) e j))
 in_flat f (z ∷ xs) x y (inr i) j = in_append y (f z) (flat_map f xs) (inr (in_flat f xs x y i j))
 
-in_kept : {A : Type 0} (p : A → Bool) (xs : List A) (x : A) → In x xs → p x ≡ true → In x (filter p xs)
+pub in_kept : {A : Type 0} (p : A → Bool) (xs : List A) (x : A) → In x xs → p x ≡ true → In x (filter p xs)
 in_kept p [] x i h = absurd i
 in_kept p (y ∷ ys) x i h = by_first (p y) refl i (λ j. in_kept p ys x j h)
   where
@@ -583,7 +583,7 @@ in_kept p (y ∷ ys) x i h = by_first (p y) refl i (λ j. in_kept p ys x j h)
     by_first false e (inl s) rest = let bad : true ≡ false = sym h ∙ ap p s ∙ e in absurd (cc)
     by_first false e (inr j) rest = rest j
 
-kept_in : {A : Type 0} (p : A → Bool) (xs : List A) (x : A) → In x (filter p xs) → In x xs × (p x ≡ true)
+pub kept_in : {A : Type 0} (p : A → Bool) (xs : List A) (x : A) → In x (filter p xs) → In x xs × (p x ≡ true)
 kept_in p [] x i = absurd i
 kept_in p (y ∷ ys) x i = by_first (p y) refl i (kept_in p ys x)
   where

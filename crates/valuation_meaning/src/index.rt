@@ -7,7 +7,7 @@ use crate::column::cell_under;
 use crate::element::Element;
 use indexmap::IndexMap;
 use schema_model::Relation;
-use ss_text::{NoMemory, Row, Text};
+use ss_text::{NoMemory, Row, Seed, Text};
 use std::alloc::Global;
 use std::marker::Model;
 
@@ -24,7 +24,7 @@ pub(crate) struct Index<'a> {
     relation: &'a Relation,
     attribute: &'a Text,
     rows: Vec<&'a Row>,
-    heads: IndexMap<&'a Text, usize>,
+    heads: IndexMap<&'a Text, usize, Seed>,
     next: Vec<Option<usize>>,
 }
 
@@ -56,16 +56,17 @@ fn no_next(alloc: Global, count: usize) -> Result<Vec<Option<usize>>, NoMemory>
 
 impl<'a> Index<'a> {
     /// The index of a relation by an attribute. It is made from the last row to the first, so that the row that
-    /// was the first of its cell so far is the next of the row before it.
+    /// was the first of its cell so far is the next of the row before it. Cells are hashed by a seed.
     pub(crate) fn of(
         alloc: Global,
+        seed: Seed,
         relation: &'a Relation,
         attribute: &'a Text,
     ) -> Result<Index<'a>, NoMemory>
         ensures { IfOk result (λ index. index ≡ (plain_relation relation.now, attribute.now)) }
     {
         let rows = relation.rows(alloc)?;
-        let mut heads = IndexMap::new(alloc);
+        let mut heads = IndexMap::with_hasher(alloc, seed);
         let mut next = no_next(alloc, rows.len())?;
         let mut position = rows.len();
         while position > 0 {

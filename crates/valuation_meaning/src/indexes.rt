@@ -8,7 +8,7 @@ use crate::element::Element;
 use crate::index::{Index, Lists};
 use indexmap::IndexMap;
 use schema_model::{Catalogue, Relation};
-use ss_text::{NoMemory, Text};
+use ss_text::{NoMemory, Seed, Text};
 use std::alloc::Global;
 use std::marker::Model;
 
@@ -17,7 +17,7 @@ use std::marker::Model;
 #[derive(Drop)]
 pub(crate) struct Indexes<'a> {
     catalogue: &'a Catalogue,
-    made: IndexMap<(&'a Text, &'a Text, &'a Text), Index<'a>>,
+    made: IndexMap<(&'a Text, &'a Text, &'a Text), Index<'a>, Seed>,
 }
 
 impl<'a> Model for Indexes<'a> {
@@ -38,7 +38,7 @@ impl<'a> Indexes<'a> {
     {
         Indexes {
             catalogue,
-            made: IndexMap::new(alloc),
+            made: IndexMap::with_hasher(alloc, catalogue.seed()),
         }
     }
 
@@ -63,7 +63,7 @@ impl<'a> Indexes<'a> {
         let Some(relation) = self.relation(names.0, names.1) else {
             return Ok(Vec::new(alloc));
         };
-        let index = Index::of(alloc, relation, names.2)?;
+        let index = Index::of(alloc, self.catalogue.seed(), relation, names.2)?;
         let found = index.found(alloc, lists, text)?;
         self.made.insert(names, index)?;
         Ok(found)

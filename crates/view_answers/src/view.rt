@@ -41,7 +41,7 @@ use ss_print::{
     clash_fields, escape_fields, illegal_fields, line_fields, print_script, print_synced,
     refusal_fields, refuse,
 };
-use ss_text::{NoMemory, Row, Steps, Text};
+use ss_text::{NoMemory, Row, Seed, Steps, Text};
 use std::alloc::Global;
 use std::marker::Model;
 use std::sync::ledger::Ledger;
@@ -153,6 +153,11 @@ impl OpenView {
         )?;
         print_synced(alloc, output, count)?;
         Ok(())
+    }
+
+    /// The seed by which all is hashed that is kept for the view.
+    pub fn seed(&self) -> Seed {
+        self.session.catalogue().seed()
     }
 
     /// Whether a group is open.

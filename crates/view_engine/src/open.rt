@@ -12,19 +12,19 @@ use crate::{Engine, ViewTables};
 use fact_tables::{AllFacts, FactCell};
 use plan_translate::translate;
 use schema_model::Catalogue;
-use ss_text::{NoMemory, Steps};
+use ss_text::{NoMemory, Seed, Steps};
 use std::alloc::Global;
 use std::sync::ledger::Ledger;
 use valuation_meaning::shape_of;
 use view_def::View;
 
 // The tables of a view, without facts, where so many are to come.
-fn tables_of(alloc: Global, view: &View, facts: usize) -> Result<ViewTables, NoMemory>
+fn tables_of(alloc: Global, seed: Seed, view: &View, facts: usize) -> Result<ViewTables, NoMemory>
     requires { IsViewOfProfile (query_of view.now) }
     ensures { IfOk result (λ tables. KeepsTables (shape_of (query_of view.now)) tables []) }
 {
     let shape = shape_of(view)?;
-    let tables = ViewTables::new(alloc, shape, facts)?;
+    let tables = ViewTables::new(alloc, seed, shape, facts)?;
     Ok(tables)
 }
 
@@ -48,8 +48,8 @@ impl Engine {
     {
         // What a catalogue has is sound.
         let _databases = catalogue.databases();
-        let mut tables = tables_of(alloc, view, facts.count_once())?;
-        let mut plan = translate(alloc, view)?;
+        let mut tables = tables_of(alloc, catalogue.seed(), view, facts.count_once())?;
+        let mut plan = translate(alloc, catalogue.seed(), view)?;
         plan.fill(alloc, catalogue)?;
         tables.fill(alloc, facts)?;
         Ok(Engine { plan, tables })

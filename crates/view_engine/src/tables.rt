@@ -13,7 +13,7 @@ use fact_tables::{AllFacts, Fact, FactCell};
 use flow_law::{EvalFault, Shape, TableLine};
 use operator_law::{Delta, Kept, Operator};
 use split_op::{Split, SplitReady, Whole};
-use ss_text::{NoMemory, Row, Steps, Text};
+use ss_text::{NoMemory, Row, Seed, Steps, Text};
 use std::alloc::Global;
 use std::marker::PhantomData;
 use std::sync::ledger::Ledger;
@@ -56,6 +56,7 @@ pub enum TablesReady {
 // The one table of this label, without facts, with room for so many.
 fn one_table(
     alloc: Global,
+    seed: Seed,
     label: Text,
     constants: Row,
     spot: Option<usize>,
@@ -66,18 +67,23 @@ fn one_table(
 {
     match spot {
         None => {
-            let inner = Distinct::with_room(alloc, constants, facts)?;
+            let inner = Distinct::with_room(alloc, seed, constants, facts)?;
             Ok(ViewTables::OneOfRows(Whole::new(label, inner)))
         }
         Some(_) => {
-            let inner = Unfold::with_room(alloc, constants, facts)?;
+            let inner = Unfold::with_room(alloc, seed, constants, facts)?;
             Ok(ViewTables::OneOfCells(Whole::new(label, inner)))
         }
     }
 }
 
 // No table of any label.
-fn each_table(alloc: Global, constants: Row, spot: Option<usize>) -> Result<ViewTables, NoMemory>
+fn each_table(
+    alloc: Global,
+    seed: Seed,
+    constants: Row,
+    spot: Option<usize>,
+) -> Result<ViewTables, NoMemory>
     ensures { IfOk result (λ tables. KeepsTables (record { label = None; constants = constants; spot = spot }) tables []) }
 {
     let columns = constants.copy()?;
@@ -88,11 +94,11 @@ fn each_table(alloc: Global, constants: Row, spot: Option<usize>) -> Result<View
     };
     match spot {
         None => {
-            let split = Split::new(alloc, shape, Distinct::new(alloc, columns));
+            let split = Split::new(alloc, seed, shape, Distinct::new(alloc, seed, columns));
             Ok(ViewTables::EachOfRows(split, PhantomData))
         }
         Some(_) => {
-            let split = Split::new(alloc, shape, Unfold::new(alloc, columns));
+            let split = Split::new(alloc, seed, shape, Unfold::new(alloc, seed, columns));
             Ok(ViewTables::EachOfCells(split, PhantomData))
         }
     }
@@ -121,8 +127,13 @@ fn each(ready: TablesReady) -> SplitReady
 
 impl ViewTables {
     /// No facts, of tables of this form, whose label is legal where it is constant. The one table of such a label has room
-    /// for so many facts.
-    pub fn new(alloc: Global, shape: Shape, facts: usize) -> Result<ViewTables, NoMemory>
+    /// for so many facts. They are hashed by a seed.
+    pub fn new(
+        alloc: Global,
+        seed: Seed,
+        shape: Shape,
+        facts: usize,
+    ) -> Result<ViewTables, NoMemory>
         requires { ForSome shape.label (λ label. is_table_label label ≡ true) }
         ensures { IfOk result (λ tables. KeepsTables shape tables []) }
     {
@@ -132,8 +143,8 @@ impl ViewTables {
             spot,
         } = shape;
         match label {
-            Some(label) => one_table(alloc, label, constants, spot, facts),
-            None => each_table(alloc, constants, spot),
+            Some(label) => one_table(alloc, seed, label, constants, spot, facts),
+            None => each_table(alloc, seed, constants, spot),
         }
     }
 

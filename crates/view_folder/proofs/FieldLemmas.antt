@@ -13,7 +13,8 @@ use Rattle.flow_law.specs.Tables.{TableValue, TablesValue, table_of}
 use Rattle.csv_catalog.specs.RecordText.{record_text, csv_text}
 use Rattle.csv_catalog.proofs.Canonical.{canonical}
 use Rattle.csv_catalog.proofs.ListLemmas.{next_left}
-use Rattle.view_folder.specs.TableFiles.{spliced, row_records, table_text}
+use Rattle.view_folder.specs.TableFiles.{table_text}
+use Rattle.flow_law.specs.Records.{spliced, row_records}
 use Rattle.view_folder.specs.Fields.{IsWithin}
 
 -- numbers that are the same as a third in the same cases

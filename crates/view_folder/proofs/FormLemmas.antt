@@ -17,7 +17,8 @@ use Rattle.flow_law.specs.declared.shape.Shape.{Shape}
 use Rattle.flow_law.specs.Tables.{TableValue, row_keys}
 use Rattle.view_folder.specs.declared.held.TablesFault.{TablesFault}
 use Rattle.view_folder.specs.declared.held.TablesFault.TheVariants.{NameTwice, Ragged, NotThisView}
-use Rattle.view_folder.specs.TableFiles.{spliced, table_records}
+use Rattle.view_folder.specs.TableFiles.{table_records}
+use Rattle.flow_law.specs.Records.{spliced}
 use Rattle.view_folder.specs.Records.{ascends, ragged, dynamic_part, constant_part, are_columns, is_header, are_of_view, key_and_cells, table_in, records_fault}
 use Rattle.change_script.specs.Fits.{IsForm}
 use Rattle.view_folder.specs.Forms.{HasForm}

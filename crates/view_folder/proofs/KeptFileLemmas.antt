@@ -15,7 +15,8 @@ use Rattle.kept_tables.specs.declared.slot.Held.{Held as Slot}
 use Rattle.kept_tables.specs.Slots.{slot_label, table_there, tables_in}
 use Rattle.kept_tables.proofs.ThereLemmas.{tables_more, none_there, one_there}
 use Rattle.view_folder.specs.declared.file.File.{File}
-use Rattle.view_folder.specs.TableFiles.{spliced, row_records, table_text, table_file, table_files}
+use Rattle.view_folder.specs.TableFiles.{table_text, table_file, table_files}
+use Rattle.flow_law.specs.Records.{spliced, row_records}
 
 csv_joined : (front back : List Row) → csv_text (front ++ back) ≡ csv_text front ++ csv_text back
 unfolding csv_text

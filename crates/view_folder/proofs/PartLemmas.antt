@@ -6,7 +6,7 @@ use Rattle.std.proofs.Math.Seq.{take-append_seam, drop-append_seam}
 use Rattle.std.proofs.lemmas.List.{append-nil, length-append, length-take-le, length-drop, take-append-drop, take_all, drop_all}
 use Rattle.ss_text.specs.Texts.{Text, Row}
 use Rattle.flow_law.specs.declared.shape.Shape.{Shape}
-use Rattle.view_folder.specs.TableFiles.{spliced}
+use Rattle.flow_law.specs.Records.{spliced}
 use Rattle.view_folder.specs.Records.{before_spot, behind_spot, dynamic_count, dynamic_part, constant_part}
 use Rattle.change_script.specs.Fits.{IsForm}
 

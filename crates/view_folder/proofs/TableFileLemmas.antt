@@ -2,7 +2,7 @@
 use Rattle.std.proofs.Common.{◌≡◌, ◌≢◌, ◌<◌, ◌+◌, ◌∙◌, ℕ, zero, suc, List, [], ◌∷◌, ◌++◌, map, take, length, get_or, Option, None, Some, refl, sym, ap, append_assoc, append-nil, arith, add-one}
 use Rattle.ss_text.specs.Texts.{Row}
 use Rattle.csv_catalog.specs.RecordText.{csv_text, record_text}
-use Rattle.view_folder.specs.TableFiles.{spliced}
+use Rattle.flow_law.specs.Records.{spliced}
 
 pub csv_text_one : (row : Row) → record_text row ≡ csv_text (row ∷ [])
 unfolding csv_text

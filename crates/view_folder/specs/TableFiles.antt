@@ -1,21 +1,13 @@
 -- The files of tables.
-use Rattle.std.specs.Prelude.{◌≢◌, ℕ, List, [], ◌∷◌, ◌++◌, map, take, drop, Option, None, Some}
+use Rattle.std.specs.Prelude.{◌≢◌, List, [], ◌∷◌, map}
 use Rattle.std.specs.List.{AllByRecursion}
 use Rattle.ss_text.specs.Texts.{Text, Row}
 use Rattle.csv_catalog.specs.RecordText.{csv_text}
 use Rattle.flow_law.specs.declared.shape.Shape.{Shape}
 use Rattle.flow_law.specs.Tables.{TableValue, TablesValue}
+use Rattle.flow_law.specs.Records.{spliced, row_records}
 use Rattle.view_folder.specs.declared.file.File.{File}
 use Rattle.view_folder.specs.Files.{file_name}
-
--- a record: the constant columns' part, with the dynamic columns' part behind as many of them as the spot says
-abbrev pub spliced : Option ℕ → Row → Row → Row
-spliced None constant dynamic = constant
-spliced (Some spot) constant dynamic = take spot constant ++ dynamic ++ drop spot constant
-
--- a record for each row
-abbrev pub row_records : Option ℕ → List (Row × Row) → List Row
-row_records spot rows = map (λ (r : Row × Row). spliced spot r.0 r.1) rows
 
 -- the header, and a record for each key, ascending
 abbrev pub table_records : Shape → TableValue → List Row

@@ -5,7 +5,8 @@ ghost use Rattle.ss_text.specs.Texts.{Row};
 ghost use Rattle.flow_law.specs.Tables.{table_of};
 ghost use Rattle.csv_catalog.specs.RecordText.{record_text, csv_text};
 ghost use Rattle.view_folder.specs.Fields.{IsWithin};
-ghost use Rattle.view_folder.specs.TableFiles.{spliced, row_records, table_text, table_file, table_files, FitsShape, FitShape};
+ghost use Rattle.view_folder.specs.TableFiles.{table_text, table_file, table_files, FitsShape, FitShape};
+ghost use Rattle.flow_law.specs.Records.{spliced, row_records};
 
 use crate::File;
 use crate::fields::{end_record, into_text, new_writer, put_field};

@@ -14,7 +14,7 @@ use crate::records::table_of;
 use csv_catalog::records;
 use flow_law::{Shape, Table, Tables};
 use outside::{Folders, StoreFault};
-use ss_text::{NoMemory, Text, table_label_legal};
+use ss_text::{NoMemory, Seed, Text, table_label_legal};
 use std::alloc::{AllocFailed, Global};
 use std::collections::BTreeMap;
 
@@ -149,7 +149,7 @@ fn read_one_more<F: Folders>(
         Err(StoreFault::Failed) => return Err(TablesFault::ReadFault),
         Err(StoreFault::NoMemory) => return Err(TablesFault::NoMemory),
     };
-    match table_of_bytes(alloc, shape, name, bytes.as_slice()) {
+    match table_of_bytes(alloc, store.seed(), shape, name, bytes.as_slice()) {
         Ok(table) => {
             tables.insert(label, table)?;
             Ok(())
@@ -161,6 +161,7 @@ fn read_one_more<F: Folders>(
 // The table of a file with these bytes.
 fn table_of_bytes(
     alloc: Global,
+    seed: Seed,
     shape: &Shape,
     name: Text,
     bytes: &[u8],
@@ -172,7 +173,7 @@ fn table_of_bytes(
     ensures no_read { IfErr result (λ e. e ≢ TablesFault.ReadFault) }
 {
     let records = records(alloc, bytes)?;
-    table_of(alloc, shape, name, &records)
+    table_of(alloc, seed, shape, name, &records)
 }
 
 // The label of a table's file, where the name is that of one.

@@ -5,7 +5,8 @@ ghost use Rattle.csv_catalog.specs.RecordText.{csv_text};
 ghost use Rattle.row_shelves.specs.Stocks.{Stock, rows_of};
 ghost use Rattle.row_shelves.specs.Shelves.{all_rows};
 ghost use Rattle.kept_tables.specs.Slots.{tables_in};
-ghost use Rattle.view_folder.specs.TableFiles.{row_records, table_text, table_file, table_files, FitsShape, FitShape};
+ghost use Rattle.view_folder.specs.TableFiles.{table_text, table_file, table_files, FitsShape, FitShape};
+ghost use Rattle.flow_law.specs.Records.{row_records};
 
 use crate::File;
 use crate::file::file_name;

@@ -14,7 +14,7 @@ use crate::TableTexts;
 use crate::file::{File, folder_of_view, is_csv_name};
 use flow_law::Shape;
 use outside::{Folders, Stop, list_files, remove_file, write_file};
-use ss_text::{NoMemory, Text};
+use ss_text::{NoMemory, Seed, Text};
 use std::alloc::Global;
 use std::collections::HashSet;
 
@@ -65,17 +65,22 @@ pub fn sync_files<F: Folders>(
     ensures blames { StoreBlames (F.state store.old) (F.state store.new) result }
 {
     let names = list_files(alloc, store, folder)?;
-    let others = others_among(alloc, files, names)?;
+    let others = others_among(alloc, store.seed(), files, names)?;
     write_files(alloc, store, folder, files)?;
     let removed = remove_files(alloc, store, folder, &others)?;
     Ok(files.len() + removed)
 }
 
 // Of these names, those that end in `.csv` and are no file's.
-fn others_among(alloc: Global, files: &[File], names: Vec<Text>) -> Result<Vec<Text>, NoMemory>
+fn others_among(
+    alloc: Global,
+    seed: Seed,
+    files: &[File],
+    names: Vec<Text>,
+) -> Result<Vec<Text>, NoMemory>
     ensures { IfOk result (λ others. others.items ≡ other_names files.now names.items) }
 {
-    let taken = names_of(alloc, files)?;
+    let taken = names_of(alloc, seed, files)?;
     let mut others = Vec::new(alloc);
     for name in names {
         push_other(&mut others, &taken, name)?;
@@ -84,10 +89,10 @@ fn others_among(alloc: Global, files: &[File], names: Vec<Text>) -> Result<Vec<T
 }
 
 // The names of the files.
-fn names_of(alloc: Global, files: &[File]) -> Result<HashSet<&Text>, NoMemory>
+fn names_of(alloc: Global, seed: Seed, files: &[File]) -> Result<HashSet<&Text, Seed>, NoMemory>
     ensures { IfOk result (λ names. (name : List ℕ) → has_name names.keys name ≡ is_named files.now name) }
 {
-    let mut names = HashSet::new(alloc);
+    let mut names = HashSet::with_hasher(alloc, seed);
     for file in files {
         names.insert(&file.name)?;
     }
@@ -95,7 +100,11 @@ fn names_of(alloc: Global, files: &[File]) -> Result<HashSet<&Text>, NoMemory>
 }
 
 // Puts a name last that ends in `.csv` and is not taken.
-fn push_other(others: &mut Vec<Text>, taken: &HashSet<&Text>, name: Text) -> Result<(), NoMemory>
+fn push_other(
+    others: &mut Vec<Text>,
+    taken: &HashSet<&Text, Seed>,
+    name: Text,
+) -> Result<(), NoMemory>
     ensures { OnOk result (others.new.items ≡ (if is_csv_name name && not (has_name taken.now.keys name) then others.old.items ++ name ∷ [] else others.old.items)) }
 {
     if is_other(taken, &name) {
@@ -104,7 +113,7 @@ fn push_other(others: &mut Vec<Text>, taken: &HashSet<&Text>, name: Text) -> Res
     Ok(())
 }
 
-fn is_other(taken: &HashSet<&Text>, name: &Text) -> bool
+fn is_other(taken: &HashSet<&Text, Seed>, name: &Text) -> bool
     ensures { result ≡ (is_csv_name name.now && not (has_name taken.now.keys name.now)) }
 {
     is_csv_name(name) && !taken.contains(&name)

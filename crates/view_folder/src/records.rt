@@ -13,12 +13,13 @@ ghost use Rattle.view_folder.specs.Records.{records_fault, rows_fault, lengths_f
 use crate::TablesFault;
 use csv_catalog::first_repeated;
 use flow_law::{Shape, Table};
-use ss_text::{NoMemory, Row, Text, column_label_legal};
+use ss_text::{NoMemory, Row, Seed, Text, column_label_legal};
 use std::alloc::Global;
 
 // The table of these records, which a file of this name holds.
 pub(crate) fn table_of(
     alloc: Global,
+    seed: Seed,
     shape: &Shape,
     file: Text,
     records: &[Row],
@@ -31,13 +32,14 @@ pub(crate) fn table_of(
 {
     match records {
         [] => Err(TablesFault::NoHeader { file }),
-        [header, rows @ ..] => table_of_rows(alloc, shape, file, header, rows),
+        [header, rows @ ..] => table_of_rows(alloc, seed, shape, file, header, rows),
     }
 }
 
 // The table of this header and these rows.
 fn table_of_rows(
     alloc: Global,
+    seed: Seed,
     shape: &Shape,
     file: Text,
     header: &Row,
@@ -49,7 +51,7 @@ fn table_of_rows(
     ensures refused { IfErr result (λ e. is_refusal e ≡ true → rows_fault shape.now file header.now rows.now ≡ Some e) }
     ensures no_read { IfErr result (λ e. e ≢ TablesFault.ReadFault) }
 {
-    match first_repeated(alloc, header.cells())? {
+    match first_repeated(alloc, seed, header.cells())? {
         Some(name) => Err(TablesFault::NameTwice { file, name }),
         None => table_of_lengths(alloc, shape, file, header, rows),
     }

@@ -4,7 +4,8 @@ ghost use Rattle.ss_text.specs.Texts.{Row};
 ghost use Rattle.csv_catalog.specs.RecordText.{record_text};
 ghost use Rattle.flow_law.specs.Tables.{row_at};
 ghost use Rattle.view_folder.specs.Files.{AreViewFiles};
-ghost use Rattle.view_folder.specs.TableFiles.{spliced, table_text, table_file, table_files, FitsShape, FitShape};
+ghost use Rattle.view_folder.specs.TableFiles.{table_text, table_file, table_files, FitsShape, FitShape};
+ghost use Rattle.flow_law.specs.Records.{spliced};
 
 use crate::File;
 use crate::file::file_name;

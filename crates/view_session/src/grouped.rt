@@ -41,7 +41,7 @@ fn group_of(
     ensures changes { IfOk result (λ group. group.draft.changes ≡ changes.now) }
     ensures refused { (verdict : CatalogueValue → Verdict) → IfErr result (IsGroupRefused verdict catalogue.old.databases changes.now) }
 {
-    let mut group = Group::new(alloc);
+    let mut group = Group::new(alloc, catalogue.seed());
     for change in changes {
         match group.hold(alloc, catalogue, change) {
             Ok(()) => {}

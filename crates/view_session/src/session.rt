@@ -210,7 +210,7 @@ impl Session {
         requires unproposed { self.old.proposed ≡ None }
         ensures { self.new ≡ begun self.old }
     {
-        self.waits = Waits::Open(Group::new(alloc));
+        self.waits = Waits::Open(Group::new(alloc, self.catalogue.seed()));
     }
 
     /// Holds one more change in the open group. After each refusal the session is as before.

@@ -10,11 +10,11 @@ use Rattle.ss_text.specs.Places.{at_place}
 use Rattle.ss_text.proofs.PlaceLemmas.{length_at_place, length_last}
 use Rattle.row_shelves.specs.Stocks.{Stock, row_of, rows_of}
 use Rattle.row_shelves.specs.Shelves.{all_rows}
-use Rattle.schema_model.specs.Catalogue.{RelationValue, DatabaseValue, CatalogueValue, relation_value, database_value, rows_in, row_count, database_at, relation_at, with_row, with_relation_at}
+use Rattle.schema_model.specs.Catalogue.{RelationValue, DatabaseValue, CatalogueValue, relation_value, database_value, rows_in, row_count, database_at, relation_at, with_row, with_relation_at, with_rows}
 use Rattle.schema_model.specs.Limits.{most_rows}
 use Rattle.schema_model.specs.States.{CatalogueState, settled}
-use Rattle.view_stack.specs.Putting.{with_rows, rows_put, relations_put, CanTakeRows, CanTake}
-use Rattle.view_stack.specs.Stands.{spliced, records_of}
+use Rattle.view_stack.specs.Putting.{rows_put, relations_put, CanTakeRows, CanTake}
+use Rattle.flow_law.specs.Records.{spliced, row_records}
 
 module _ {A : Type 0} where
   item_at : (i : ℕ) (f : A → A) (xs : List A) (d : A) → i < length xs → slice_index_or (at_place i f xs) i d ≡ f (slice_index_or xs i d)
@@ -95,22 +95,22 @@ shelves_joined (s ∷ ss) ts = ap (λ (rs : List Stock). s.items ++ rs) (shelves
 
 module _ (spot : Option ℕ) (rel : ℕ) (c : CatalogueValue) where
   abbrev pub put : List Stock → CatalogueValue
-  put rows = rows_put rel (records_of spot (rows_of rows)) c
+  put rows = rows_put rel (row_records spot (rows_of rows)) c
 
   pub none_put : c ≡ put []
   none_put = sym (rows_none rel c)
 
-  records_joined : (front back : List Stock) → records_of spot (rows_of (front ++ back)) ≡ records_of spot (rows_of front) ++ records_of spot (rows_of back)
+  records_joined : (front back : List Stock) → row_records spot (rows_of (front ++ back)) ≡ row_records spot (rows_of front) ++ row_records spot (rows_of back)
   records_joined front back =
-      ap (records_of spot) (map-append row_of front back) ∙ map-append (λ (r : Row × Row). spliced spot r.0 r.1) (rows_of front) (rows_of back)
+      ap (row_records spot) (map-append row_of front back) ∙ map-append (λ (r : Row × Row). spliced spot r.0 r.1) (rows_of front) (rows_of back)
 
-  put_joined : (front back : List Stock) → rows_put rel (records_of spot (rows_of back)) (put front) ≡ put (front ++ back)
+  put_joined : (front back : List Stock) → rows_put rel (row_records spot (rows_of back)) (put front) ≡ put (front ++ back)
   put_joined front back =
-      rows_twice rel (records_of spot (rows_of front)) (records_of spot (rows_of back)) c ∙ ap (λ rows. rows_put rel rows c) (sym (records_joined front back))
+      rows_twice rel (row_records spot (rows_of front)) (row_records spot (rows_of back)) c ∙ ap (λ rows. rows_put rel rows c) (sym (records_joined front back))
 
   -- what is left of the rows can be put behind those before
-  left_fits : (front back : List Stock) → CanTakeRows c rel (records_of spot (rows_of (front ++ back))) → CanTakeRows (put front) rel (records_of spot (rows_of back))
-  left_fits front back h = takes_rest c rel (records_of spot (rows_of front)) (records_of spot (rows_of back)) (subst (CanTakeRows c rel) (records_joined front back) h)
+  left_fits : (front back : List Stock) → CanTakeRows c rel (row_records spot (rows_of (front ++ back))) → CanTakeRows (put front) rel (row_records spot (rows_of back))
+  left_fits front back h = takes_rest c rel (row_records spot (rows_of front)) (row_records spot (rows_of back)) (subst (CanTakeRows c rel) (records_joined front back) h)
 
   front_fits : (d : CatalogueValue) (front back : List Row) → CanTakeRows d rel (front ++ back) → CanTakeRows d rel front
   front_fits d front back h = record {
@@ -127,14 +127,14 @@ module _ (spot : Option ℕ) (rel : ℕ) (c : CatalogueValue) where
       fewer : (n f b k : ℕ) → k ≡ f + b → n + k ≤ most_rows → n + f ≤ most_rows
       fewer n f b k e h = omega arith
 
-  next_fits : (front one back all : List Stock) → all ≡ front ++ (one ++ back) → CanTakeRows c rel (records_of spot (rows_of all)) → CanTakeRows (put front) rel (records_of spot (rows_of one))
+  next_fits : (front one back all : List Stock) → all ≡ front ++ (one ++ back) → CanTakeRows c rel (row_records spot (rows_of all)) → CanTakeRows (put front) rel (row_records spot (rows_of one))
   next_fits front one back all are h =
-      front_fits (put front) (records_of spot (rows_of one)) (records_of spot (rows_of back))
-      (subst (CanTakeRows (put front) rel) (records_joined one back) (left_fits front (one ++ back) (subst (λ (rows : List Stock). CanTakeRows c rel (records_of spot (rows_of rows))) are h)))
+      front_fits (put front) (row_records spot (rows_of one)) (row_records spot (rows_of back))
+      (subst (CanTakeRows (put front) rel) (records_joined one back) (left_fits front (one ++ back) (subst (λ (rows : List Stock). CanTakeRows c rel (row_records spot (rows_of rows))) are h)))
 
   -- a row of a shelf
   pub row_fits : (rows : List Stock) (i : ℕ) (r : Stock) (key cells text : Row) (d : CatalogueState) → i < length rows → r ≡ get_or rows i r → key ≡ r.key → cells ≡ r.cells → text ≡ spliced spot key cells
-      → d ≡ settled (put (take i rows)) → CanTakeRows c rel (records_of spot (rows_of rows)) → CanTakeRows d.databases rel (text ∷ [])
+      → d ≡ settled (put (take i rows)) → CanTakeRows c rel (row_records spot (rows_of rows)) → CanTakeRows d.databases rel (text ∷ [])
   row_fits rows i r key cells text d lt is k l made so_far h =
       let one : spliced spot r.key r.cells ≡ text = (λ j. spliced spot (sym k j) (sym l j)) ∙ sym made in
       subst (λ (x : CatalogueValue). CanTakeRows x rel (text ∷ [])) (sym (ap (λ (x : CatalogueState). x.databases) so_far))
@@ -151,18 +151,18 @@ module _ (spot : Option ℕ) (rel : ℕ) (c : CatalogueValue) where
 
   -- a shelf of the rows
   pub shelf_fits : (shelves : List (Vec Stock Global)) (i : ℕ) (s : Vec Stock Global) (rows : List Stock) (d : CatalogueState) → i < length shelves → s ≡ get_or shelves i s → rows ≡ s.items
-      → d ≡ settled (put (all_rows (take i shelves))) → CanTakeRows c rel (records_of spot (rows_of (all_rows shelves))) → CanTakeRows d.databases rel (records_of spot (rows_of rows))
+      → d ≡ settled (put (all_rows (take i shelves))) → CanTakeRows c rel (row_records spot (rows_of (all_rows shelves))) → CanTakeRows d.databases rel (row_records spot (rows_of rows))
   shelf_fits shelves i s rows d lt is own so_far h =
-      subst (λ (x : CatalogueValue). CanTakeRows x rel (records_of spot (rows_of rows))) (sym (ap (λ (x : CatalogueState). x.databases) so_far))
-      (subst (λ (rs : List Stock). CanTakeRows (put (all_rows (take i shelves))) rel (records_of spot (rows_of rs))) (sym own)
+      subst (λ (x : CatalogueValue). CanTakeRows x rel (row_records spot (rows_of rows))) (sym (ap (λ (x : CatalogueState). x.databases) so_far))
+      (subst (λ (rs : List Stock). CanTakeRows (put (all_rows (take i shelves))) rel (row_records spot (rows_of rs))) (sym own)
       (next_fits (all_rows (take i shelves)) s.items (all_rows (drop (i + 1) shelves)) (all_rows shelves)
       (ap all_rows (split_at shelves i s lt is) ∙ shelves_joined (take i shelves) (s ∷ drop (i + 1) shelves)) h))
 
   pub shelf_put : (shelves : List (Vec Stock Global)) (i : ℕ) (s : Vec Stock Global) (rows : List Stock) (d e : CatalogueState) → i < length shelves → s ≡ get_or shelves i s → rows ≡ s.items
-      → d ≡ settled (put (all_rows (take i shelves))) → e ≡ settled (rows_put rel (records_of spot (rows_of rows)) d.databases) → e ≡ settled (put (all_rows (take (i + 1) shelves)))
+      → d ≡ settled (put (all_rows (take i shelves))) → e ≡ settled (rows_put rel (row_records spot (rows_of rows)) d.databases) → e ≡ settled (put (all_rows (take (i + 1) shelves)))
   shelf_put shelves i s rows d e lt is own so_far added =
       added
-      ∙ (λ j. settled (rows_put rel (records_of spot (rows_of (own j))) (ap (λ (x : CatalogueState). x.databases) so_far j)))
+      ∙ (λ j. settled (rows_put rel (row_records spot (rows_of (own j))) (ap (λ (x : CatalogueState). x.databases) so_far j)))
       ∙ ap settled (put_joined (all_rows (take i shelves)) s.items)
       ∙ ap (λ (rs : List Stock). settled (put rs))
       (ap (λ (rs : List Stock). all_rows (take i shelves) ++ rs) (sym (append-nil s.items)) ∙ sym (shelves_joined (take i shelves) (s ∷ []))

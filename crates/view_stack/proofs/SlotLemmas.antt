@@ -29,7 +29,8 @@ use Rattle.schema_model.specs.declared.refusal.Which.{Which}
 use Rattle.schema_model.specs.declared.refusal.Which.TheVariants.{Relations, Attributes, Rows}
 use Rattle.view_stack.specs.Limits.{first_limit, is_wide, row_total}
 use Rattle.view_stack.specs.Putting.{rows_put, relations_put, CanTakeRows, CanTake}
-use Rattle.view_stack.specs.Stands.{spliced, records_of, header, relation_for, database_for, catalogue_for}
+use Rattle.view_stack.specs.Stands.{header, relation_for, database_for, catalogue_for}
+use Rattle.flow_law.specs.Records.{spliced, row_records}
 use Rattle.view_stack.proofs.PutLemmas.{split_at, shelves_joined, relation_takes, relation_filled}
 use Rattle.view_stack.proofs.StandsLemmas.{header_long, header_distinct, records_fit}
 
@@ -229,12 +230,12 @@ module _ (c : CatalogueValue) (rel : ℕ) (shape : Shape) (label : Text) (t : Ta
       ap (λ (x : CatalogueState). x.databases) added
       ∙ (λ i. relations_put (relation_value (named i) ((made ∙ ap (spliced shape.spot shape.constants) own) i) [] ∷ []) c)
 
-  pub shelves_fit : CanTakeRows d.databases rel (records_of shape.spot rows)
-  shelves_fit = subst (λ (x : CatalogueValue). CanTakeRows x rel (records_of shape.spot rows)) (sym begun)
-      (subst (λ (rs : List (Row × Row)). CanTakeRows (relations_put (relation_value label (header shape t) [] ∷ []) c) rel (records_of shape.spot rs)) (sym are) (relation_takes c rel (relation_for shape (label, t)) h))
+  pub shelves_fit : CanTakeRows d.databases rel (row_records shape.spot rows)
+  shelves_fit = subst (λ (x : CatalogueValue). CanTakeRows x rel (row_records shape.spot rows)) (sym begun)
+      (subst (λ (rs : List (Row × Row)). CanTakeRows (relations_put (relation_value label (header shape t) [] ∷ []) c) rel (row_records shape.spot rs)) (sym are) (relation_takes c rel (relation_for shape (label, t)) h))
 
-  pub table_put : {A E : Type 0} (r : Result A E) (e : CatalogueState) → OnOk r (e ≡ settled (rows_put rel (records_of shape.spot rows) d.databases)) → OnOk r (e ≡ settled (relations_put (relation_for shape (label, t) ∷ []) c))
-  table_put r e filled = on_ok r e _ _ ((λ i. rows_put rel (records_of shape.spot (are i)) (begun i)) ∙ relation_filled c rel (relation_for shape (label, t)) h) filled
+  pub table_put : {A E : Type 0} (r : Result A E) (e : CatalogueState) → OnOk r (e ≡ settled (rows_put rel (row_records shape.spot rows) d.databases)) → OnOk r (e ≡ settled (relations_put (relation_for shape (label, t) ∷ []) c))
+  table_put r e filled = on_ok r e _ _ ((λ i. rows_put rel (row_records shape.spot (are i)) (begun i)) ∙ relation_filled c rel (relation_for shape (label, t)) h) filled
 
 pub one_name : (name db : Text) → name ≡ db → is_table_label db ≡ true → AreNames ([] ++ name ∷ [])
 unfolding IsStrictlySortedBy

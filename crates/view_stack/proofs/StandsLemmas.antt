@@ -24,7 +24,8 @@ use Rattle.valuation_meaning.specs.Orders.{text_under, row_under, rows_under, Sa
 use Rattle.operator_law.specs.Bags.{weigh}
 use Rattle.operator_law.proofs.Weights.{weigh-append}
 use Rattle.view_stack.specs.Records.{text_of}
-use Rattle.view_stack.specs.Stands.{spliced, header, relation_for, catalogue_for, stands}
+use Rattle.view_stack.specs.Stands.{header, relation_for, catalogue_for, stands}
+use Rattle.flow_law.specs.Records.{spliced}
 use Rattle.view_stack.proofs.SaysLemmas.{mark, none_marked, weigh_mapped, Distinct, Says, rows_by, says_by, cell_here, cell_later, cell_missing, bytes_same, same_bytes, same_rows, halves, in_append, and_second, not_true, one_more}
 use Rattle.view_stack.proofs.MovedLemmas.{AreSaid, whole}
 

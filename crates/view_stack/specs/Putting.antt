@@ -3,13 +3,9 @@ use Rattle.std.specs.Prelude.{◌≡◌, ℕ, ◌+◌, ◌<◌, ◌≤◌, List,
 use Rattle.std.specs.List.{AllByRecursion}
 use Rattle.ss_text.specs.Texts.{Row}
 use Rattle.ss_text.specs.Places.{at_place}
-use Rattle.schema_model.specs.Catalogue.{RelationValue, DatabaseValue, CatalogueValue, relation_names, row_count, database_at, relation_at, with_relation_at}
+use Rattle.schema_model.specs.Catalogue.{RelationValue, DatabaseValue, CatalogueValue, relation_names, row_count, database_at, relation_at, with_rows, with_relation_at}
 use Rattle.schema_model.specs.Limits.{most_relations, most_rows}
 use Rattle.schema_model.specs.Sound.{AreNames, IsRelation}
-
--- a relation with these rows too, behind its own
-abbrev pub with_rows : List Row → RelationValue → RelationValue
-with_rows rows r = record r { rows = r.rows ++ rows }
 
 -- the catalogue with these rows in the relation at a place
 abbrev pub rows_put : ℕ → List Row → CatalogueValue → CatalogueValue

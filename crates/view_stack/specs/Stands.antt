@@ -1,27 +1,20 @@
 -- The database that tables are, and which catalogues stand for tables.
-use Rattle.std.specs.Prelude.{ℕ, List, [], ◌∷◌, ◌++◌, map, take, drop, Option, None, Some}
+use Rattle.std.specs.Prelude.{[], ◌∷◌, map}
 use Rattle.ss_text.specs.Texts.{Text, Row}
 use Rattle.flow_law.specs.declared.shape.Shape.{Shape}
 use Rattle.flow_law.specs.Tables.{TableValue, TablesValue}
+use Rattle.flow_law.specs.Records.{spliced, row_records}
 use Rattle.schema_model.specs.Catalogue.{RelationValue, DatabaseValue, CatalogueValue, relation_value, database_value}
 use Rattle.view_def.specs.Query.{Query}
 use Rattle.valuation_meaning.specs.Meaning.{meaning, shape_of}
 use Rattle.valuation_meaning.specs.Orders.{DifferInOrder}
 
--- a record: the constant columns' part, with the dynamic columns' part behind as many of them as the spot says
-abbrev pub spliced : Option ℕ → Row → Row → Row
-spliced None constant dynamic = constant
-spliced (Some spot) constant dynamic = take spot constant ++ dynamic ++ drop spot constant
-
 abbrev pub header : Shape → TableValue → Row
 header shape t = spliced shape.spot shape.constants t.columns
 
-abbrev pub records_of : Option ℕ → List (Row × Row) → List Row
-records_of spot rows = map (λ (r : Row × Row). spliced spot r.0 r.1) rows
-
 -- a relation for each table, and one database of them
 abbrev pub relation_for : Shape → Text × TableValue → RelationValue
-relation_for shape p = relation_value p.0 (header shape p.1) (records_of shape.spot p.1.rows)
+relation_for shape p = relation_value p.0 (header shape p.1) (row_records shape.spot p.1.rows)
 
 abbrev pub database_for : Text → Shape → TablesValue → DatabaseValue
 database_for db shape ts = database_value db (map (relation_for shape) ts)

@@ -12,20 +12,23 @@ ghost use Rattle.schema_model.specs.Limits.{most_attributes, most_rows};
 ghost use Rattle.schema_model.specs.States.{settled};
 ghost use Rattle.view_stack.specs.Limits.{first_limit, is_wide, row_total, IsLiftFault};
 ghost use Rattle.view_stack.specs.Putting.{rows_put, relations_put, CanTake, CanTakeRows};
-ghost use Rattle.view_stack.specs.Stands.{spliced, records_of, relation_for, database_for, catalogue_for, stands};
+ghost use Rattle.view_stack.specs.Stands.{relation_for, database_for, catalogue_for, stands};
+ghost use Rattle.flow_law.specs.Records.{spliced, row_records};
 
 use crate::LiftFault;
 use flow_law::Shape;
 use kept_tables::{KeptTable, KeptTables, Slot};
 use row_shelves::{KeptRow, RowShelf};
 use schema_model::{Catalogue, MOST_ATTRIBUTES, MOST_RELATIONS, MOST_ROWS, Which};
-use ss_text::{NoMemory, Row, Text};
+use ss_text::{NoMemory, Row, Seed, Text};
 use std::alloc::Global;
 
 /// The catalogue of the one database that tables are: a relation for each table, with the attributes of its header, and a
-/// row for each key; or the first limit that it would pass, of relations, then of attributes, then of rows.
+/// row for each key; or the first limit that it would pass, of relations, then of attributes, then of rows. It carries this
+/// seed.
 pub fn catalogue_of(
     alloc: Global,
+    seed: Seed,
     view_db: &Text,
     shape: &Shape,
     tables: &KeptTables,
@@ -44,7 +47,7 @@ pub fn catalogue_of(
     match passed(shape, slots) {
         Some(which) => Err(LiftFault::Limit { which }),
         None => {
-            let catalogue = made(alloc, view_db, shape, slots)?;
+            let catalogue = made(alloc, seed, view_db, shape, slots)?;
             Ok(catalogue)
         }
     }
@@ -153,7 +156,13 @@ fn room_behind(shelves: &[RowShelf], room: usize) -> Option<usize>
 }
 
 // The catalogue of the database of tables, which passes no limit.
-fn made(alloc: Global, view_db: &Text, shape: &Shape, slots: &[Slot]) -> Result<Catalogue, NoMemory>
+fn made(
+    alloc: Global,
+    seed: Seed,
+    view_db: &Text,
+    shape: &Shape,
+    slots: &[Slot],
+) -> Result<Catalogue, NoMemory>
     requires legal { is_table_label view_db.now ≡ true }
     requires form { IsForm shape.now }
     requires some { 1 ≤ length shape.now.constants }
@@ -162,7 +171,7 @@ fn made(alloc: Global, view_db: &Text, shape: &Shape, slots: &[Slot]) -> Result<
     requires within { first_limit (database_for view_db.now shape.now (tables_in slots.now)) ≡ None }
     ensures { IfOk result (λ c. c ≡ settled (catalogue_for view_db.now shape.now (tables_in slots.now))) }
 {
-    let mut catalogue = Catalogue::empty(alloc);
+    let mut catalogue = Catalogue::seeded(alloc, seed);
     catalogue.put_database(view_db.copy()?)?;
     let mut rel = 0;
     for slot in slots {
@@ -219,8 +228,8 @@ fn put_shelves(
     shelves: &[RowShelf],
 ) -> Result<(), NoMemory>
     requires settled { catalogue.old ≡ settled catalogue.old.databases }
-    requires takes { CanTakeRows catalogue.old.databases rel (records_of spot (rows_of (all_rows shelves.now))) }
-    ensures { OnOk result (catalogue.new ≡ settled (rows_put rel (records_of spot (rows_of (all_rows shelves.now))) catalogue.old.databases)) }
+    requires takes { CanTakeRows catalogue.old.databases rel (row_records spot (rows_of (all_rows shelves.now))) }
+    ensures { OnOk result (catalogue.new ≡ settled (rows_put rel (row_records spot (rows_of (all_rows shelves.now))) catalogue.old.databases)) }
 {
     for shelf in shelves {
         put_shelf(alloc, catalogue, rel, spot, shelf.rows())?;
@@ -237,8 +246,8 @@ fn put_shelf(
     shelf: &[KeptRow],
 ) -> Result<(), NoMemory>
     requires settled { catalogue.old ≡ settled catalogue.old.databases }
-    requires takes { CanTakeRows catalogue.old.databases rel (records_of spot (rows_of shelf.now)) }
-    ensures { OnOk result (catalogue.new ≡ settled (rows_put rel (records_of spot (rows_of shelf.now)) catalogue.old.databases)) }
+    requires takes { CanTakeRows catalogue.old.databases rel (row_records spot (rows_of shelf.now)) }
+    ensures { OnOk result (catalogue.new ≡ settled (rows_put rel (row_records spot (rows_of shelf.now)) catalogue.old.databases)) }
 {
     for row in shelf {
         let record = spliced(alloc, spot, row.key(), row.cells())?;

@@ -1,7 +1,7 @@
 -- The text of a list of moves, word by word.
-use Rattle.std.proofs.Common.{◌≡◌, ℕ, ◌+◌, ◌-◌, ◌<◌, ◌≤◌, ◌==◌, arith, bytes_eq, length, Bool, true, false, ◌||◌, List, [], ◌∷◌, ◌++◌, get_or, drop, take, codes, refl, sym, ap, ◌∙◌, subst, append_assoc, append-nil}
+use Rattle.std.proofs.Common.{◌≡◌, ℕ, ◌+◌, ◌<◌, ◌≤◌, ◌==◌, arith, bytes_eq, length, Bool, true, false, ◌||◌, List, [], ◌∷◌, ◌++◌, get_or, drop, codes, refl, sym, ap, ◌∙◌, subst, append_assoc, append-nil}
 use Rattle.std.specs.List.{AllByRecursion, list_any}
-use Rattle.std.proofs.lemmas.List.{drop_more, take_rest}
+use Rattle.std.proofs.lemmas.List.{drop_more}
 use Rattle.std.proofs.lemmas.Slice.Eq.{bytes_eq-Decides}
 use Rattle.whole_sync.specs.declared.moves.Move.{Move}
 use Rattle.whole_sync.specs.Lists.{move_words, moves_words, list_words, joined, IsWord, IsListOf}
@@ -13,9 +13,17 @@ pub joined_append : (ws vs : List (List ℕ)) → joined (ws ++ vs) ≡ joined w
 joined_append [] vs = refl
 joined_append (w ∷ ws) vs = ap (λ (x : List ℕ). w ++ 0 ∷ x) (joined_append ws vs) ∙ sym (append_assoc w (0 ∷ joined ws) (joined vs))
 
-all_append : (ws vs : List (List ℕ)) → AllByRecursion IsWord ws → AllByRecursion IsWord vs → AllByRecursion IsWord (ws ++ vs)
+pub all_append : (ws vs : List (List ℕ)) → AllByRecursion IsWord ws → AllByRecursion IsWord vs → AllByRecursion IsWord (ws ++ vs)
 all_append [] vs a b = b
 all_append (w ∷ ws) vs a b = (a.0, all_append ws vs a.1 b)
+
+pub all_front : (ws vs : List (List ℕ)) → AllByRecursion IsWord (ws ++ vs) → AllByRecursion IsWord ws
+all_front [] vs a = tt
+all_front (w ∷ ws) vs a = (a.0, all_front ws vs a.1)
+
+pub all_rest : (ws vs : List (List ℕ)) → AllByRecursion IsWord (ws ++ vs) → AllByRecursion IsWord vs
+all_rest [] vs a = a
+all_rest (w ∷ ws) vs a = all_rest ws vs a.1
 
 -- the text so far, and what is left of the moves
 pub record IsWritten (ms rest : List Move) (text : List ℕ) : Type 0 where
@@ -46,14 +54,12 @@ written_end ms rest old new text none h is word same =
     record { text_is = same ∙ (is ∙ sym h.text_is); words = h.words (word, tt) }
 
 -- and of what was read
-moves_snoc : (ms : List Move) (m : Move) → moves_words (ms ++ m ∷ []) ≡ moves_words ms ++ move_words m
-moves_snoc [] m = append-nil (move_words m)
-moves_snoc (n ∷ ms) m = ap (λ (ws : List (List ℕ)). move_words n ++ ws) (moves_snoc ms m) ∙ sym (append_assoc (move_words n) (moves_words ms) (move_words m))
+pub moves_append : (ms ns : List Move) → moves_words (ms ++ ns) ≡ moves_words ms ++ moves_words ns
+moves_append [] ns = refl
+moves_append (m ∷ ms) ns = ap (λ (ws : List (List ℕ)). move_words m ++ ws) (moves_append ms ns) ∙ sym (append_assoc (move_words m) (moves_words ms) (moves_words ns))
 
-pub read_end : (text : List ℕ) (words rest : List (List ℕ)) (ms : List Move) → text ≡ joined words → AllByRecursion IsWord words → words ≡ codes "lantsjuf list 1" ∷ moves_words ms ++ rest → rest ≡ codes "end" ∷ [] → IsListOf ms text
-read_end text words rest ms is all so_far end =
-    let are : words ≡ list_words ms = so_far ∙ ap (λ (ws : List (List ℕ)). codes "lantsjuf list 1" ∷ moves_words ms ++ ws) end in
-    record { text_is = is ∙ ap joined are; words = subst (λ (ws : List (List ℕ)). AllByRecursion IsWord ws) are all }
+moves_snoc : (ms : List Move) (m : Move) → moves_words (ms ++ m ∷ []) ≡ moves_words ms ++ move_words m
+moves_snoc ms m = moves_append ms (m ∷ []) ∙ ap (λ (ws : List (List ℕ)). moves_words ms ++ ws) (append-nil (move_words m))
 
 -- a 0 byte ends a word, and any other belongs to it
 pub word_ends : (words : List (List ℕ)) (word : List ℕ) → joined (words ++ word ∷ []) ++ [] ≡ (joined words ++ word) ++ 0 ∷ []
@@ -85,31 +91,6 @@ pub one_word : (ws : List (List ℕ)) (a v : List ℕ) → 1 ≤ length ws → l
 one_word [] a v least most at is = absurd (omega arith)
 one_word (x ∷ []) a v least most at is = ap (λ (w : List ℕ). w ∷ []) (sym at ∙ is)
 one_word (x ∷ y ∷ ws) a v least most at is = absurd (omega arith)
-
-pub head_word : (ws : List (List ℕ)) (a v : List ℕ) → 1 ≤ length ws → a ≡ get_or ws 0 a → a ≡ v → ws ≡ v ∷ take (length ws - 1) (drop 1 ws)
-head_word [] a v least at is = absurd (omega arith)
-head_word (x ∷ ws) a v least at is = ap (λ (w : List ℕ). w ∷ ws) (sym at ∙ is) ∙ ap (λ (rest : List (List ℕ)). v ∷ rest) (sym (take_rest (x ∷ ws) 1))
-
-pub two_words : (ws : List (List ℕ)) (a b v w : List ℕ) → 2 ≤ length ws → a ≡ get_or ws 0 a → b ≡ get_or ws 1 b → a ≡ v → w ≡ b → ws ≡ v ∷ w ∷ take (length ws - 2) (drop 2 ws)
-two_words [] a b v w least at bt is js = absurd (omega arith)
-two_words (x ∷ []) a b v w least at bt is js = absurd (omega arith)
-two_words (x ∷ y ∷ ws) a b v w least at bt is js =
-    (λ i. (sym at ∙ is) i ∷ (sym bt ∙ sym js) i ∷ ws) ∙ ap (λ (rest : List (List ℕ)). v ∷ w ∷ rest) (sym (take_rest (x ∷ y ∷ ws) 2))
-
-pub three_words : (ws : List (List ℕ)) (a b c v w u : List ℕ) → 3 ≤ length ws → a ≡ get_or ws 0 a → b ≡ get_or ws 1 b → c ≡ get_or ws 2 c → a ≡ v → w ≡ b → u ≡ c → ws ≡ v ∷ w ∷ u ∷ take (length ws - 3) (drop 3 ws)
-three_words [] a b c v w u least at bt ct is js ks = absurd (omega arith)
-three_words (x ∷ []) a b c v w u least at bt ct is js ks = absurd (omega arith)
-three_words (x ∷ y ∷ []) a b c v w u least at bt ct is js ks = absurd (omega arith)
-three_words (x ∷ y ∷ z ∷ ws) a b c v w u least at bt ct is js ks =
-    (λ i. (sym at ∙ is) i ∷ (sym bt ∙ sym js) i ∷ (sym ct ∙ sym ks) i ∷ ws) ∙ ap (λ (rest : List (List ℕ)). v ∷ w ∷ u ∷ rest) (sym (take_rest (x ∷ y ∷ z ∷ ws) 3))
-
-pub four_words : (ws : List (List ℕ)) (a b c d v w u t : List ℕ) → 4 ≤ length ws → a ≡ get_or ws 0 a → b ≡ get_or ws 1 b → c ≡ get_or ws 2 c → d ≡ get_or ws 3 d → a ≡ v → w ≡ b → u ≡ c → t ≡ d → ws ≡ v ∷ w ∷ u ∷ t ∷ take (length ws - 4) (drop 4 ws)
-four_words [] a b c d v w u t least at bt ct dt is js ks ls = absurd (omega arith)
-four_words (x ∷ []) a b c d v w u t least at bt ct dt is js ks ls = absurd (omega arith)
-four_words (x ∷ y ∷ []) a b c d v w u t least at bt ct dt is js ks ls = absurd (omega arith)
-four_words (x ∷ y ∷ z ∷ []) a b c d v w u t least at bt ct dt is js ks ls = absurd (omega arith)
-four_words (x ∷ y ∷ z ∷ r ∷ ws) a b c d v w u t least at bt ct dt is js ks ls =
-    (λ i. (sym at ∙ is) i ∷ (sym bt ∙ sym js) i ∷ (sym ct ∙ sym ks) i ∷ (sym dt ∙ sym ls) i ∷ ws) ∙ ap (λ (rest : List (List ℕ)). v ∷ w ∷ u ∷ t ∷ rest) (sym (take_rest (x ∷ y ∷ z ∷ r ∷ ws) 4))
 
 pub read_on : (all rest more : List (List ℕ)) (ms ns : List Move) (m : Move) → all ≡ moves_words ms ++ rest → rest ≡ move_words m ++ more → ns ≡ ms ++ m ∷ [] → all ≡ moves_words ns ++ more
 read_on all rest more ms ns m so_far is are =

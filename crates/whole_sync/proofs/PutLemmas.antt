@@ -8,11 +8,13 @@ use Rattle.outside.specs.declared.edit.Edit.TheVariants as edit
 use Rattle.outside.specs.declared.fault.StoreFault.{StoreFault}
 use Rattle.whole_sync.specs.declared.moves.Move.{Move}
 use Rattle.whole_sync.specs.Disks.{Held, Call, PutBeside, PutList, DropList, Clean, after, all_after, Known, with_done, all_done, Off, PutOff, Doing}
-use Rattle.whole_sync.specs.Lists.{IsListOf}
+use Rattle.whole_sync.specs.Listing.{Named}
+use Rattle.whole_sync.specs.Lists.{IsWord, IsListOf}
 use Rattle.whole_sync.specs.Protocol.{puts, moves_of, finishing}
 use Rattle.whole_sync.specs.Replacing.{is_aside, Aside, Free, PutAll, Prepared, TakenBack, Unprepared, Replaced}
 use Rattle.whole_sync.specs.Stops.{Recovered}
 use Rattle.whole_sync.proofs.DoingLemmas.{done_then, doing_end}
+use Rattle.whole_sync.proofs.ListingLemmas.{named_append}
 
 pub held_done : (cs : List Call) (k : Known) → (all_done cs k).held ≡ all_after cs k.held
 held_done [] k = refl
@@ -74,11 +76,12 @@ free_append (edit.Remove folder file ∷ es) fs ns ms h f g = free_append es fs 
 free_append (edit.RemoveFolder folder ∷ es) fs ns ms h f g = free_append es fs ns ms h f g
 
 pub put_starts : (o : Option Known) → PutAll [] [] o o
-put_starts None = record { free = λ k e. tt; done = refl }
-put_starts (Some k) = record { free = λ k e. tt; done = refl }
+put_starts None = record { named = tt; free = λ k e. tt; done = refl }
+put_starts (Some k) = record { named = tt; free = λ k e. tt; done = refl }
 
 put_then : (es fs : List Edit) (ns ms : List (List ℕ)) (o p q : Option Known) → PutAll es ns o p → PutAll fs ms p q → PutAll (es ++ fs) (ns ++ ms) o q
 put_then es fs ns ms None p q a b = record {
+  named = named_append es fs ns ms a.named b.named;
   free = λ k e. absurd (cc);
   done = b.done ∙ ap (option_map (all_done (puts fs ms))) a.done;
 }
@@ -87,6 +90,7 @@ put_then es fs ns ms (Some k) p q a b =
     let more : Free fs ms (all_after (puts es ns) k.held) = subst (λ (h : Held). Free fs ms h) (held_done (puts es ns) k) (b.free (all_done (puts es ns) k) a.done) in
     let both : Free (es ++ fs) (ns ++ ms) k.held = free_append es fs ns ms k.held free more in
     record {
+      named = named_append es fs ns ms a.named b.named;
       free = λ j e. let same : k ≡ j = cc in subst (λ (i : Known). Free (es ++ fs) (ns ++ ms) i.held) same both;
       done = done_then (puts es ns) (puts fs ms) (Some k) p q a.done b.done ∙ ap (λ (cs : List Call). option_map (all_done cs) (Some k)) (sym (puts_append es fs ns ms k.held free));
     }
@@ -147,22 +151,22 @@ recovers (Err e) o p q h cleaned = tt
 pub aside_put : (name folder file bytes : List ℕ) (o p : Option Known) → p ≡ option_map (with_done (PutBeside name folder file bytes)) o → Aside o p
 aside_put name folder file bytes o p h = aside_one (PutBeside name folder file bytes) o p refl h
 
-pub write_put : (name folder file bytes : List ℕ) (o p : Option Known) → ((k : Known) → o ≡ Some k → k.held.beside name ≡ None) → p ≡ option_map (with_done (PutBeside name folder file bytes)) o → PutAll (edit.Write folder file bytes ∷ []) (name ∷ []) o p
-write_put name folder file bytes o p fresh h = record { free = λ k e. (fresh k e, tt); done = h }
+pub write_put : (name folder file bytes : List ℕ) (o p : Option Known) → IsWord name → ((k : Known) → o ≡ Some k → k.held.beside name ≡ None) → p ≡ option_map (with_done (PutBeside name folder file bytes)) o → PutAll (edit.Write folder file bytes ∷ []) (name ∷ []) o p
+write_put name folder file bytes o p word fresh h = record { named = (word, tt); free = λ k e. (fresh k e, tt); done = h }
 
 -- an edit that writes nothing
-nothing_put : (e : Edit) (o : Option Known) → puts (e ∷ []) [] ≡ [] → ((h : Held) → Free (e ∷ []) [] h) → PutAll (e ∷ []) [] o o
-nothing_put e None is free = record { free = λ k e. absurd (cc); done = refl }
-nothing_put e (Some k) is free = record { free = λ j _. free j.held; done = ap (λ (cs : List Call). Some (all_done cs k)) (sym is) }
+nothing_put : (e : Edit) (o : Option Known) → Named (e ∷ []) [] → puts (e ∷ []) [] ≡ [] → ((h : Held) → Free (e ∷ []) [] h) → PutAll (e ∷ []) [] o o
+nothing_put e None named is free = record { named = named; free = λ k e. absurd (cc); done = refl }
+nothing_put e (Some k) named is free = record { named = named; free = λ j _. free j.held; done = ap (λ (cs : List Call). Some (all_done cs k)) (sym is) }
 
 pub make_put : (folder : List ℕ) (o : Option Known) → PutAll (edit.MakeFolder folder ∷ []) [] o o
-make_put folder o = nothing_put (edit.MakeFolder folder) o refl (λ h. tt)
+make_put folder o = nothing_put (edit.MakeFolder folder) o tt refl (λ h. tt)
 
 pub remove_put : (folder file : List ℕ) (o : Option Known) → PutAll (edit.Remove folder file ∷ []) [] o o
-remove_put folder file o = nothing_put (edit.Remove folder file) o refl (λ h. tt)
+remove_put folder file o = nothing_put (edit.Remove folder file) o tt refl (λ h. tt)
 
 pub gone_put : (folder : List ℕ) (o : Option Known) → PutAll (edit.RemoveFolder folder ∷ []) [] o o
-gone_put folder o = nothing_put (edit.RemoveFolder folder) o refl (λ h. tt)
+gone_put folder o = nothing_put (edit.RemoveFolder folder) o tt refl (λ h. tt)
 
 pub off_of : {A : Type 0} (c : Call) (r : Result A StoreFault) (o p : Option Known) → OnOk r (p ≡ option_map (with_done c) o) → OnErr r (Off c o p) → Off c o p
 off_of c (Ok a) o p h off = inr h

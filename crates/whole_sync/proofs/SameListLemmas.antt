@@ -15,6 +15,10 @@ rest_word : (a b : Bool) → (a || b) ≡ false → b ≡ false
 rest_word true b e = absurd (true_false e)
 rest_word false b e = e
 
+or_true : (a b : Bool) → b ≡ true → (a || b) ≡ true
+or_true true b e = refl
+or_true false b e = e
+
 head_of : (d : ℕ) → List ℕ → ℕ
 head_of d [] = d
 head_of d (x ∷ xs) = x
@@ -43,7 +47,7 @@ unfolding is_empty
 empty_joined [] r = refl
 empty_joined (x ∷ w) r = refl
 
-joined_same : (ws vs : List (List ℕ)) → AllByRecursion IsWord ws → AllByRecursion IsWord vs → joined ws ≡ joined vs → ws ≡ vs
+pub joined_same : (ws vs : List (List ℕ)) → AllByRecursion IsWord ws → AllByRecursion IsWord vs → joined ws ≡ joined vs → ws ≡ vs
 unfolding is_empty
 joined_same [] [] a b e = refl
 joined_same [] (v ∷ vs) a b e = absurd (true_false (ap is_empty e ∙ empty_joined v (joined vs)))
@@ -52,6 +56,19 @@ joined_same (w ∷ ws) (v ∷ vs) a b e =
     let same = word_same w v (joined ws) (joined vs) a.0 b.0 e in
     let rest = joined_same ws vs a.1 b.1 same.1 in
     λ i. same.0 i ∷ rest i
+
+zero_among : (v r : List ℕ) → list_any (λ b. b == 0) (v ++ 0 ∷ r) ≡ true
+zero_among [] r = refl
+zero_among (x ∷ v) r = or_true (x == 0) (list_any (λ b. b == 0) (v ++ 0 ∷ r)) (zero_among v r)
+
+-- behind the last word of a text nothing is left
+pub joined_rest : (us : List (List ℕ)) (w : List ℕ) (vs : List (List ℕ)) → AllByRecursion IsWord us → IsWord w → AllByRecursion IsWord vs → joined us ++ w ≡ joined vs → w ≡ []
+unfolding is_empty
+joined_rest [] w [] a b c e = e
+joined_rest [] w (v ∷ vs) a b c e = absurd (true_false (sym (zero_among v (joined vs)) ∙ (ap (list_any (λ x. x == 0)) (sym e) ∙ b)))
+joined_rest (u ∷ us) w [] a b c e = absurd (true_false (ap is_empty (sym e ∙ append_assoc u (0 ∷ joined us) w) ∙ empty_joined u (joined us ++ w)))
+joined_rest (u ∷ us) w (v ∷ vs) a b c e =
+    joined_rest us w vs a.1 b c.1 (word_same u v (joined us ++ w) (joined vs) a.0 c.0 (sym (append_assoc u (0 ∷ joined us) w) ∙ e)).1
 
 -- the first move of some words
 abbrev Read : Type 0
@@ -88,6 +105,9 @@ first_is (TakePlace beside folder file) ws = refl
 first_is (Remove folder file) ws = refl
 first_is (RemoveFolder folder) ws = refl
 
+none_some : {A : Type 0} (x : A) → None ≡ Some x → ⊥
+none_some x e = cc
+
 first_end : first_move (codes "end" ∷ []) ≡ None
 unfolding first_move
 first_end = refl
@@ -97,9 +117,6 @@ End = codes "end" ∷ []
 
 first_of_all : (m : Move) (ms : List Move) → first_move (moves_words (m ∷ ms) ++ End) ≡ Some (m, moves_words ms ++ End)
 first_of_all m ms = ap first_move (append_assoc (move_words m) (moves_words ms) End) ∙ first_is m (moves_words ms ++ End)
-
-none_some : {A : Type 0} (x : A) → None ≡ Some x → ⊥
-none_some x e = cc
 
 pair_of : (d : Move × List (List ℕ)) → Read → Move × List (List ℕ)
 pair_of d None = d
@@ -125,3 +142,23 @@ tail_words (w ∷ ws) = ws
 pub lists_same : (ms ns : List Move) (text : List ℕ) → IsListOf ms text → IsListOf ns text → ms ≡ ns
 unfolding tail_words
 lists_same ms ns text a b = moves_same ms ns (ap tail_words (joined_same (list_words ms) (list_words ns) a.words b.words (sym a.text_is ∙ b.text_is)))
+
+pub words_are : (words : List (List ℕ)) (text : List ℕ) (ms : List Move) → text ≡ joined words → AllByRecursion IsWord words → IsListOf ms text → words ≡ list_words ms
+words_are words text ms is all list = joined_same words (list_words ms) all list.words (sym is ∙ list.text_is)
+
+-- what is left of a list while its moves are read
+pub left_of_all : (words rest : List (List ℕ)) (ms : List Move) → words ≡ codes "lantsjuf list 1" ∷ rest → words ≡ list_words ms → rest ≡ moves_words ms ++ End
+unfolding tail_words
+left_of_all words rest ms is are = ap tail_words (sym is ∙ are)
+
+pub left_more : (rest more : List (List ℕ)) (m : Move) (ns : List Move) → rest ≡ moves_words ns ++ End → rest ≡ move_words m ++ more → (ks : List Move) × (more ≡ moves_words ks ++ End)
+unfolding pair_of
+left_more rest more m [] is read = absurd (none_some (m, more) (sym first_end ∙ (ap first_move (sym is ∙ read) ∙ first_is m more)))
+left_more rest more m (n ∷ ns) is read =
+    let d : Move × List (List ℕ) = (m, []) in
+    let both : Some (m, more) ≡ Some (n, moves_words ns ++ End) = sym (first_is m more) ∙ (ap first_move (sym read ∙ is) ∙ first_of_all n ns) in
+    (ns, ap (λ (p : Move × List (List ℕ)). p.1) (ap (pair_of d) both))
+
+pub left_ends : (rest : List (List ℕ)) (ns : List Move) → rest ≡ moves_words ns ++ End → (rest ≡ End → ⊥) → ((m : Move) → (ws : List (List ℕ)) → rest ≡ move_words m ++ ws → ⊥) → ⊥
+left_ends rest [] is no_end no_move = no_end is
+left_ends rest (n ∷ ns) is no_end no_move = no_move n (moves_words ns ++ End) (is ∙ append_assoc (move_words n) (moves_words ns) End)

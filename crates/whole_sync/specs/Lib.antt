@@ -1,4 +1,5 @@
 pub mod Disks
+pub mod Listing
 pub mod Lists
 pub mod Protocol
 pub mod Replacing

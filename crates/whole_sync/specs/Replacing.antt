@@ -6,6 +6,7 @@ use Rattle.outside.specs.declared.edit.Edit.TheVariants as edit
 use Rattle.outside.specs.declared.fault.StoreFault.{StoreFault}
 use Rattle.whole_sync.specs.declared.moves.Move.{Move}
 use Rattle.whole_sync.specs.Disks.{Held, Call, PutBeside, DropBeside, PutList, DropList, Do, Sync, Clean, after, Known, with_done, all_done, Doing, DoesAll}
+use Rattle.whole_sync.specs.Listing.{Named}
 use Rattle.whole_sync.specs.Lists.{IsListOf}
 use Rattle.whole_sync.specs.Protocol.{puts, moves_of, finishing}
 
@@ -37,6 +38,7 @@ Free (edit.RemoveFolder folder ∷ es) ns h = Free es ns h
 
 -- what edits write lies beside its places
 pub record PutAll (edits : List Edit) (names : List (List ℕ)) (old new : Option Known) : Type 0 where
+  pub named : Named edits names
   pub free : (k : Known) → old ≡ Some k → Free edits names k.held
   pub done : new ≡ option_map (all_done (puts edits names)) old
 
@@ -68,6 +70,10 @@ pub record Replaced (edits : List Edit) (old new : Option Known) : Type 0 where
   pub listed : Option Known
   pub prepared : Prepared edits (moves_of edits names) names old listed
   pub finished : Doing (finishing (moves_of edits names)) [] listed new
+
+-- a list is there that is the text of no moves, where the disk tells it
+abbrev pub HasNoMoves : Option Known → Type 0
+HasNoMoves o = (k : Known) → o ≡ Some k → (text : List ℕ) × (k.held.list ≡ Some text) × ((ms : List Move) → IsListOf ms text → ⊥)
 
 -- a list that is found is finished, and without one nothing is done
 abbrev pub ListFinished : {A : Type 0} → Result A StoreFault → Option Known → Option Known → Type 0

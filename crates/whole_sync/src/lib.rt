@@ -10,6 +10,10 @@
 //! what is written is put beside its places, then the list, then what makes something, and behind a sync what removes
 //! something. A recovery that succeeds did what the list says that it found, and one that is stopped can be done again. Of
 //! folders it says which calls are made, and not which folders are there. It knows nothing of paths, links or locks.
+//!
+//! A failure, other than for want of memory, has a cause. A call on the disk that fails is counted. `replace` fails only where
+//! a call failed, or where the edits cannot be on one list: a name has a byte 0, or a file is both written and removed.
+//! `recover` fails only where a call failed, or where a list is there that is the text of no moves.
 #![tactic(auto)]
 
 mod file_calls;

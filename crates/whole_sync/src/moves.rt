@@ -1,5 +1,8 @@
 //! What is done once a list is there.
-ghost use Rattle.std.specs.Prelude.{◌≡◌, ◌∷◌, ◌++◌, IfOk, OnOk};
+ghost use Rattle.std.specs.Prelude.{◌≡◌, ◌∷◌, ◌++◌, List, IfOk, OnOk, IsErrOf};
+ghost use Rattle.std.specs.List.{Contains};
+ghost use Rattle.outside.specs.declared.edit.Edit.{Edit};
+ghost use Rattle.whole_sync.specs.Listing.{FitsList, CanBeListed, AreWritten, Named};
 ghost use Rattle.whole_sync.specs.Protocol.{is_making, is_due, making, removing, moves_of};
 
 use outside::{Edit, StoreFault};
@@ -48,14 +51,15 @@ impl Move {
 }
 
 /// What is done of these edits once a list is there: folders are made and files written, in the order of the edits, and
-/// then files and folders removed. What is written was put beside its place, in order, under these names. A list that
-/// writes and removes one file is a failure.
+/// then files and folders removed. What is written was put beside its place, in order, under these names. Edits that write
+/// and remove one file are a failure, and so are fewer names than there are writes.
 pub(crate) fn moves_of(
     alloc: Global,
     edits: &[Edit],
     beside: &[Text],
 ) -> Result<Vec<Move>, StoreFault>
-    ensures { IfOk result (λ moves. moves.items ≡ moves_of edits.now beside.now) }
+    ensures ok { IfOk result (λ moves. moves.items ≡ moves_of edits.now beside.now) }
+    ensures failed { IsErrOf result StoreFault.Failed → CanBeListed edits.now → Named edits.now beside.now → ⊥ }
 {
     let written = places_written(alloc, edits)?;
     let mut moves = making_moves(alloc, edits, beside)?;
@@ -71,7 +75,8 @@ fn push_removing(
     edit: &Edit,
     written: &BTreeSet<(Text, Text)>,
 ) -> Result<(), StoreFault>
-    ensures { OnOk result ((es : _) → moves.old.items ++ removing (edit.now ∷ es) ≡ moves.new.items ++ removing es) }
+    ensures ok { OnOk result ((es : _) → moves.old.items ++ removing (edit.now ∷ es) ≡ moves.new.items ++ removing es) }
+    ensures failed { IsErrOf result StoreFault.Failed → (es : List Edit) → AreWritten es written.now.keys → FitsList es edit.now → ⊥ }
 {
     match edit {
         Edit::Remove { folder, file } => {
@@ -93,19 +98,35 @@ fn push_removing(
 }
 
 // The places that these edits write.
-fn places_written(alloc: Global, edits: &[Edit]) -> Result<BTreeSet<(Text, Text)>, StoreFault> {
+fn places_written(alloc: Global, edits: &[Edit]) -> Result<BTreeSet<(Text, Text)>, StoreFault>
+    ensures ok { IfOk result (λ places. AreWritten edits.now places.keys) }
+    ensures failed { IsErrOf result StoreFault.Failed → ⊥ }
+{
     let mut places = BTreeSet::new(alloc);
     for edit in edits {
-        if let Edit::Write { folder, file, .. } = edit {
-            places.insert((folder.copy()?, file.copy()?))?;
-        }
+        add_place(&mut places, edit)?;
     }
     Ok(places)
 }
 
+// The place that an edit writes, where it writes one.
+fn add_place(places: &mut BTreeSet<(Text, Text)>, edit: &Edit) -> Result<(), StoreFault>
+    ensures ok { OnOk result ((es : List Edit) → AreWritten es places.old.keys → Contains es edit.now → AreWritten es places.new.keys) }
+    ensures failed { IsErrOf result StoreFault.Failed → ⊥ }
+{
+    match edit {
+        Edit::Write { folder, file, .. } => {
+            places.insert((folder.copy()?, file.copy()?))?;
+            Ok(())
+        }
+        Edit::MakeFolder { .. } | Edit::Remove { .. } | Edit::RemoveFolder { .. } => Ok(()),
+    }
+}
+
 // The folders that are made and the files that are written.
 fn making_moves(alloc: Global, edits: &[Edit], beside: &[Text]) -> Result<Vec<Move>, StoreFault>
-    ensures { IfOk result (λ moves. moves.items ≡ making edits.now beside.now) }
+    ensures ok { IfOk result (λ moves. moves.items ≡ making edits.now beside.now) }
+    ensures failed { IsErrOf result StoreFault.Failed → Named edits.now beside.now → ⊥ }
 {
     let mut names = beside;
     let mut moves = Vec::new(alloc);
@@ -121,7 +142,9 @@ fn push_making<'a>(
     edit: &Edit,
     names: &'a [Text],
 ) -> Result<&'a [Text], StoreFault>
-    ensures { IfOk result (λ rest. (es : _) → moves.old.items ++ making (edit.now ∷ es) names.now ≡ moves.new.items ++ making es rest.now) }
+    ensures ok { IfOk result (λ rest. (es : _) → moves.old.items ++ making (edit.now ∷ es) names.now ≡ moves.new.items ++ making es rest.now) }
+    ensures named { IfOk result (λ rest. (es : List Edit) → Named (edit.now ∷ es) names.now → Named es rest.now) }
+    ensures failed { IsErrOf result StoreFault.Failed → (es : List Edit) → Named (edit.now ∷ es) names.now → ⊥ }
 {
     match edit {
         Edit::MakeFolder { folder } => {

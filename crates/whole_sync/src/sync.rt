@@ -1,8 +1,10 @@
 //! The making of edits, and what the next program does where one was stopped.
-ghost use Rattle.std.specs.Prelude.{◌≡◌, [], ◌∷◌, ◌++◌, map, true, IfOk, OnOk, OnErr, IsErrOf, None, Some, option_map};
+ghost use Rattle.std.specs.Prelude.{◌≡◌, ◌⊎◌, ◌≤◌, [], ◌∷◌, ◌++◌, map, true, IfOk, OnOk, OnErr, IsErrOf, None, Some, option_map};
+ghost use Rattle.outside.specs.Counts.{Rose};
 ghost use Rattle.whole_sync.specs.Disks.{Known, Do, DropList, Off, DoesAll, with_done};
+ghost use Rattle.whole_sync.specs.Listing.{CanBeListed};
 ghost use Rattle.whole_sync.specs.Protocol.{picked, finishing, edited};
-ghost use Rattle.whole_sync.specs.Replacing.{Aside, PutAll, Prepared, TakenBack, Unprepared, Dropped, Replaced, ListFinished};
+ghost use Rattle.whole_sync.specs.Replacing.{Aside, PutAll, Prepared, TakenBack, Unprepared, Dropped, Replaced, HasNoMoves, ListFinished};
 ghost use Rattle.whole_sync.specs.Stops.{Unchanged, Recovered, WholeAtEachStop, SameAtEachStop};
 
 use crate::moves::moves_of;
@@ -13,12 +15,15 @@ use ss_text::Text;
 use std::alloc::Global;
 
 /// Makes all of these edits, in order but that what is removed is so last, or none. Where it fails, none is made, or a
-/// list is there by which `recover` makes all. It fails for want of memory only where none is made and no list is there.
+/// list is there by which `recover` makes all. It fails for want of memory only where none is made and no list is there. It
+/// answers `Failed` only where a call failed, or the edits cannot be on one list.
 pub fn replace<D: FileCalls>(alloc: Global, disk: &mut D, edits: &[Edit]) -> Result<(), StoreFault>
     ensures ok { OnOk result (Replaced edits.now (D.known disk.old) (D.known disk.new)) }
     ensures made { OnOk result ((k n : Known) → D.known disk.old ≡ Some k → D.known disk.new ≡ Some n → n.held.files ≡ edited edits.now k.held.files) }
     ensures whole { (k n : Known) → D.known disk.old ≡ Some k → D.known disk.new ≡ Some n → k.held.list ≡ None → WholeAtEachStop edits.now k n }
     ensures no_memory { IsErrOf result StoreFault.NoMemory → Unchanged (D.known disk.old) (D.known disk.new) }
+    ensures failed { IsErrOf result StoreFault.Failed → CanBeListed edits.now → Rose (D.faults disk.old) (D.faults disk.new) }
+    ensures steady { D.faults disk.old ≤ D.faults disk.new }
 {
     let mut beside = Vec::new(alloc);
     match prepare(alloc, disk, edits, &mut beside) {
@@ -49,6 +54,8 @@ fn prepare<D: FileCalls>(
     ensures ok { IfOk result (λ moves. Prepared edits.now moves.items beside.new.items (D.known disk.old) (D.known disk.new)) }
     ensures err { OnErr result (Unprepared edits.now beside.new.items (D.known disk.old) (D.known disk.new)) }
     ensures no_memory { IsErrOf result StoreFault.NoMemory → Unchanged (D.known disk.old) (D.known disk.new) }
+    ensures failed { IsErrOf result StoreFault.Failed → CanBeListed edits.now → Rose (D.faults disk.old) (D.faults disk.new) }
+    ensures steady { D.faults disk.old ≤ D.faults disk.new }
 {
     put_all(alloc, disk, edits, beside)?;
     let names = beside.as_slice();
@@ -72,6 +79,7 @@ fn prepare<D: FileCalls>(
 fn take_back<D: FileCalls>(alloc: Global, disk: &mut D, beside: &mut Vec<Text>) -> bool
     ensures taken { TakenBack beside.new.items (D.known disk.old) (D.known disk.new) }
     ensures gone { result ≡ true → D.known disk.new ≡ option_map (with_done DropList) (D.known disk.old) }
+    ensures steady { D.faults disk.old ≤ D.faults disk.new }
 {
     match disk.drop_list(alloc) {
         Ok(()) => true,
@@ -91,6 +99,8 @@ fn put_all<D: FileCalls>(
     requires { beside.old.items ≡ [] }
     ensures ok { OnOk result (PutAll edits.now beside.new.items (D.known disk.old) (D.known disk.new)) }
     ensures err { OnErr result (Aside (D.known disk.old) (D.known disk.new)) }
+    ensures failed { IsErrOf result StoreFault.Failed → Rose (D.faults disk.old) (D.faults disk.new) }
+    ensures steady { D.faults disk.old ≤ D.faults disk.new }
 {
     for edit in edits {
         put_one(alloc, disk, edit, beside)?;
@@ -106,6 +116,8 @@ fn put_one<D: FileCalls>(
 ) -> Result<(), StoreFault>
     ensures ok { OnOk result ((names : _) × (beside.new.items ≡ beside.old.items ++ names) × PutAll (edit.now ∷ []) names (D.known disk.old) (D.known disk.new)) }
     ensures err { OnErr result (Aside (D.known disk.old) (D.known disk.new)) }
+    ensures failed { IsErrOf result StoreFault.Failed → Rose (D.faults disk.old) (D.faults disk.new) }
+    ensures steady { D.faults disk.old ≤ D.faults disk.new }
 {
     match edit {
         Edit::Write {
@@ -125,7 +137,8 @@ fn put_one<D: FileCalls>(
 
 // Takes away what was put beside places. What cannot be taken away is left to `clean`.
 fn drop_all<D: FileCalls>(alloc: Global, disk: &mut D, beside: &[Text])
-    ensures { Dropped beside.now (D.known disk.old) (D.known disk.new) }
+    ensures dropped { Dropped beside.now (D.known disk.old) (D.known disk.new) }
+    ensures steady { D.faults disk.old ≤ D.faults disk.new }
 {
     for name in beside {
         let _ = disk.drop_beside(alloc, name);
@@ -134,7 +147,9 @@ fn drop_all<D: FileCalls>(alloc: Global, disk: &mut D, beside: &[Text])
 
 // Does all that a list names, and takes the list away.
 fn finish<D: FileCalls>(alloc: Global, disk: &mut D, moves: &[Move]) -> Result<(), StoreFault>
-    ensures { DoesAll (finishing moves.now) result (D.known disk.old) (D.known disk.new) }
+    ensures done { DoesAll (finishing moves.now) result (D.known disk.old) (D.known disk.new) }
+    ensures failed { OnErr result (Rose (D.faults disk.old) (D.faults disk.new)) }
+    ensures steady { D.faults disk.old ≤ D.faults disk.new }
 {
     do_all(alloc, disk, moves, true)?;
     disk.sync(alloc)?;
@@ -150,7 +165,9 @@ fn do_all<D: FileCalls>(
     moves: &[Move],
     making: bool,
 ) -> Result<(), StoreFault>
-    ensures { DoesAll (map Do (picked making moves.now)) result (D.known disk.old) (D.known disk.new) }
+    ensures done { DoesAll (map Do (picked making moves.now)) result (D.known disk.old) (D.known disk.new) }
+    ensures failed { OnErr result (Rose (D.faults disk.old) (D.faults disk.new)) }
+    ensures steady { D.faults disk.old ≤ D.faults disk.new }
 {
     for one in moves {
         do_due(alloc, disk, one, making)?;
@@ -164,7 +181,9 @@ fn do_due<D: FileCalls>(
     one: &Move,
     making: bool,
 ) -> Result<(), StoreFault>
-    ensures { DoesAll (map Do (picked making (one.now ∷ []))) result (D.known disk.old) (D.known disk.new) }
+    ensures done { DoesAll (map Do (picked making (one.now ∷ []))) result (D.known disk.old) (D.known disk.new) }
+    ensures failed { OnErr result (Rose (D.faults disk.old) (D.faults disk.new)) }
+    ensures steady { D.faults disk.old ≤ D.faults disk.new }
 {
     if one.is_due(making) {
         do_move(alloc, disk, one)
@@ -176,6 +195,8 @@ fn do_due<D: FileCalls>(
 fn do_move<D: FileCalls>(alloc: Global, disk: &mut D, one: &Move) -> Result<(), StoreFault>
     ensures ok { OnOk result (D.known disk.new ≡ option_map (with_done (Do one.now)) (D.known disk.old)) }
     ensures err { OnErr result (Off (Do one.now) (D.known disk.old) (D.known disk.new)) }
+    ensures failed { OnErr result (Rose (D.faults disk.old) (D.faults disk.new)) }
+    ensures steady { D.faults disk.old ≤ D.faults disk.new }
 {
     match one {
         Move::MakeFolder { folder } => disk.make_folder(alloc, folder),
@@ -191,10 +212,13 @@ fn do_move<D: FileCalls>(alloc: Global, disk: &mut D, one: &Move) -> Result<(), 
 
 /// Does what the list of an earlier program says, where one is there, and takes away what lies beside places. To be
 /// called before anything is read. Where it fails, for want of memory too, a part of it may be done, and nothing is to be
-/// read: `recover` can be called again.
+/// read: `recover` can be called again. It answers `Failed` only where a call failed, or the list that is there is the text
+/// of no moves.
 pub fn recover<D: FileCalls>(alloc: Global, disk: &mut D) -> Result<(), StoreFault>
     ensures ok { OnOk result ((k n : Known) → D.known disk.old ≡ Some k → D.known disk.new ≡ Some n → Recovered k.held n.held) }
     ensures stops { (k n : Known) → D.known disk.old ≡ Some k → D.known disk.new ≡ Some n → SameAtEachStop k n }
+    ensures failed { IsErrOf result StoreFault.Failed → Rose (D.faults disk.old) (D.faults disk.new) ⊎ HasNoMoves (D.known disk.old) }
+    ensures steady { D.faults disk.old ≤ D.faults disk.new }
 {
     finish_list(alloc, disk)?;
     disk.clean(alloc)
@@ -202,7 +226,9 @@ pub fn recover<D: FileCalls>(alloc: Global, disk: &mut D) -> Result<(), StoreFau
 
 // Does what the list of an earlier program says, where one is there.
 fn finish_list<D: FileCalls>(alloc: Global, disk: &mut D) -> Result<(), StoreFault>
-    ensures { ListFinished result (D.known disk.old) (D.known disk.new) }
+    ensures finished { ListFinished result (D.known disk.old) (D.known disk.new) }
+    ensures failed { IsErrOf result StoreFault.Failed → Rose (D.faults disk.old) (D.faults disk.new) ⊎ HasNoMoves (D.known disk.old) }
+    ensures steady { D.faults disk.old ≤ D.faults disk.new }
 {
     match disk.list(alloc)? {
         None => Ok(()),

@@ -1,5 +1,9 @@
 //! A sync that is stopped at each of its calls, or of which each call fails in turn, for want of memory too, on files in
 //! memory.
+ghost use Rattle.std.specs.Prelude.{◌≡◌, ◌≤◌, IfOk, OnErr};
+ghost use Rattle.outside.specs.Counts.{Rose};
+ghost use Rattle.whole_sync.specs.Lists.{IsWord};
+
 use crate::{FileCalls, recover, replace};
 use outside::{Edit, StoreFault};
 use ss_text::Text;
@@ -75,14 +79,8 @@ impl MemDisk {
     fn is_empty(&self, folder: &Text) -> bool {
         self.files.keys().all(|place| place.0 != *folder)
     }
-}
 
-impl FileCalls for MemDisk {
-    ghost use Rattle.std.specs.Prelude.{None};
-
-    ghost known = { λ _. None };
-
-    fn list(&mut self, _alloc: Global) -> Result<Option<Text>, StoreFault> {
+    fn list(&mut self) -> Result<Option<Text>, StoreFault> {
         let (_, succeeds) = self.call();
         self.end(succeeds)?;
         match &self.list {
@@ -92,16 +90,12 @@ impl FileCalls for MemDisk {
     }
 
     // A call that goes wrong leaves half of the bytes.
-    fn put_beside(
-        &mut self,
-        alloc: Global,
-        folder: &Text,
-        _file: &Text,
-        bytes: &[u8],
-    ) -> Result<Text, StoreFault> {
+    fn put_beside(&mut self, folder: &Text, bytes: &[u8]) -> Result<Text, StoreFault>
+        ensures { IfOk result (λ name. IsWord name) }
+    {
         let (does, succeeds) = self.call();
-        self.next = self.next.wrapping_add(1);
-        let name = Text::of(alloc, &[b'.', self.next])?;
+        self.next = self.next.saturating_add(1);
+        let name = name_of(self.alloc, self.next)?;
         if does {
             self.put(folder, &name, bytes)?;
         } else {
@@ -111,7 +105,7 @@ impl FileCalls for MemDisk {
         Ok(name)
     }
 
-    fn drop_beside(&mut self, _alloc: Global, beside: &Text) -> Result<(), StoreFault> {
+    fn drop_beside(&mut self, beside: &Text) -> Result<(), StoreFault> {
         let (does, succeeds) = self.call();
         if does {
             let kept = |place: &(Text, Text), _: &mut Text| place.1 != *beside;
@@ -120,15 +114,15 @@ impl FileCalls for MemDisk {
         self.end(succeeds)
     }
 
-    fn put_list(&mut self, alloc: Global, list: &[u8]) -> Result<(), StoreFault> {
+    fn put_list(&mut self, list: &[u8]) -> Result<(), StoreFault> {
         let (does, succeeds) = self.call();
         if does {
-            self.list = Some(Text::of(alloc, list)?);
+            self.list = Some(Text::of(self.alloc, list)?);
         }
         self.end(succeeds)
     }
 
-    fn drop_list(&mut self, _alloc: Global) -> Result<(), StoreFault> {
+    fn drop_list(&mut self) -> Result<(), StoreFault> {
         let (does, succeeds) = self.call();
         if does {
             self.list = None;
@@ -136,7 +130,7 @@ impl FileCalls for MemDisk {
         self.end(succeeds)
     }
 
-    fn make_folder(&mut self, _alloc: Global, folder: &Text) -> Result<(), StoreFault> {
+    fn make_folder(&mut self, folder: &Text) -> Result<(), StoreFault> {
         let (does, succeeds) = self.call();
         if does {
             self.folders.insert(folder.copy()?)?;
@@ -144,13 +138,7 @@ impl FileCalls for MemDisk {
         self.end(succeeds)
     }
 
-    fn take_place(
-        &mut self,
-        _alloc: Global,
-        beside: &Text,
-        folder: &Text,
-        file: &Text,
-    ) -> Result<(), StoreFault> {
+    fn take_place(&mut self, beside: &Text, folder: &Text, file: &Text) -> Result<(), StoreFault> {
         let (does, succeeds) = self.call();
         if does {
             self.place(beside, folder, file)?;
@@ -158,7 +146,7 @@ impl FileCalls for MemDisk {
         self.end(succeeds)
     }
 
-    fn remove(&mut self, _alloc: Global, folder: &Text, file: &Text) -> Result<(), StoreFault> {
+    fn remove(&mut self, folder: &Text, file: &Text) -> Result<(), StoreFault> {
         let (does, succeeds) = self.call();
         if does {
             self.files.remove(&(folder.copy()?, file.copy()?));
@@ -166,7 +154,7 @@ impl FileCalls for MemDisk {
         self.end(succeeds)
     }
 
-    fn remove_folder(&mut self, _alloc: Global, folder: &Text) -> Result<(), StoreFault> {
+    fn remove_folder(&mut self, folder: &Text) -> Result<(), StoreFault> {
         let (does, succeeds) = self.call();
         if does && self.is_empty(folder) {
             self.folders.remove(folder);
@@ -174,12 +162,12 @@ impl FileCalls for MemDisk {
         self.end(succeeds)
     }
 
-    fn sync(&mut self, _alloc: Global) -> Result<(), StoreFault> {
+    fn sync(&mut self) -> Result<(), StoreFault> {
         let (_, succeeds) = self.call();
         self.end(succeeds)
     }
 
-    fn clean(&mut self, _alloc: Global) -> Result<(), StoreFault> {
+    fn clean(&mut self) -> Result<(), StoreFault> {
         let (does, succeeds) = self.call();
         if does {
             let kept = |place: &(Text, Text), _: &mut Text| !is_beside(&place.1);
@@ -189,16 +177,114 @@ impl FileCalls for MemDisk {
     }
 }
 
+// The same disk, of which each call that fails is counted.
+#[derive(Drop)]
+struct CountedDisk {
+    disk: MemDisk,
+    faults: u64,
+}
+
+impl FileCalls for CountedDisk {
+    ghost use Rattle.std.specs.Prelude.{None};
+
+    ghost known = { λ _. None };
+
+    ghost faults = { λ s. s.faults };
+
+    fn list(&mut self, _alloc: Global) -> Result<Option<Text>, StoreFault> {
+        counted(self.disk.list(), &mut self.faults)
+    }
+
+    fn put_beside(
+        &mut self,
+        _alloc: Global,
+        folder: &Text,
+        _file: &Text,
+        bytes: &[u8],
+    ) -> Result<Text, StoreFault> {
+        counted(self.disk.put_beside(folder, bytes), &mut self.faults)
+    }
+
+    fn drop_beside(&mut self, _alloc: Global, beside: &Text) -> Result<(), StoreFault> {
+        counted(self.disk.drop_beside(beside), &mut self.faults)
+    }
+
+    fn put_list(&mut self, _alloc: Global, list: &[u8]) -> Result<(), StoreFault> {
+        counted(self.disk.put_list(list), &mut self.faults)
+    }
+
+    fn drop_list(&mut self, _alloc: Global) -> Result<(), StoreFault> {
+        counted(self.disk.drop_list(), &mut self.faults)
+    }
+
+    fn make_folder(&mut self, _alloc: Global, folder: &Text) -> Result<(), StoreFault> {
+        counted(self.disk.make_folder(folder), &mut self.faults)
+    }
+
+    fn take_place(
+        &mut self,
+        _alloc: Global,
+        beside: &Text,
+        folder: &Text,
+        file: &Text,
+    ) -> Result<(), StoreFault> {
+        counted(self.disk.take_place(beside, folder, file), &mut self.faults)
+    }
+
+    fn remove(&mut self, _alloc: Global, folder: &Text, file: &Text) -> Result<(), StoreFault> {
+        counted(self.disk.remove(folder, file), &mut self.faults)
+    }
+
+    fn remove_folder(&mut self, _alloc: Global, folder: &Text) -> Result<(), StoreFault> {
+        counted(self.disk.remove_folder(folder), &mut self.faults)
+    }
+
+    fn sync(&mut self, _alloc: Global) -> Result<(), StoreFault> {
+        counted(self.disk.sync(), &mut self.faults)
+    }
+
+    fn clean(&mut self, _alloc: Global) -> Result<(), StoreFault> {
+        counted(self.disk.clean(), &mut self.faults)
+    }
+}
+
+// What a call answers. One that fails is counted.
+fn counted<T>(done: Result<T, StoreFault>, faults: &mut u64) -> Result<T, StoreFault>
+    ensures same { result ≡ done }
+    ensures failed { OnErr result (Rose faults.old faults.new) }
+    ensures steady { faults.old ≤ faults.new }
+{
+    match done {
+        Ok(value) => Ok(value),
+        Err(fault) => {
+            *faults = faults.saturating_add(1);
+            Err(fault)
+        }
+    }
+}
+
+// The name beside a place that has this number, which is not 0.
+fn name_of(alloc: Global, number: u8) -> Result<Text, StoreFault>
+    ensures { IfOk result (λ name. IsWord name) }
+{
+    if number == 0 {
+        return Err(StoreFault::Failed);
+    }
+    text(alloc, &[b'.', number])
+}
+
 fn is_beside(name: &Text) -> bool {
     matches!(name.as_slice(), [b'.', ..])
 }
 
-fn text(alloc: Global, bytes: &[u8]) -> Result<Text, StoreFault> {
+fn text(alloc: Global, bytes: &[u8]) -> Result<Text, StoreFault>
+    ensures { IfOk result (λ text. text ≡ bytes.now) }
+{
     Ok(Text::of(alloc, bytes)?)
 }
 
 // The files before: two of a database, and the only one of another.
-fn disk_before(alloc: Global, wrong_at: u64, wrong: Wrong) -> Result<MemDisk, StoreFault> {
+fn disk_before(alloc: Global, wrong_at: u64, wrong: Wrong) -> Result<CountedDisk, StoreFault> {
     let mut disk = MemDisk {
         alloc,
         files: BTreeMap::new(alloc),
@@ -215,7 +301,7 @@ fn disk_before(alloc: Global, wrong_at: u64, wrong: Wrong) -> Result<MemDisk, St
     disk.put(&text(alloc, b"d")?, &text(alloc, b"a")?, b"rows of a")?;
     disk.put(&text(alloc, b"d")?, &text(alloc, b"b")?, b"rows of b")?;
     disk.put(&text(alloc, b"old")?, &text(alloc, b"x")?, b"rows of x")?;
-    Ok(disk)
+    Ok(CountedDisk { disk, faults: 0 })
 }
 
 fn write_of(alloc: Global, folder: &[u8], file: &[u8], bytes: &[u8]) -> Result<Edit, StoreFault> {
@@ -257,8 +343,8 @@ fn is_same(a: &MemDisk, b: &MemDisk) -> bool {
 // What is there before a sync and behind it, and the edits.
 #[derive(Drop)]
 struct Wanted {
-    before: MemDisk,
-    after: MemDisk,
+    before: CountedDisk,
+    after: CountedDisk,
     edits: Vec<Edit>,
 }
 
@@ -293,15 +379,15 @@ fn holds(
     fault: StoreFault,
 ) -> Result<bool, StoreFault> {
     let mut disk = disk_before(alloc, wrong_at, wrong)?;
-    disk.fault = fault;
+    disk.disk.fault = fault;
     let done = replace(alloc, &mut disk, &wanted.edits);
-    disk.calls = 0;
-    disk.wrong_at = then_at;
+    disk.disk.calls = 0;
+    disk.disk.wrong_at = then_at;
     let _ = recover(alloc, &mut disk);
-    disk.wrong_at = u64::MAX;
+    disk.disk.wrong_at = u64::MAX;
     recover(alloc, &mut disk)?;
-    let is_after = is_same(&disk, &wanted.after);
-    let is_before = is_same(&disk, &wanted.before);
+    let is_after = is_same(&disk.disk, &wanted.after.disk);
+    let is_before = is_same(&disk.disk, &wanted.before.disk);
     match done {
         Ok(()) => Ok(is_after),
         Err(StoreFault::NoMemory) => Ok(is_before),
@@ -320,7 +406,7 @@ fn all_hold(alloc: Global, fault: StoreFault) -> Result<bool, StoreFault> {
             }
         }
     }
-    Ok(!is_same(&wanted.before, &wanted.after))
+    Ok(!is_same(&wanted.before.disk, &wanted.after.disk))
 }
 
 #[test]

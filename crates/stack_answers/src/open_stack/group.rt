@@ -70,7 +70,7 @@ impl OpenStack {
         ensures blames { SinkBlames (K.state output.old) (K.state output.new) result }
     {
         print_begun(alloc, output)?;
-        self.draft = Some(Draft::new(alloc));
+        self.draft = Some(Draft::new(alloc, self.levels.seed()));
         self.broken = 0;
         Ok(())
     }

@@ -2,9 +2,8 @@ use Rattle.std.proofs.Common.{◌≡◌, ◌∙◌, [], ap, sym, arith}
 use Rattle.std.proofs.lemmas.Grind.{common_steps}
 use Rattle.std.specs.Vec.Iter.{into_iter_items}
 use Rattle.ss_text.specs.Places.{at_place}
-use Rattle.schema_model.specs.Catalogue.{with_relation_at}
+use Rattle.schema_model.specs.Catalogue.{with_relation_at, with_rows}
 use Rattle.schema_model.specs.States.{CatalogueState, settled}
-use Rattle.csv_catalog.specs.Put.{with_rows}
 use Rattle.csv_catalog.proofs.PutLemmas.{row_then, takes_rest, no_rows, settled_as}
 use Rattle.csv_catalog.proofs.put.put_rows.Goals as goal
 

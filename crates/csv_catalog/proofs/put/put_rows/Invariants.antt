@@ -1,9 +1,9 @@
 use Rattle.std.proofs.Common.{◌≡◌}
 use Rattle.std.specs.Vec.Iter.{into_iter_items}
 use Rattle.ss_text.specs.Places.{at_place}
-use Rattle.schema_model.specs.Catalogue.{with_relation_at}
+use Rattle.schema_model.specs.Catalogue.{with_relation_at, with_rows}
 use Rattle.schema_model.specs.States.{settled}
-use Rattle.csv_catalog.specs.Put.{with_rows, CanTakeRows}
+use Rattle.csv_catalog.specs.Put.{CanTakeRows}
 use Rattle.csv_catalog.proofs.put.put_rows.Given as goal
 
 abbrev pub invariant-loop-row : goal.invariant-loop-row

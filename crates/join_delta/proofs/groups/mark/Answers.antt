@@ -4,7 +4,8 @@ use Rattle.std.specs.Hash as fed
 use Rattle.std.specs.Hash.FoldHasher as folding
 use denote.Ref.{Bor}
 use Rattle.ss_text.specs.Texts.{Text}
-use Rattle.row_links.specs.Parts.{write_cell}
+use Rattle.ss_text.specs.Seeds.{start_of}
+use Rattle.row_links.specs.Marks.{write_cell}
 use Rattle.join_delta.proofs.Crossed.{folded_more}
 use Rattle.join_delta.proofs.groups.mark.Goals as goal
 
@@ -15,5 +16,5 @@ fed_as (Some r) = refl
 
 pub loop-position-preserved : goal.loop-position-preserved
 loop-position-preserved c =
-    folded_more write_cell (slice_get c.args.row.now) folding.initial c.args.key.now c.loop-position.position-index 0 c.loop-position.state c.hash.new.state (omega arith) c.loop-position.invariant
+    folded_more write_cell (slice_get c.args.row.now) (start_of c.args.seed) c.args.key.now c.loop-position.position-index 0 c.loop-position.state c.hash.new.state (omega arith) c.loop-position.invariant
     (c.hash.ensures ∙ ap (fold folding.write c.loop-position.state) (fed_as c.cell.result) ∙ ap (write_cell c.loop-position.state) c.cell.ensures)

@@ -1,7 +1,7 @@
 use Rattle.std.proofs.Common.{ap, sym, ◌∙◌, ◌+◌, ◌-◌, ◌≡◌, ◌≤◌, suc, arith}
 use Rattle.std.proofs.lemmas.List.Sums.{sum_by-set, sum_by-insert}
 use Rattle.std.specs.Prelude.{slice_set}
-use Rattle.row_shelves.specs.Shelves.{on_shelf, IsShelf}
+use Rattle.row_shelves.specs.Shelves.{on_shelf, IsShelf, full}
 use Rattle.row_shelves.specs.Blanks.{beyond_half}
 use Rattle.row_shelves.proofs.ShelfLemmas.{cut_in_two}
 use Rattle.row_shelves.proofs.RoomLemmas.{all_cut, is_shelf}
@@ -21,7 +21,7 @@ returns-clause-shelves c =
     let back = c.cut.new.tail in
     let cut = c.cut.ensures in
     let long = rw (sym c.index_mut-shelf.ensures.value) at (c.requires.long shelf) in
-    let many : 64 ≤ shelf.len = long.many in
+    let many : full ≤ shelf.len = long.many in
     let front_len : front.len ≡ shelf.len - 32 = cut.len ∙ ap (λ n. n - 32) c.len.ensures in
     let back_len : front.len + back.len ≡ shelf.len = ap (λ n. n + back.len) front_len ∙ sym (ap (λ n. n - 32 + back.len) c.len.ensures) ∙ cut.tail_len in
     let next : c.args.place + 1 ≡ suc c.args.place = omega arith in

@@ -1,7 +1,7 @@
 use Rattle.std.proofs.Common.{◌++◌, [], subst}
 use Rattle.csv_catalog.specs.RecordText.{record_text}
 use Rattle.view_folder.specs.Fields.{IsWithin}
-use Rattle.view_folder.specs.TableFiles.{spliced}
+use Rattle.flow_law.specs.Records.{spliced}
 use Rattle.view_folder.proofs.FieldLemmas.{row_put, rows_put}
 use Rattle.view_folder.proofs.fact_file.put_rows.Goals as goal
 

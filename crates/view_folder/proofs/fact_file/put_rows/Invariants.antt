@@ -2,7 +2,7 @@ use Rattle.std.proofs.Common.{◌≡◌, ◌≢◌, ℕ, List, [], ◌++◌, len
 use Rattle.std.specs.List.{AllByRecursion}
 use Rattle.ss_text.specs.Texts.{Row}
 use Rattle.csv_catalog.specs.RecordText.{csv_text}
-use Rattle.view_folder.specs.TableFiles.{row_records}
+use Rattle.flow_law.specs.Records.{row_records}
 use Rattle.view_folder.specs.Fields.{IsWithin}
 use Rattle.view_folder.proofs.fact_file.put_rows.Given as goal
 

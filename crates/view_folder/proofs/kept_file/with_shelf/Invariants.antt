@@ -1,7 +1,7 @@
 use Rattle.std.proofs.Common.{◌≡◌, ◌++◌, take}
 use Rattle.csv_catalog.specs.RecordText.{csv_text}
 use Rattle.row_shelves.specs.Stocks.{rows_of}
-use Rattle.view_folder.specs.TableFiles.{row_records}
+use Rattle.flow_law.specs.Records.{row_records}
 use Rattle.view_folder.proofs.kept_file.with_shelf.Given as goal
 
 abbrev pub invariant-loop-row : goal.invariant-loop-row

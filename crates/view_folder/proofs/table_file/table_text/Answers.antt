@@ -2,7 +2,7 @@ use Rattle.std.proofs.Common.{◌≡◌, ◌∷◌, ◌++◌, ◌∙◌, [], ℕ
 use Rattle.ss_text.specs.Texts.{Row}
 use Rattle.ss_text.proofs.PlaceLemmas.{each_at}
 use Rattle.csv_catalog.specs.RecordText.{record_text, csv_text}
-use Rattle.view_folder.specs.TableFiles.{spliced}
+use Rattle.flow_law.specs.Records.{spliced}
 use Rattle.view_folder.proofs.TableFileLemmas.{csv_text_one, spliced_some, records_step}
 use Rattle.view_folder.proofs.table_file.table_text.Goals as goal
 

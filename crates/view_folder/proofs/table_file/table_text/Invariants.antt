@@ -1,7 +1,7 @@
 use Rattle.std.proofs.Common.{◌≡◌, ◌∷◌, map, take}
 use Rattle.ss_text.specs.Texts.{Row}
 use Rattle.csv_catalog.specs.RecordText.{csv_text}
-use Rattle.view_folder.specs.TableFiles.{spliced}
+use Rattle.flow_law.specs.Records.{spliced}
 use Rattle.view_folder.proofs.table_file.table_text.Given as goal
 
 abbrev pub invariant-loop-place : goal.invariant-loop-place

@@ -3,7 +3,7 @@ use Rattle.view_stack.proofs.SlotLemmas.{one_name, slot_takes, slot_put, slot_co
 use Rattle.view_stack.proofs.database.made.Goals as goal
 
 pub put_database-requires-clause-names : goal.put_database-requires-clause-names
-put_database-requires-clause-names c = rw c.empty-catalogue.ensures (one_name c.in_ok-copy.field-0 c.args.view_db.now c.in_ok-copy.ensures c.requires.legal)
+put_database-requires-clause-names c = rw c.seeded-catalogue.ensures (one_name c.in_ok-copy.field-0 c.args.view_db.now c.in_ok-copy.ensures c.requires.legal)
 
 pub put_slot-requires-clause-takes : goal.put_slot-requires-clause-takes
 put_slot-requires-clause-takes c =

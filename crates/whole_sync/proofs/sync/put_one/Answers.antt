@@ -16,7 +16,7 @@ returns-in_err-push-in-Write-clause-err g c =
 pub returns-in_ok-push-in-Write-clause-ok : goal.returns-in_ok-push-in-Write-clause-ok
 returns-in_ok-push-in-Write-clause-ok g c =
     let put = c.in_ok-name-in-Write in
-    (put.name ∷ [], c.in_ok-push-in-Write.ensures.items, rw c.in-Write.is (write_put put.name c.in-Write.folder c.in-Write.file c.in-Write.bytes _ _ put.ensures.fresh (rw c.as_slice.ensures at put.ensures.ok)))
+    (put.name ∷ [], c.in_ok-push-in-Write.ensures.items, rw c.in-Write.is (write_put put.name c.in-Write.folder c.in-Write.file c.in-Write.bytes _ _ put.ensures.word put.ensures.fresh (rw c.as_slice.ensures at put.ensures.ok)))
 
 pub returns-in-MakeFolder-clause-ok : goal.returns-in-MakeFolder-clause-ok
 returns-in-MakeFolder-clause-ok g c = rw c.in-MakeFolder.is ([], sym (append-nil _), make_put _ _)

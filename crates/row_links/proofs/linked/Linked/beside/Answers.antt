@@ -40,11 +40,11 @@ returns-in-Some c = λ row at.
     let key2_at : slice_get c.args.self.now.keys c.args.key ≡ Some c.index-in-Some.result.now.items = key_is f.keys.items c.args.self.now.keys c.args.key c.index-in-Some.result.now keys c.requires.key c.index-in-Some.ensures in
     let same_key : c.index-in-Some.result.now.items ≡ key = cc in
     let chain_at : slice_get f.chains.keyed.items c.args.key ≡ Some c.in-Some.chain.now = got_at f.chains.keyed.items c.deref.result.now c.args.key c.in-Some.chain.now c.deref.ensures.value c.in-Some.ensures.lookup.0 c.in-Some.ensures.lookup.1 in
-    let chained : IsChained c.in-Some.chain.now (marked (by_cells key) live) = h.chained.keyed c.args.key c.in-Some.chain.now key chain_at (subst (λ (ks : List (List ℕ)). slice_get ks c.args.key ≡ Some key) (sym keys) key_at) in
+    let chained : IsChained c.in-Some.chain.now (marked (by_cells f.chains.seed key) live) = h.chained.keyed c.args.key c.in-Some.chain.now key chain_at (subst (λ (ks : List (List ℕ)). slice_get ks c.args.key ≡ Some key) (sym keys) key_at) in
     let stored : get f.rows c.args.place ≡ Some row = row_is_stored _ _ _ _ _ c.args.place h c.requires.place ∙ at in
     let own : c.index-in-Some-2.result.now ≡ row = (let e : Some c.index-in-Some-2.result.now ≡ Some row = sym c.index-in-Some-2.ensures ∙ stored in cc) in
-    let found = found_beside f.rows c.in-Some.chain.now (by_cells key) (λ r. same_cells (cells_at key r) (cells_at key row)) live c.args.place row c.after.result c.seek.result at h.once h.stored h.count chained c.after.ensures
-    (λ r e. same_mark (cells_at key r) (cells_at key row) e)
+    let found = found_beside f.rows c.in-Some.chain.now (by_cells f.chains.seed key) (λ r. same_cells (cells_at key r) (cells_at key row)) live c.args.place row c.after.result c.seek.result at h.once h.stored h.count chained c.after.ensures
+    (λ r e. same_mark f.chains.seed (cells_at key r) (cells_at key row) e)
     (λ m b fs p a s l. c.seek.ensures m b fs p a s l
     ∙ ap (λ (k : List ℕ). first_place (filter (λ (e : ℕ × Row). same_cells (cells_at k e.1) (cells_at c.deref-in-Some-2.result.now c.index-in-Some-2.result.now)) fs)) c.deref-in-Some.ensures.value
     ∙ ap (λ (k : List ℕ). first_place (filter (λ (e : ℕ × Row). same_cells (cells_at key e.1) (cells_at k c.index-in-Some-2.result.now)) fs)) (c.deref-in-Some-2.ensures.value ∙ same_key)

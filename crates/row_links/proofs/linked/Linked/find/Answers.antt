@@ -15,11 +15,11 @@ returns-clause-found c =
     let live = c.args.self.now.live in
     let row = c.args.row.now in
     let h : IsLinked (key_lists f.keys.items) f.rows f.chains f.waiting.items c.args.self.now.live = subst (λ (es : Placed). IsLinked (key_lists f.keys.items) f.rows f.chains f.waiting.items es) (ap (λ (v : LinkedRows). v.live) c.self.view_is) c.self.invariant in
-    found_in by_row c.mark.result first_place f.rows f.chains.same.links.items (λ r. same_cells (whole r) (whole row)) None c.first-from.result c.seek.result live
+    found_in (by_row f.chains.seed) c.mark.result first_place f.rows f.chains.same.links.items (λ r. same_cells (whole r) (whole row)) None c.first-from.result c.seek.result live
     c.seek.ensures
-    (λ r e. same_mark (whole r) (whole row) e ∙ sym c.mark.ensures)
+    (λ r e. same_mark f.chains.seed (whole r) (whole row) e ∙ sym c.mark.ensures)
     (h.chained.same c.mark.result).path
-    (c.first-from.ensures (marked by_row live) h.chained.same)
+    (c.first-from.ensures (marked (by_row f.chains.seed) live) h.chained.same)
     h.stored (omega (arith, h.count))
     ∙ ap first_place (filter_same (λ (e : ℕ × Row). same_cells (whole e.1) (whole row)) (λ (e : ℕ × Row). row_eq e.1 row) live (λ e. whole_same e.1 row))
 

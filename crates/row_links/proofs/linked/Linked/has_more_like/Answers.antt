@@ -15,10 +15,10 @@ returns c =
     let row = c.args.row.now in
     let tell : Placed → Bool = λ es. nat_lt c.args.count (length es) in
     let h : IsLinked (key_lists f.keys.items) f.rows f.chains f.waiting.items live = subst (λ (es : Placed). IsLinked (key_lists f.keys.items) f.rows f.chains f.waiting.items es) (ap (λ (v : LinkedRows). v.live) c.self.view_is) c.self.invariant in
-    found_in by_row c.mark.result tell f.rows f.chains.same.links.items (λ r. same_cells (whole r) (whole row)) None c.first-from.result c.has_more.result live
+    found_in (by_row f.chains.seed) c.mark.result tell f.rows f.chains.same.links.items (λ r. same_cells (whole r) (whole row)) None c.first-from.result c.has_more.result live
     c.has_more.ensures
-    (λ r e. same_mark (whole r) (whole row) e ∙ sym c.mark.ensures)
+    (λ r e. same_mark f.chains.seed (whole r) (whole row) e ∙ sym c.mark.ensures)
     (h.chained.same c.mark.result).path
-    (c.first-from.ensures (marked by_row live) h.chained.same)
+    (c.first-from.ensures (marked (by_row f.chains.seed) live) h.chained.same)
     h.stored (omega (arith, h.count))
     ∙ ap tell (filter_same (λ (e : ℕ × Row). same_cells (whole e.1) (whole row)) (λ (e : ℕ × Row). row_eq e.1 row) live (λ e. whole_same e.1 row))

@@ -13,7 +13,7 @@ loop-position-init c =
     let count = rows.ok.0 ∙ rows_long rows.items r.rows c.in_ok-rows.ensures ∙ sym (cells_long r a) in
     record {
       within = omega (arith, c.len-position.ensures, rows.ok.0);
-      indexed = rw c.new-heads.ensures.empty (no_index (cells_of (r, a)) c.in_ok-next.next.items c.len-position.result (c.in_ok-next.ensures ∙ c.len.ensures ∙ count) (c.len-position.ensures ∙ count));
+      indexed = rw c.with_hasher-heads.ensures.empty (no_index (cells_of (r, a)) c.in_ok-next.next.items c.len-position.result (c.in_ok-next.ensures ∙ c.len.ensures ∙ count) (c.len-position.ensures ∙ count));
     }
 
 pub loop-position-preserved-in-Some : goal.loop-position-preserved-in-Some

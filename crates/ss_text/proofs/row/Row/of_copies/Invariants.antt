@@ -1,5 +1,5 @@
 use Rattle.std.proofs.Common.{◌≡◌, take}
-use Rattle.change_script.proofs.reading.copied.Given as goal
+use Rattle.ss_text.proofs.row.Row.of_copies.Given as goal
 
 abbrev pub invariant-loop-text : goal.invariant-loop-text
 invariant-loop-text l = l.copies.items ≡ take l.text-index l.texts
