@@ -86,7 +86,7 @@ impl JournalView {
                 Ok(false) => Ok(Taken::Full),
                 Err(stop) => Err(stop),
             },
-            Err(refused) => match refused_fields(alloc, change, &refused) {
+            Err(refused) => match refused_fields(alloc, change, refused) {
                 Ok(fields) => Ok(Taken::Refused(fields)),
                 Err(NoMemory) => Err(LineStop::Stopped(Stop::NoMemory)),
             },
@@ -131,7 +131,7 @@ impl JournalView {
                 Ok(false) => Ok(Taken::Full),
                 Err(stop) => Err(stop),
             },
-            Err(fault) => match fault_fields(alloc, &fault) {
+            Err(fault) => match fault_fields(alloc, fault) {
                 Ok(fields) => Ok(Taken::Refused(fields)),
                 Err(NoMemory) => Err(LineStop::Stopped(Stop::NoMemory)),
             },

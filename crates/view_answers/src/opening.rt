@@ -140,26 +140,29 @@ pub fn view_over<L: Ledger>(
     ensures views { IfOk result (λ r. Views r (query_of definition.view.value) catalogue.databases (refusal_of catalogue.databases (query_of definition.view.value))) }
     ensures steps { steps.new ≡ steps.old }
 {
-    let view_db = definition.view.view_db.copy()?;
-    match Session::open(alloc, catalogue, definition.view, steps) {
+    let Definition { text, view } = definition;
+    drop(text);
+    let view_db = view.view_db.copy()?;
+    match Session::open(alloc, catalogue, view, steps) {
         Ok(session) => {
             let view = OpenView::of(alloc, session, view_db)?;
             Ok(Viewing::View(view))
         }
         Err(fault) => {
-            let fields = fault_fields(alloc, &fault)?;
+            drop(view_db);
+            let fields = fault_fields(alloc, fault)?;
             Ok(Viewing::Refused(fields))
         }
     }
 }
 
 /// The fields of a view that has no tables.
-pub fn fault_fields(alloc: Global, fault: &EvalFault) -> Result<Row, NoMemory>
-    ensures { IfOk result (λ row. IsFaultFieldsOf fault.now row) }
+pub fn fault_fields(alloc: Global, fault: EvalFault) -> Result<Row, NoMemory>
+    ensures { IfOk result (λ row. IsFaultFieldsOf fault row) }
 {
     match fault {
-        EvalFault::Illegal(label) => illegal_fields(alloc, label),
-        EvalFault::Conflict(clash) => clash_fields(alloc, clash),
+        EvalFault::Illegal(label) => illegal_fields(alloc, &label),
+        EvalFault::Conflict(clash) => clash_fields(alloc, &clash),
         EvalFault::NoMemory => Err(NoMemory),
     }
 }

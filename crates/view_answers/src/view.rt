@@ -375,7 +375,7 @@ impl OpenView {
         match self.session.apply(alloc, change, steps) {
             Ok(script) => print_script(alloc, output, &script),
             Err(refused) => {
-                let fields = refused_fields(alloc, change, &refused)?;
+                let fields = refused_fields(alloc, change, refused)?;
                 self.refuse(alloc, output, &fields)
             }
         }
@@ -492,13 +492,13 @@ pub fn line_refusal(alloc: Global, row: &Row, fault: ChangeFault) -> Result<Row,
 }
 
 /// The fields of a refused change.
-pub fn refused_fields(alloc: Global, change: &Change, refused: &Refused) -> Result<Row, NoMemory>
-    ensures { IfOk result (λ row. IsFieldsOf change.now refused.now row) }
+pub fn refused_fields(alloc: Global, change: &Change, refused: Refused) -> Result<Row, NoMemory>
+    ensures { IfOk result (λ row. IsFieldsOf change.now refused row) }
 {
     match refused {
-        Refused::Change(refusal) => refusal_fields(alloc, change, *refusal),
-        Refused::Illegal(label) => illegal_fields(alloc, label),
-        Refused::Conflict(clash) => clash_fields(alloc, clash),
+        Refused::Change(refusal) => refusal_fields(alloc, change, refusal),
+        Refused::Illegal(label) => illegal_fields(alloc, &label),
+        Refused::Conflict(clash) => clash_fields(alloc, &clash),
         Refused::NoMemory => Err(NoMemory),
     }
 }

@@ -39,7 +39,7 @@ pub enum Range {
 
 /// A typed view. `spot` is the number of constant columns before the variable column; `spot`, `column`
 /// and `value` are all there or none.
-#[derive(Debug, Drop)]
+#[derive(Debug)]
 pub struct View {
     pub view_db: Text,
     pub label: Place,
@@ -50,4 +50,22 @@ pub struct View {
     pub value: Option<Term>,
     pub decls: Vec<Range>,
     pub filter: Option<Cond>,
+}
+
+impl Drop for View {
+    fn drop(self) {
+        let View {
+            view_db,
+            label,
+            constants,
+            keys,
+            spot: _,
+            column,
+            value,
+            decls,
+            filter,
+        } = self;
+        drop((view_db, label, constants, keys));
+        drop((column, value, decls, filter));
+    }
 }

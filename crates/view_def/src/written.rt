@@ -56,7 +56,7 @@ pub struct RawDecl {
 }
 
 /// A view definition as it is written.
-#[derive(Debug, Drop)]
+#[derive(Debug)]
 pub struct ViewText {
     pub view_db: Name,
     pub label: Name,
@@ -64,4 +64,19 @@ pub struct ViewText {
     pub select: Vec<RawTerm>,
     pub decls: Vec<RawDecl>,
     pub filter: Option<RawCond>,
+}
+
+impl Drop for ViewText {
+    fn drop(self) {
+        let ViewText {
+            view_db,
+            label,
+            columns,
+            select,
+            decls,
+            filter,
+        } = self;
+        drop((view_db, label, columns));
+        drop((select, decls, filter));
+    }
 }

@@ -168,7 +168,7 @@ impl OpenView {
                 print_script(alloc, output, &script)
             }
             Err(fault) => {
-                let fields = fault_fields(alloc, &fault)?;
+                let fields = fault_fields(alloc, fault)?;
                 self.refuse_group(alloc, output, &fields)
             }
         }
