@@ -1,7 +1,6 @@
 PROGRAM = build/schemasql
 UNPROVED = build/schemasql-unproved
-ENGINE = build/engine_bench
-JOURNAL = build/journal_bench
+PARTS = build/part_bench
 PREFIX = /usr/local
 SOURCES = $(wildcard crates.txt HANDLES crates/*/src/*.rt crates/*/src/*/*.rt crates/*/specs/*.antt crates/*/proofs/*.antt crates/*/proofs/*/*.antt)
 
@@ -11,11 +10,8 @@ all: $(PROGRAM)
 $(PROGRAM): $(SOURCES)
 	tools/prove schemasql_cli $@
 
-$(ENGINE): $(SOURCES)
-	tools/prove engine_bench $@
-
-$(JOURNAL): $(SOURCES)
-	tools/prove journal_bench $@
+$(PARTS): $(SOURCES)
+	tools/prove part_bench $@
 
 # Builds the program as it is written, with no proof.
 $(UNPROVED): $(SOURCES)
@@ -66,12 +62,12 @@ bench: $(PROGRAM)
 	bench/run $(PROGRAM)
 
 # How long parts of the engine take, each by itself.
-bench-engine: $(ENGINE)
-	bench/engine.py $(ENGINE)
+bench-engine: $(PARTS)
+	bench/engine.py $(PARTS)
 
 # How long a journal takes that is read to its end.
-bench-journal: $(JOURNAL)
-	bench/journal.py $(JOURNAL)
+bench-journal: $(PARTS)
+	bench/journal.py $(PARTS)
 
 install: $(PROGRAM)
 	install -D $(PROGRAM) $(DESTDIR)$(PREFIX)/bin/schemasql

@@ -13,7 +13,7 @@ import sys
 
 from measure import HERE, folder, least, report, run, wanted
 
-PROGRAM = HERE.parent / "build" / "engine_bench"
+PROGRAM = HERE.parent / "build" / "part_bench"
 FEW = 1_000
 MANY = 999_000
 

@@ -11,7 +11,7 @@ import sys
 
 from measure import HERE, folder, least, report, run, wanted
 
-PROGRAM = HERE.parent / "build" / "journal_bench"
+PROGRAM = HERE.parent / "build" / "part_bench"
 
 # So many times each run is made, in turn with the other.
 ROUNDS = 5

@@ -54,8 +54,8 @@ impl Chance {
         Chance { state: seed }
     }
 
-    // A number below this one, or 0.
-    fn below(&mut self, count: usize) -> usize
+    /// A number below this one, or 0.
+    pub fn below(&mut self, count: usize) -> usize
         ensures { 0 < count → result < count }
     {
         self.state = self

@@ -7,7 +7,7 @@ ghost use Rattle.view_def.specs.Profile.{IsViewOfProfile};
 ghost use Rattle.apply_law.specs.Standing.{Idle};
 ghost use Rattle.view_session.specs.Verdicts.{waiting_of};
 
-use crate::building::{boxed, change, make_all, opened};
+use crate::building::{boxed, changes_of, make_all, opened};
 use crate::worked::script_text;
 use apply_law::{Applies, GroupRefused};
 use schema_model::{Catalogue, Change};
@@ -102,18 +102,6 @@ const PROPOSALS: [Proposals; 2] = [
         ),
     },
 ];
-
-// The changes that lines say.
-fn changes_of(alloc: Global, lines: &[&str]) -> Result<Vec<Change>, Fail>
-    ensures { IfOk result (λ changes. AllByRecursion (λ g. IsTrue (is_well_formed g)) changes.items) }
-{
-    let mut changes = Vec::new(alloc);
-    for line in lines {
-        let change = change(alloc, line)?;
-        changes.push(change)?;
-    }
-    Ok(changes)
-}
 
 // What a refusal says, but for want of memory.
 fn refusal_text(alloc: Global, refused: GroupRefused) -> Result<Text, NoMemory> {

@@ -1,5 +1,6 @@
-//! Worked rows of the layers below the engine: the language, lines and scripts, changes that wait, the objects in memory,
-//! records as they are read and written, and catalogues that are loaded and saved.
+//! Worked rows of the layers beside the engine: the language, lines and scripts, changes that wait, the objects in memory,
+//! records as they are read and written, catalogues that are loaded and saved, feeds over a small thing that takes changes
+//! in two steps, and journals, with every image that a crash may leave of a small group.
 //!
 //! It has tests alone, so that none of these layers is proved again with them. What they want comes from outside, never from
 //! the program. A function that owns something large does its work over a borrow, and lets go once.
@@ -8,9 +9,14 @@
 #[cfg(test)]
 mod drafts;
 #[cfg(test)]
+mod feeds;
+#[cfg(test)]
+mod journals;
+#[cfg(test)]
 mod names;
 #[cfg(test)]
 mod objects;
+mod plain;
 #[cfg(test)]
 mod prints;
 #[cfg(test)]
@@ -25,3 +31,5 @@ mod tokens;
 mod trees;
 #[cfg(test)]
 mod types;
+
+pub use plain::Plain;

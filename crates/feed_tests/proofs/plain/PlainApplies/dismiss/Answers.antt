@@ -1,7 +1,0 @@
-use Rattle.std.proofs.Common.{◌∙◌, None, ap}
-use Rattle.feed_tests.specs.Plain.{PlainState}
-use Rattle.feed_tests.proofs.PlainLemmas.{dropped}
-use Rattle.feed_tests.proofs.plain.PlainApplies.dismiss.Goals as goal
-
-pub returns-clause-dropped : goal.returns-clause-dropped
-returns-clause-dropped c = λ p gs idle is. ap (λ (q : PlainState). record q { proposed = None }) (c.self.view_is ∙ is) ∙ dropped p gs idle

@@ -1,4 +1,0 @@
-use Rattle.stack_tests.proofs.worked.first_of.Given as goal
-
-abbrev pub ghosts-first_over : goal.ghosts-first_over
-ghosts-first_over a = record { name = a.blank.name; parts = a.blank.parts }
