@@ -19,8 +19,8 @@ use Rattle.change_script.specs.Reading.{script_line_of}
 use Rattle.view_folder.specs.declared.held.TablesFault.{TablesFault}
 use Rattle.view_folder.specs.Files.{view_folder}
 use Rattle.view_folder.specs.Held.{held}
-use Rattle.view_apply.specs.Applying.{ApplyState, by_applying, by_folder, by_reading, by_spelling, finish, just_read, opening, reply, step, with_line}
-use Rattle.view_apply.specs.Scripts.{both, said_as, said_by, script_said}
+use Rattle.plain_commands.specs.Applying.{ApplyState, by_applying, by_folder, by_reading, by_spelling, finish, just_read, opening, reply, step, with_line}
+use Rattle.plain_commands.specs.Scripts.{both, said_as, said_by, script_said}
 use Rattle.course.specs.Course.{by_lines}
 use Rattle.pipe_law.proofs.ApplyLemmas.{stays_refused}
 

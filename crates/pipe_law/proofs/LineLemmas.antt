@@ -14,7 +14,7 @@ use Rattle.change_script.specs.Printed.{printed}
 use Rattle.change_script.specs.Reading.{HasKeyText, script_line_of}
 use Rattle.change_script.proofs.ReadingLemmas.{line_read}
 use Rattle.ss_print.specs.Printing.{lines_text}
-use Rattle.view_apply.specs.Scripts.{said_by, said_as, both, script_said}
+use Rattle.plain_commands.specs.Scripts.{said_by, said_as, both, script_said}
 
 -- the line of a row has no LF
 one_clear : (b : ℕ) (rest : List ℕ) → has 10 (escaped b ++ rest) ≡ has 10 rest

@@ -30,8 +30,8 @@ use Rattle.view_folder.specs.TableFiles.{table_files, table_text}
 use Rattle.view_folder.proofs.LaterLemmas.{file_name_csv, same_file, bytes_of_label}
 use Rattle.view_session.specs.Session.{tables_of}
 use Rattle.view_session.proofs.UpkeepLemmas.{meaning_in_order}
-use Rattle.view_apply.specs.Applying as applying
-use Rattle.view_apply.specs.Scripts.{script_said}
+use Rattle.plain_commands.specs.Applying as applying
+use Rattle.plain_commands.specs.Scripts.{script_said}
 use Rattle.view_answers.specs.Answers.{Answer, answer, answers_to, finish}
 use Rattle.plain_commands.specs.Applies.{IsApplied, apply_opening, named_by}
 use Rattle.ss_top.specs.Commands.{Apply}

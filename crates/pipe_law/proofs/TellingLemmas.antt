@@ -22,7 +22,7 @@ use Rattle.view_folder.specs.TableFiles.{table_text}
 use Rattle.source_law.proofs.AfterLemmas.{Silent}
 use Rattle.source_law.specs.Synced.{saving}
 use Rattle.ss_print.specs.Printing.{says, lines_text, script_rows, prints_script, prints_synced}
-use Rattle.view_apply.specs.Scripts.{script_said}
+use Rattle.plain_commands.specs.Scripts.{script_said}
 use Rattle.view_answers.specs.Answers.{Answer, Said, Tells, Scripts, Syncs, answer, syncing, end_effects, end_view, finish}
 use Rattle.view_stages.specs.Syncs.{sync_effects}
 use Rattle.view_stages.specs.Open.{OpenValue}

@@ -20,7 +20,7 @@ use Rattle.view_folder.specs.Files.{view_folder}
 use Rattle.view_folder.specs.Held.{held}
 use Rattle.view_folder.specs.Sync.{Holds}
 use Rattle.view_folder.specs.TableFiles.{table_records, table_files}
-use Rattle.view_apply.specs.Scripts.{script_said}
+use Rattle.plain_commands.specs.Scripts.{script_said}
 use Rattle.course.specs.declared.exit.Status.{Status}
 use Rattle.plain_commands.specs.Applies.{IsApplied}
 use Rattle.ss_top.specs.Commands.{Apply}

@@ -16,10 +16,10 @@ use Rattle.flow_law.specs.Tables.{TablesValue, labels_of}
 use Rattle.valuation_meaning.specs.Meaning.{shape_of}
 use Rattle.view_folder.specs.declared.held.TablesFault.{TablesFault}
 use Rattle.view_folder.specs.Held.{held}
-use Rattle.view_apply.specs.Applying.{ApplyState, just_read, by_folder, step, finish}
-use Rattle.view_apply.specs.Left.{IsLeft}
-use Rattle.view_apply.proofs.CourseLemmas.{AllTook, done_took}
-use Rattle.view_apply.proofs.LeftLemmas.{is_left}
+use Rattle.plain_commands.specs.Applying.{ApplyState, just_read, by_folder, step, finish}
+use Rattle.plain_commands.specs.Left.{IsLeft}
+use Rattle.plain_commands.proofs.CourseLemmas.{AllTook, done_took}
+use Rattle.plain_commands.proofs.LeftLemmas.{is_left}
 use Rattle.course.specs.declared.exit.Status.{Status}
 use Rattle.course.specs.declared.exit.Status.TheVariants as status
 use Rattle.course.specs.Course.{Finished, Did, by_lines, verdict_status, is_done_status}

@@ -14,10 +14,10 @@ use Rattle.course.specs.declared.status.Halt.{Halt}
 use Rattle.course.specs.declared.status.Halt.TheVariants as halt
 use Rattle.course.specs.Answering.{Reply, Continues, Finishes, ending, follow, course, Ran, AnsweredSome, EndedOver, IsReadOut, is_too_long}
 use Rattle.course.specs.Answering as lines
-use Rattle.view_apply.specs.declared.opening.OpenedFolder.TheVariants as read
-use Rattle.view_apply.specs.Applying.{ApplyState, step, finish}
-use Rattle.view_apply.specs.Opening.{Opens}
-use Rattle.view_apply.proofs.CourseLemmas.{halts_so}
+use Rattle.plain_commands.specs.declared.opening.OpenedFolder.TheVariants as read
+use Rattle.plain_commands.specs.Applying.{ApplyState, step, finish}
+use Rattle.plain_commands.specs.Opening.{Opens}
+use Rattle.plain_commands.proofs.CourseLemmas.{halts_so}
 use Rattle.course.specs.Statuses.{can_apply}
 use Rattle.course.specs.Idle.{IdleStop}
 use Rattle.course.specs.Course.{RanBy, RanSome, Took, TookEnough, by_lines, verdict_status, status_of, is_done, IsReadWhole, IsWholeInput}

@@ -1,7 +1,13 @@
 pub mod AppliedLemmas
 pub mod ApplyLemmas
 pub mod CheckedLemmas
+pub mod CourseLemmas
+pub mod KeyLemmas
+pub mod LabelLemmas
+pub mod LeftLemmas
 pub mod LoadedLemmas
+pub mod OpeningLemmas
+pub mod OutcomeLemmas
 pub mod RefusedLemmas
 pub mod ShownLemmas
 pub mod StopLemmas

@@ -13,9 +13,9 @@ use Rattle.flow_law.specs.Tables.{TablesValue}
 use Rattle.valuation_meaning.specs.Meaning.{shape_of}
 use Rattle.view_folder.specs.declared.held.TablesFault.{TablesFault}
 use Rattle.view_folder.specs.Held.{held}
-use Rattle.view_apply.specs.Applying as applying
-use Rattle.view_apply.specs.Applying.{ApplyState, by_folder, just_read}
-use Rattle.view_apply.proofs.CourseLemmas.{halts_so}
+use Rattle.plain_commands.specs.Applying as applying
+use Rattle.plain_commands.specs.Applying.{ApplyState, by_folder, just_read}
+use Rattle.plain_commands.proofs.CourseLemmas.{halts_so}
 use Rattle.view_folder.proofs.ComparisonLemmas.{holds_same}
 use Rattle.course.specs.declared.status.Verdict.TheVariants as verdict
 use Rattle.course.specs.Answering.{Reply, Continues, Finishes, ending, follow}

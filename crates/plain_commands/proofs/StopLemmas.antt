@@ -15,9 +15,9 @@ use Rattle.view_folder.specs.declared.comparison.Comparison.TheVariants as compa
 use Rattle.view_folder.specs.declared.held.TablesFault.{TablesFault}
 use Rattle.course.specs.Answering.{Reply, Continues, Finishes, ending, follow}
 use Rattle.ss_print.specs.Printing.{lines_text, applied_rows}
-use Rattle.view_apply.specs.Applying as applying
-use Rattle.view_apply.specs.Applying.{ApplyState, by_folder, just_read, synced_count}
-use Rattle.view_apply.proofs.CourseLemmas.{went_on, halts_so}
+use Rattle.plain_commands.specs.Applying as applying
+use Rattle.plain_commands.specs.Applying.{ApplyState, by_folder, just_read, synced_count}
+use Rattle.plain_commands.proofs.CourseLemmas.{went_on, halts_so}
 use Rattle.course.specs.Course.{Did, GaveOut, by_lines, goes_so_far, is_unread_status}
 use Rattle.course.specs.declared.exit.Status.{Status}
 use Rattle.course.specs.declared.exit.Status.TheVariants as status

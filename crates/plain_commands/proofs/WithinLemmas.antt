@@ -14,9 +14,9 @@ use Rattle.view_folder.specs.declared.comparison.Comparison.TheVariants as compa
 use Rattle.course.specs.Answering.{Reply, Continues, Finishes, ending, follow}
 use Rattle.view_folder.specs.declared.held.TablesFault.{TablesFault}
 use Rattle.view_folder.specs.Held.{held}
-use Rattle.view_apply.specs.Applying as applying
-use Rattle.view_apply.specs.Applying.{ApplyState, by_folder, just_read}
-use Rattle.view_apply.proofs.CourseLemmas.{went_on, halts_so}
+use Rattle.plain_commands.specs.Applying as applying
+use Rattle.plain_commands.specs.Applying.{ApplyState, by_folder, just_read}
+use Rattle.plain_commands.proofs.CourseLemmas.{went_on, halts_so}
 use Rattle.course.specs.Course.{by_lines, goes_so_far}
 use Rattle.view_stages.specs.Places.{CsvFiles}
 use Rattle.view_stages.specs.Stages.{Accepted, refusal_of, files_of_view}

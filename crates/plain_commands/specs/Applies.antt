@@ -15,8 +15,8 @@ use Rattle.valuation_meaning.specs.Meaning.{shape_of}
 use Rattle.view_folder.specs.Held.{held}
 use Rattle.view_folder.specs.Sync.{HoldsNamed}
 use Rattle.ss_print.specs.Printing.{refuses, lines_text, applied_rows}
-use Rattle.view_apply.specs.Applying.{ApplyState, opening}
-use Rattle.view_apply.specs.Scripts.{script_said}
+use Rattle.plain_commands.specs.Applying.{ApplyState, opening}
+use Rattle.plain_commands.specs.Scripts.{script_said}
 use Rattle.view_stages.specs.Stages.{DefinitionOrRefusal, Accepted}
 use Rattle.view_stages.specs.Opened.{folder_of}
 

@@ -1,7 +1,12 @@
 pub mod Applies
+pub mod Applying
 pub mod Checking
+pub mod Left
 pub mod Loads
 pub mod Meant
+pub mod Opening
 pub mod Promises
+pub mod Refused
+pub mod Scripts
 pub mod Steps
 pub mod Verifying

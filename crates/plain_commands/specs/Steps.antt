@@ -7,7 +7,7 @@ use Rattle.outside.specs.Effects.{World, contents, performed, Partly}
 use Rattle.outside.specs.declared.stop.Stop.{Stop}
 use Rattle.course.specs.declared.status.Verdict.TheVariants as verdict
 use Rattle.course.specs.Answering.{Reply, Continues, Finishes, effects_of}
-use Rattle.view_apply.specs.Applying.{ApplyState}
+use Rattle.plain_commands.specs.Applying.{ApplyState}
 use Rattle.course.specs.Course.{verdict_status, is_refused_status}
 use Rattle.plain_commands.specs.declared.tables.Showing.{Showing}
 use Rattle.plain_commands.specs.declared.tables.Showing.TheVariants as showing

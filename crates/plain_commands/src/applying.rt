@@ -6,7 +6,7 @@ ghost use Rattle.outside.specs.Tree.{Tree};
 ghost use Rattle.course.specs.Answering.{BlamesRun, is_too_long};
 ghost use Rattle.view_def.specs.Query.{query_of};
 ghost use Rattle.valuation_meaning.specs.Meaning.{shape_of};
-ghost use Rattle.view_apply.specs.Applying.{step, finish, opening};
+ghost use Rattle.plain_commands.specs.Applying.{step, finish, opening};
 ghost use Rattle.view_stages.specs.Stages.{DefinitionOrRefusal};
 ghost use Rattle.view_stages.specs.Opening.{IsDefinition, definition_bytes};
 ghost use Rattle.plain_commands.specs.Applies.{apply_opening};
@@ -15,6 +15,8 @@ ghost use Rattle.plain_commands.specs.Steps.{FolderOpens, IsFolderRefusal};
 ghost use Rattle.course.specs.Idle.{IdleUnread, IdleRun};
 ghost use Rattle.course.specs.Course.{RanBy, RanSome, Took, TookEnough, by_lines, status_of, IsWholeInput};
 
+use crate::lines::Applying;
+use crate::opening::{OpenedFolder, open_folder};
 use course::{Halt, NoDisk, Verdict, answer_lines};
 use outside::{Folders, Sink, Source, Stop};
 use ss_print::refuse;
@@ -22,7 +24,6 @@ use ss_text::{Steps, Text};
 use std::alloc::Global;
 use std::sync::ledger::Ledger;
 use valuation_meaning::shape_of;
-use view_apply::{Applying, OpenedFolder, open_folder};
 use view_stages::{Definition, Understood, read_definition};
 
 /// The tables of a view's folder, or the end of the run.

@@ -9,7 +9,7 @@ use Rattle.flow_law.specs.Facts.{Fact, illegal_column, conflict}
 use Rattle.flow_law.specs.FactRows.{fact_in, fact_width, row_width, cell_behind, IsFactOf}
 use Rattle.flow_law.specs.Labelled.{AllBear}
 use Rattle.operator_law.specs.declared.delta.Signed.{Signed}
-use Rattle.fact_counts.specs.Stopped.{StopsFor}
+use Rattle.unfold_op.specs.Stopped.{StopsFor}
 use Rattle.unfold_op.specs.FactMoves.{facts_in, facts_moved}
 use Rattle.unfold_op.specs.OneTables.{CanKeep}
 use Rattle.split_op.specs.Tables.{Fits}

@@ -9,7 +9,7 @@ use Rattle.flow_law.specs.declared.refused.Clash.{Clash}
 use Rattle.flow_law.specs.declared.refused.IllegalLabel.{IllegalLabel}
 use Rattle.flow_law.specs.declared.refused.EvalFault.{EvalFault}
 use Rattle.flow_law.specs.declared.refused.EvalFault.TheVariants as eval
-use Rattle.fact_counts.specs.Stopped.{StopsFor}
+use Rattle.unfold_op.specs.Stopped.{StopsFor}
 use Rattle.flow_law.specs.Facts.{Fact, facts_of, illegal_column, conflict}
 use Rattle.flow_law.specs.Script.{lines_for}
 use Rattle.unfold_op.specs.FactMoves.{facts_in}

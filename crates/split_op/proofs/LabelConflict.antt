@@ -15,12 +15,12 @@ use Rattle.ss_text.proofs.KeyLemmas.{text_order, equal_is, equal_itself}
 use Rattle.ss_text.proofs.PairLemmas.{any_ascending, ascending_ascends, each_found}
 use Rattle.flow_law.specs.declared.refused.Clash.{Clash}
 use Rattle.flow_law.specs.Facts.{Fact, Spot, spot_cmp, spots_of, values_at, facts_of, clash_of, conflict, column_of}
-use Rattle.fact_counts.specs.Touched.{SameBeyond}
-use Rattle.fact_counts.proofs.Picked.{given_same}
+use Rattle.unfold_op.specs.Touched.{SameBeyond}
+use Rattle.unfold_op.proofs.Picked.{given_same}
 use Rattle.flow_law.proofs.Entries.{spot_eq, spot_order}
-use Rattle.fact_counts.proofs.NetConflict.{at_spot, ascend_alike, spot_named, spots_named, spots_ascend, clash_named}
-use Rattle.fact_counts.proofs.TouchedLines.{passes, any_value}
-use Rattle.fact_counts.proofs.OneValue.{no_clash}
+use Rattle.unfold_op.proofs.NetConflict.{at_spot, ascend_alike, spot_named, spots_named, spots_ascend, clash_named}
+use Rattle.unfold_op.proofs.TouchedLines.{passes, any_value}
+use Rattle.unfold_op.proofs.OneValue.{no_clash}
 use Rattle.split_op.specs.LabelLines.{labels_named, clash_at, first_conflict}
 use Rattle.split_op.proofs.LabelScript.{any_own, any_label, none_own}
 

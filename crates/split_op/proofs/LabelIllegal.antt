@@ -17,8 +17,8 @@ use Rattle.ss_text.proofs.PairLemmas.{any_ascending, any_filtered, ascending_asc
 use Rattle.ss_text.proofs.SetLemmas.{least_first}
 use Rattle.flow_law.specs.declared.refused.IllegalLabel.{IllegalLabel}
 use Rattle.flow_law.specs.Facts.{Fact, Pair, pair_cmp, pairs_of, column_of, facts_of, illegal_table, illegal_column}
-use Rattle.fact_counts.specs.Touched.{SameBeyond, bears_column}
-use Rattle.fact_counts.proofs.NetIllegal.{pair_eq, pair_order, first_found}
+use Rattle.unfold_op.specs.Touched.{SameBeyond, bears_column}
+use Rattle.unfold_op.proofs.NetIllegal.{pair_eq, pair_order, first_found}
 use Rattle.split_op.specs.LabelLines.{labels_named, first_illegal_column, first_illegal_table}
 use Rattle.split_op.proofs.LabelScript.{any_label, none_own}
 

@@ -17,9 +17,9 @@ use Rattle.flow_law.specs.Facts.{Fact, facts_of}
 use Rattle.flow_law.specs.Tables.{TableValue, table_of, labels_of}
 use Rattle.flow_law.specs.FactTables.{fact_table, tables}
 use Rattle.flow_law.specs.Script.{lines_between, lines_for, script}
-use Rattle.fact_counts.specs.Touched.{SameBeyond}
-use Rattle.fact_counts.proofs.Picked.{filters_same}
-use Rattle.fact_counts.proofs.TouchedLines.{changed_is_touched}
+use Rattle.unfold_op.specs.Touched.{SameBeyond}
+use Rattle.unfold_op.proofs.Picked.{filters_same}
+use Rattle.unfold_op.proofs.TouchedLines.{changed_is_touched}
 use Rattle.split_op.specs.LabelLines.{has_label, table_for, label_lines, labels_named}
 
 -- the tables and their labels

@@ -7,7 +7,7 @@ use Rattle.flow_law.specs.FactTables.{tables}
 use Rattle.flow_law.specs.Lines.{after_lines, fit_lines}
 use Rattle.flow_law.proofs.ScriptLaw.{script_makes, script_fits}
 use Rattle.flow_law.proofs.FactTableLemmas.{tables_in_order}
-use Rattle.fact_counts.specs.Touched.{SameBeyond}
+use Rattle.unfold_op.specs.Touched.{SameBeyond}
 use Rattle.split_op.specs.LabelLines.{label_lines, labels_named}
 use Rattle.split_op.proofs.LabelScript.{script_touched}
 

@@ -19,8 +19,8 @@ use Rattle.flow_law.specs.Faults.{IsFaultOf}
 use Rattle.operator_law.specs.declared.delta.Signed.{Signed}
 use Rattle.operator_law.specs.Bags.{MovesBag, weigh}
 use Rattle.operator_law.proofs.SignedRows.{moves_filtered}
-use Rattle.fact_counts.specs.Stopped.{StopsFor}
-use Rattle.fact_counts.specs.Touched.{SameBeyond}
+use Rattle.unfold_op.specs.Stopped.{StopsFor}
+use Rattle.unfold_op.specs.Touched.{SameBeyond}
 use Rattle.unfold_op.specs.FactMoves.{facts_in, facts_moved}
 use Rattle.unfold_op.specs.OneTables.{OneTableValue, CanKeep}
 use Rattle.split_op.specs.LabelLines.{label_lines, labels_named, first_conflict, first_illegal_column, first_illegal_table}

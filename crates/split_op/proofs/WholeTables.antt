@@ -17,8 +17,8 @@ use Rattle.flow_law.proofs.FactTableLemmas.{constant_tables, tables_in_order}
 use Rattle.flow_law.proofs.ScriptLaw.{script_makes, script_fits}
 use Rattle.operator_law.specs.declared.delta.Signed.{Signed}
 use Rattle.operator_law.specs.Bags.{MovesBag}
-use Rattle.fact_counts.specs.Stopped.{StopsFor}
-use Rattle.fact_counts.proofs.TouchedLines.{changed_is_touched}
+use Rattle.unfold_op.specs.Stopped.{StopsFor}
+use Rattle.unfold_op.proofs.TouchedLines.{changed_is_touched}
 use Rattle.unfold_op.specs.FactMoves.{facts_in, fact_moves, facts_moved}
 use Rattle.unfold_op.specs.OneTables.{OneTableValue, GivesLines, framed, label_for}
 use Rattle.unfold_op.proofs.BagMoves.{facts_move, facts_length}
@@ -26,8 +26,8 @@ use Rattle.unfold_op.proofs.LabelsBorne.{bear_after}
 use Rattle.unfold_op.proofs.TableLaw.{script_alone}
 use Rattle.split_op.specs.Tables.{Fits, ScriptLines}
 use Rattle.split_op.specs.Wholes.{labelled, KeepsWhole, CanPrepareWhole}
-use Rattle.fact_counts.specs.Touched.{SameBeyond}
-use Rattle.fact_counts.proofs.CountLemmas.{beyond_moves}
+use Rattle.unfold_op.specs.Touched.{SameBeyond}
+use Rattle.unfold_op.proofs.CountLemmas.{beyond_moves}
 
 pub beyond : (form : Shape) (old new : List Row) (ms : List Signed) → MovesBag old ms new → SameBeyond (facts_moved form ms) (facts_in form old) (facts_in form new)
 beyond form old new ms h = beyond_moves (facts_in form old) (fact_moves form ms) (facts_in form new) (facts_move form old new ms h)

@@ -6,7 +6,7 @@ ghost use Rattle.flow_law.specs.Facts.{Fact, conflict, illegal_table, illegal_co
 ghost use Rattle.flow_law.specs.FactTables.{tables};
 ghost use Rattle.flow_law.specs.Script.{script};
 ghost use Rattle.flow_law.specs.Lines.{after_lines, fit_lines};
-ghost use Rattle.fact_counts.specs.Touched.{SameBeyond};
+ghost use Rattle.unfold_op.specs.Touched.{SameBeyond};
 ghost use Rattle.split_op.specs.LabelLines.{label_lines, labels_named, first_conflict, first_illegal_table, first_illegal_column};
 
 /// The script of the tables of facts comes of the named labels alone.

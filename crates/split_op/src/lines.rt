@@ -6,7 +6,7 @@ ghost use Rattle.ss_text.specs.Texts.{Text as TextValue, Row as RowValue, text_e
 ghost use Rattle.ss_text.specs.Label.{is_table_label};
 ghost use Rattle.indexmap.specs.IndexMap.{get};
 ghost use Rattle.flow_law.specs.declared.shape.Shape.{Shape};
-ghost use Rattle.fact_counts.specs.Stopped.{StopsFor};
+ghost use Rattle.unfold_op.specs.Stopped.{StopsFor};
 ghost use Rattle.operator_law.specs.Bags.{weigh};
 ghost use Rattle.unfold_op.specs.FactMoves.{facts_in};
 ghost use Rattle.split_op.specs.LabelLines.{first_conflict, first_illegal_column, first_illegal_table};

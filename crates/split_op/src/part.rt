@@ -5,7 +5,7 @@ ghost use Rattle.ss_text.specs.Texts.{Row as RowValue};
 ghost use Rattle.flow_law.specs.declared.shape.Shape.{Shape};
 ghost use Rattle.flow_law.specs.declared.line.TableLine.TheVariants as line;
 ghost use Rattle.flow_law.specs.Facts.{illegal_column, conflict};
-ghost use Rattle.fact_counts.specs.Stopped.{StopsFor};
+ghost use Rattle.unfold_op.specs.Stopped.{StopsFor};
 ghost use Rattle.unfold_op.specs.FactMoves.{facts_in};
 ghost use Rattle.split_op.specs.Tables.{Fits};
 ghost use Rattle.split_op.specs.Parts.{SameColumns, KeepsRows, FitsPart};

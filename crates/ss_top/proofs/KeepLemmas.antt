@@ -19,7 +19,7 @@ use Rattle.view_stages.specs.Opening.{opening, done_at_once}
 use Rattle.view_stages.specs.Places.{Exempt}
 use Rattle.view_stages.specs.Opened.{Keeps, folder_of, view_exempt}
 use Rattle.view_stages.proofs.PlaceLemmas.{AllWithin}
-use Rattle.view_apply.specs.Applying as applying
+use Rattle.plain_commands.specs.Applying as applying
 use Rattle.plain_commands.specs.Checking.{checked}
 use Rattle.plain_commands.specs.Verifying.{verified}
 use Rattle.plain_commands.specs.Applies.{apply_opening}

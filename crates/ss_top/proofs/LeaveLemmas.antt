@@ -8,7 +8,7 @@ use Rattle.view_folder.specs.Held.{held}
 use Rattle.course.specs.declared.status.Verdict.{Verdict}
 use Rattle.course.specs.declared.status.Halt.{Halt}
 use Rattle.course.specs.Answering.{ending}
-use Rattle.view_apply.specs.Applying as applying
+use Rattle.plain_commands.specs.Applying as applying
 use Rattle.course.specs.Course.{RanBy, RanSome, by_lines}
 use Rattle.course.proofs.FrontLemmas.{lines_front}
 use Rattle.view_stages.specs.Stages.{DefinitionOrRefusal, loaded_or_refused}

@@ -4,7 +4,7 @@ use Rattle.std.specs.Prelude.{Result}
 use Rattle.std.proofs.lemmas.Bool.{false≢true}
 use Rattle.outside.specs.Tree.{Tree}
 use Rattle.outside.specs.Effects.{World}
-use Rattle.view_apply.specs.Applying as applying
+use Rattle.plain_commands.specs.Applying as applying
 use Rattle.course.specs.declared.status.Verdict.{Verdict}
 use Rattle.course.specs.Answering.{ending}
 use Rattle.course.specs.declared.status.Halt.{Halt}

@@ -6,7 +6,7 @@ use Rattle.outside.specs.Tree.{Tree}
 use Rattle.outside.specs.Effects.{World}
 use Rattle.course.specs.declared.status.Verdict.TheVariants as verdict
 use Rattle.course.specs.Answering.{ending}
-use Rattle.view_apply.specs.Applying as applying
+use Rattle.plain_commands.specs.Applying as applying
 use Rattle.course.specs.Course.{Course, unread, by_lines}
 use Rattle.view_stages.specs.Stages.{DefinitionOrRefusal}
 use Rattle.view_stages.specs.Opening.{IsDefinition, definition_bytes, opening, done_at_once}

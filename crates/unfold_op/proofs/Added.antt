@@ -7,9 +7,9 @@ use Rattle.flow_law.specs.Facts.{Fact, conflict}
 use Rattle.flow_law.specs.FactRows.{fact_row, fact_in}
 use Rattle.flow_law.specs.Labelled.{AllBear}
 use Rattle.flow_law.proofs.FactRowLemmas.{fact_read_back}
-use Rattle.fact_counts.specs.declared.facts.FactCounts.{FactCounts}
-use Rattle.fact_counts.specs.Moves.{CanCount, Stands}
-use Rattle.fact_counts.proofs.OneValue.{clean_behind}
+use Rattle.unfold_op.specs.declared.facts.FactCounts.{FactCounts}
+use Rattle.unfold_op.specs.Moves.{CanCount, Stands}
+use Rattle.unfold_op.proofs.OneValue.{clean_behind}
 use Rattle.operator_law.specs.declared.delta.Signed.{Signed}
 use Rattle.unfold_op.specs.FactMoves.{facts_in}
 use Rattle.unfold_op.specs.OneTables.{OneTableValue, KeepsFacts, CanAdd, CanKeep}

@@ -6,10 +6,10 @@ use Rattle.flow_law.specs.declared.shape.Shape.{Shape}
 use Rattle.flow_law.specs.declared.line.TableLine.{TableLine}
 use Rattle.flow_law.specs.Facts.{Fact, conflict}
 use Rattle.counts.specs.declared.moves.Move.{Move}
-use Rattle.fact_counts.specs.declared.facts.FactCounts.{FactCounts}
-use Rattle.fact_counts.specs.declared.facts.Nets.{Nets}
-use Rattle.fact_counts.specs.Moves.{AreNets, IsChange, Stands}
-use Rattle.fact_counts.specs.Stored.{IsReady, HasRoom}
+use Rattle.unfold_op.specs.declared.facts.FactCounts.{FactCounts}
+use Rattle.unfold_op.specs.declared.facts.Nets.{Nets}
+use Rattle.unfold_op.specs.Moves.{AreNets, IsChange, Stands}
+use Rattle.unfold_op.specs.Stored.{IsReady, HasRoom}
 use Rattle.flow_law.specs.FactTables.{fact_table}
 use Rattle.flow_law.specs.Script.{lines_between}
 use Rattle.operator_law.specs.declared.delta.Signed.{Signed}

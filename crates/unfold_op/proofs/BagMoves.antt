@@ -8,7 +8,7 @@ use Rattle.flow_law.specs.Facts.{Fact}
 use Rattle.flow_law.specs.FactRows.{fact_in}
 use Rattle.operator_law.specs.declared.delta.Signed.{Signed}
 use Rattle.operator_law.specs.Bags.{weigh, come, go, MovesBag}
-use Rattle.fact_counts.specs.Moves.{come_by, go_by, MovesFacts}
+use Rattle.unfold_op.specs.Moves.{come_by, go_by, MovesFacts}
 use Rattle.unfold_op.specs.FactMoves.{facts_in, fact_move, fact_moves}
 use Rattle.unfold_op.specs.TableFields.{ups, downs}
 

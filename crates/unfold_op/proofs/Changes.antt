@@ -5,8 +5,8 @@ use Rattle.flow_law.specs.declared.shape.Shape.{Shape}
 use Rattle.flow_law.specs.Labelled.{AllBear}
 use Rattle.operator_law.specs.declared.delta.Signed.{Signed}
 use Rattle.operator_law.specs.Bags.{MovesBag}
-use Rattle.fact_counts.specs.declared.facts.Nets.{Nets}
-use Rattle.fact_counts.specs.Moves.{AreNets, IsChange}
+use Rattle.unfold_op.specs.declared.facts.Nets.{Nets}
+use Rattle.unfold_op.specs.Moves.{AreNets, IsChange}
 use Rattle.unfold_op.specs.FactMoves.{facts_in, facts_moved, fact_moves}
 use Rattle.unfold_op.specs.OneTables.{OneTableValue, KeepsFacts, BearsOne, CanPrepare, label_for}
 use Rattle.unfold_op.specs.TableFields.{ups, downs}

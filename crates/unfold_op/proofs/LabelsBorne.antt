@@ -7,8 +7,8 @@ use Rattle.ss_text.proofs.KeyLemmas.{text_order, equal_itself, equal_is}
 use Rattle.flow_law.specs.Facts.{Fact}
 use Rattle.flow_law.specs.Labelled.{AllBear}
 use Rattle.counts.specs.declared.moves.Move.{Move}
-use Rattle.fact_counts.specs.Moves.{MovesFacts}
-use Rattle.fact_counts.proofs.CountLemmas.{beyond_moves}
+use Rattle.unfold_op.specs.Moves.{MovesFacts}
+use Rattle.unfold_op.proofs.CountLemmas.{beyond_moves}
 
 module _ (label : Text) where
   abbrev bears_other : Fact → Bool

@@ -11,7 +11,7 @@ use Rattle.ss_text.specs.Ascending.{least, lesser, by_order}
 use Rattle.ss_text.proofs.KeyLemmas.{text_order, equal_is}
 use Rattle.flow_law.specs.declared.refused.IllegalLabel.{IllegalLabel}
 use Rattle.flow_law.specs.Facts.{Fact, Pair, pair_cmp, pairs_of, illegal_table, illegal_column}
-use Rattle.fact_counts.specs.Touched.{has_column}
+use Rattle.unfold_op.specs.Touched.{has_column}
 
 no_lesser : {A : Type 0} (R : A → A → Ordering) (x : A) (o : Option A) → lesser R x o ≡ None → ⊥
 no_lesser R x None e = cc

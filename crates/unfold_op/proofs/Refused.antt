@@ -9,7 +9,7 @@ use Rattle.flow_law.specs.declared.refused.IllegalLabel.{IllegalLabel}
 use Rattle.flow_law.specs.declared.refused.EvalFault.{EvalFault}
 use Rattle.flow_law.specs.declared.refused.EvalFault.TheVariants as eval
 use Rattle.flow_law.specs.Facts.{Fact, Pair, Spot, column_of, illegal_column, conflict}
-use Rattle.fact_counts.specs.Stopped.{StopsFor}
+use Rattle.unfold_op.specs.Stopped.{StopsFor}
 use Rattle.unfold_op.specs.FactMoves.{facts_in}
 use Rattle.unfold_op.specs.OneTables.{OneTableValue, CanPrepare, MayStop}
 use Rattle.operator_law.specs.declared.delta.Signed.{Signed}

@@ -3,7 +3,7 @@ use Rattle.std.proofs.Common.{◌≡◌, ◌∷◌, [], List, refl, ap, map}
 use Rattle.std.specs.List.{filter_map, cons_option}
 use Rattle.flow_law.specs.declared.shape.Shape.{Shape}
 use Rattle.operator_law.specs.declared.delta.Signed.{Signed}
-use Rattle.fact_counts.specs.Moves.{key_moves, column_moves, entry_moves}
+use Rattle.unfold_op.specs.Moves.{key_moves, column_moves, entry_moves}
 use Rattle.unfold_op.specs.FactMoves.{fact_moves, key_move, column_move, entry_move}
 
 module _ (shape : Shape) where

@@ -5,7 +5,7 @@ use Rattle.flow_law.specs.declared.shape.Shape.{Shape}
 use Rattle.flow_law.specs.Facts.{Fact, column_of}
 use Rattle.flow_law.specs.FactRows.{fact_in}
 use Rattle.counts.specs.declared.moves.Move.{Move}
-use Rattle.fact_counts.specs.Touched.{Entry, entry_of}
+use Rattle.unfold_op.specs.Touched.{Entry, entry_of}
 use Rattle.operator_law.specs.declared.delta.Signed.{Signed}
 
 module _ (shape : Shape) where

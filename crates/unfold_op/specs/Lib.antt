@@ -1,3 +1,9 @@
 pub mod FactMoves
+pub mod Kept
+pub mod Moves
+pub mod Nets
 pub mod OneTables
+pub mod Stopped
+pub mod Stored
 pub mod TableFields
+pub mod Touched

@@ -13,9 +13,9 @@ use Rattle.flow_law.specs.Labelled.{AllBear}
 use Rattle.flow_law.specs.Lines.{fit_lines, after_lines}
 use Rattle.flow_law.specs.Script.{lines_between}
 use Rattle.flow_law.specs.Tables.{TablesValue}
-use Rattle.fact_counts.specs.declared.facts.FactCounts.{FactCounts}
-use Rattle.fact_counts.specs.Moves.{Stands}
-use Rattle.fact_counts.specs.Stopped.{StopsFor}
+use Rattle.unfold_op.specs.declared.facts.FactCounts.{FactCounts}
+use Rattle.unfold_op.specs.Moves.{Stands}
+use Rattle.unfold_op.specs.Stopped.{StopsFor}
 use Rattle.operator_law.specs.declared.delta.Signed.{Signed}
 use Rattle.operator_law.specs.Bags.{MovesBag}
 use Rattle.unfold_op.specs.FactMoves.{facts_in, facts_moved}

@@ -3,10 +3,10 @@ use Rattle.std.specs.Prelude.{◌≡◌, ◌+◌, ℕ, List, Some, None, not, co
 use Rattle.std.specs.Option.{option_map}
 use Rattle.ss_text.specs.Texts.{Text}
 use Rattle.flow_law.specs.declared.shape.Shape.{Shape}
-use Rattle.fact_counts.specs.declared.facts.FactCounts.{FactCounts}
-use Rattle.fact_counts.specs.declared.facts.Nets.{Nets}
-use Rattle.fact_counts.specs.Moves.{AreNets}
-use Rattle.fact_counts.specs.Stored.{IsReady, HasRoom}
+use Rattle.unfold_op.specs.declared.facts.FactCounts.{FactCounts}
+use Rattle.unfold_op.specs.declared.facts.Nets.{Nets}
+use Rattle.unfold_op.specs.Moves.{AreNets}
+use Rattle.unfold_op.specs.Stored.{IsReady, HasRoom}
 use Rattle.operator_law.specs.declared.delta.Signed.{Signed}
 use Rattle.unfold_op.specs.declared.one_table.Waiting.{Waiting}
 use Rattle.unfold_op.specs.declared.one_table.OneTable.{OneTable}

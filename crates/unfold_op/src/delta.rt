@@ -1,12 +1,12 @@
 //! Moves of rows as moves of facts.
 ghost use Rattle.std.specs.Prelude.{◌≡◌, ◌++◌, ℕ, length, map, filter_map, option_to_list, All, IfOk, OnOk};
 ghost use Rattle.flow_law.specs.FactRows.{fact_width};
-ghost use Rattle.fact_counts.specs.Moves.{AreNets};
+ghost use Rattle.unfold_op.specs.Moves.{AreNets};
 ghost use Rattle.unfold_op.specs.FactMoves.{fact_moves, key_move, column_move, entry_move};
 
+use crate::facts::Nets;
 use crate::parts::key_in;
 use counts::{Move, Net};
-use fact_counts::Nets;
 use flow_law::Shape;
 use operator_law::Signed;
 use ss_text::{NoMemory, Row, Seed, Text};

@@ -30,12 +30,12 @@ pub type Unfold = KeptFacts<KeyAndCell>;
 impl<F: FactForm> Model for KeptFacts<F> {
     ghost use Rattle.std.specs.Prelude.{◌≡◌};
     ghost use Rattle.unfold_op.specs.OneTables.{OneTableValue};
-    ghost use Rattle.fact_counts.specs.contracts.facts.FactCounts as fact_counts;
+    ghost use Rattle.unfold_op.specs.contracts.facts.FactCounts as counted;
     ghost use Rattle.std.specs.Coded.{codes};
 
     ghost Value = { OneTableValue };
 
-    ghost coded = { Prim.hlevel (codes, fact_counts.the_row.coded) };
+    ghost coded = { Prim.hlevel (codes, counted.the_row.coded) };
 
     ghost use Rattle.unfold_op.specs.TableFields.{seen, IsOneTable};
 

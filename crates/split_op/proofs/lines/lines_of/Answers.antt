@@ -1,6 +1,6 @@
 use Rattle.std.proofs.Common.{◌∙◌, ⊎_elim, ap, sym, subst, map}
 use Rattle.flow_law.specs.declared.refused.EvalFault.{EvalFault}
-use Rattle.fact_counts.specs.Stopped.{StopsFor}
+use Rattle.unfold_op.specs.Stopped.{StopsFor}
 use Rattle.unfold_op.specs.FactMoves.{facts_in}
 use Rattle.split_op.specs.LabelLines.{first_conflict, first_illegal_column}
 use Rattle.split_op.specs.Groups.{group_label}

@@ -3,7 +3,7 @@ use Rattle.std.specs.List.{AllByRecursion}
 use Rattle.ss_text.specs.Texts.{text_eq}
 use Rattle.indexmap.specs.IndexMap.{get}
 use Rattle.unfold_op.specs.FactMoves.{facts_in}
-use Rattle.fact_counts.specs.Stopped.{StopsFor}
+use Rattle.unfold_op.specs.Stopped.{StopsFor}
 use Rattle.operator_law.specs.Bags.{weigh}
 use Rattle.split_op.specs.LabelLines.{first_conflict, first_illegal_column, first_illegal_table}
 use Rattle.split_op.specs.declared.groups.Group.{Group}

@@ -5,7 +5,7 @@ use Rattle.counts.specs.declared.moves.Move.{Move}
 use Rattle.operator_law.specs.declared.delta.Signed.{Signed}
 use Rattle.ss_text.specs.Texts.{Text}
 use Rattle.unfold_op.specs.FactMoves.{column_move}
-use Rattle.fact_counts.proofs.Picked.{given_more, one_given}
+use Rattle.unfold_op.proofs.Picked.{given_more, one_given}
 use Rattle.unfold_op.proofs.delta.column_moves.Goals as goal
 
 pub loop-m-preserved : goal.loop-m-preserved

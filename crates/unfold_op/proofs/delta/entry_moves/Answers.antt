@@ -3,9 +3,9 @@ use Rattle.std.specs.Prelude.{option_to_list}
 use Rattle.std.specs.List.{filter_map}
 use Rattle.counts.specs.declared.moves.Move.{Move}
 use Rattle.operator_law.specs.declared.delta.Signed.{Signed}
-use Rattle.fact_counts.specs.Touched.{Entry}
+use Rattle.unfold_op.specs.Touched.{Entry}
 use Rattle.unfold_op.specs.FactMoves.{entry_move}
-use Rattle.fact_counts.proofs.Picked.{given_more, one_given}
+use Rattle.unfold_op.proofs.Picked.{given_more, one_given}
 use Rattle.unfold_op.proofs.delta.entry_moves.Goals as goal
 
 pub loop-m-preserved : goal.loop-m-preserved

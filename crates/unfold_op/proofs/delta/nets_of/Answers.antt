@@ -3,7 +3,7 @@ use Rattle.ss_text.specs.Texts.{Text, Row, text_eq, row_eq, text_cmp, row_cmp}
 use Rattle.ss_text.specs.Ascending.{ascending}
 use Rattle.counts.specs.declared.moves.Move.{Move}
 use Rattle.counts.specs.Counted.{IsNet}
-use Rattle.fact_counts.specs.Touched.{Entry, entry_eq, entry_cmp}
+use Rattle.unfold_op.specs.Touched.{Entry, entry_eq, entry_cmp}
 use Rattle.unfold_op.proofs.RowMoves.{keys_of_rows, columns_of_rows, entries_of_rows}
 use Rattle.unfold_op.proofs.delta.nets_of.Goals as goal
 

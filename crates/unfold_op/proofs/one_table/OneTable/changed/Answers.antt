@@ -1,6 +1,6 @@
 use Rattle.std.proofs.Common.{◌∙◌, List, subst}
 use Rattle.operator_law.specs.declared.delta.Signed.{Signed}
-use Rattle.fact_counts.specs.Moves.{AreNets}
+use Rattle.unfold_op.specs.Moves.{AreNets}
 use Rattle.unfold_op.specs.FactMoves.{facts_in, fact_moves}
 use Rattle.unfold_op.specs.TableFields.{seen}
 use Rattle.unfold_op.proofs.Changes.{changed_by}

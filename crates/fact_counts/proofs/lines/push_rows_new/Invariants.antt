@@ -1,6 +1,0 @@
-use Rattle.std.proofs.Common.{◌≡◌, ◌++◌, map, take}
-use Rattle.flow_law.specs.declared.line.TableLine.TheVariants.{RowPlus}
-use Rattle.fact_counts.proofs.lines.push_rows_new.Given as goal
-
-abbrev pub invariant-loop-key : goal.invariant-loop-key
-invariant-loop-key l = l.lines.items ≡ l.initial.lines.items ++ map (λ k. RowPlus l.label k) (take l.key-index l.keys)

@@ -1,5 +1,0 @@
-use Rattle.fact_counts.proofs.SameKeptLemmas.{can_move_same}
-use Rattle.fact_counts.proofs.ready.take_ready.Goals as goal
-
-pub made_ready-requires-clause-moves : goal.made_ready-requires-clause-moves
-made_ready-requires-clause-moves c = can_move_same c.args.counts.now c.room.new.counts c.args.nets.now c.room.ensures.same c.requires.moves

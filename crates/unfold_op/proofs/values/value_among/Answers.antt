@@ -1,0 +1,24 @@
+use Rattle.std.proofs.Common.{rules, [], ◌∙◌, ap, sym, Ok, Err, Option, unwrap_or}
+use Rattle.std.proofs.lemmas.Fn.{always_returns_same}
+use Rattle.std.proofs.lemmas.List.{get_or_default}
+use Rattle.ss_text.specs.Texts.{Text}
+use Rattle.ss_text.proofs.KeyLemmas.{searched, lookup_at, lookup_lacks, lacks_for}
+use Rattle.unfold_op.specs.Touched.{Entry, place_cmp}
+use Rattle.unfold_op.proofs.TouchedLines.{place_order}
+use Rattle.unfold_op.proofs.values.value_among.Goals as goal
+
+pub returns-in-Ok : goal.returns-in-Ok
+returns-in-Ok c =
+    let place = c.args.place.now in
+    let es = c.args.entries.now in
+    let by_place = c.in-Ok.ensures.position (λ (e : Entry). place_cmp e.0 place) (always_returns_same _ _ _ (λ a r g called. search rules)) in
+    let at = (searched place_order (λ (e : Entry). e.0) place es (Ok c.in-Ok.found) c.requires c.in-Ok.ensures.bound by_place).found in
+    c.as_slice.ensures ∙ ap (λ (e : Entry). e.1) (get_or_default es c.in-Ok.found c.index-entries-found.result (([], []), []) c.in-Ok.ensures.bound) ∙ ap (λ (o : Option Text). unwrap_or o []) (sym (lookup_at place_order place es c.in-Ok.found (([], []), []) c.requires at))
+
+pub returns-in-Err : goal.returns-in-Err
+returns-in-Err c =
+    let place = c.args.place.now in
+    let es = c.args.entries.now in
+    let by_place = c.in-Err.ensures.position (λ (e : Entry). place_cmp e.0 place) (always_returns_same _ _ _ (λ a r g called. search rules)) in
+    let gap = (searched place_order (λ (e : Entry). e.0) place es (Err c.in-Err.field-0) c.requires c.in-Err.ensures.bound by_place).absent in
+    ap (λ (o : Option Text). unwrap_or o []) (sym (lookup_lacks place_order place es (lacks_for place_order (λ (e : Entry). e.0) place es c.in-Err.field-0 gap)))

@@ -1,6 +1,0 @@
-use Rattle.std.proofs.Common.{◌≡◌, take}
-use Rattle.flow_law.specs.Tables.{labels_of}
-use Rattle.view_apply.proofs.applying.labels_of.Given as goal
-
-abbrev pub invariant-loop-place : goal.invariant-loop-place
-invariant-loop-place l = l.labels.items ≡ take l.place (labels_of l.tables)

@@ -1,5 +1,0 @@
-pub mod Refused
-pub mod Applying
-pub mod Opening
-pub mod Scripts
-pub mod Left
