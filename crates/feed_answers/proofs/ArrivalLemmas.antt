@@ -20,7 +20,7 @@ use Rattle.feed_core.specs.declared.outcome.Outcome.TheVariants.{Fresh, Kept, Ot
 use Rattle.feed_answers.specs.declared.line.FeedLine.TheVariants.{Arrives}
 use Rattle.feed_answers.specs.declared.view.FeedView.{FeedView}
 use Rattle.feed_answers.specs.Answers.{handling, telling, repeating, by_turn, by_line, fed_by, told_by}
-use Rattle.feed_answers.specs.Steps.{Takes}
+use Rattle.feed_answers.specs.Steps.{TakesArrival}
 use Rattle.feed_answers.proofs.ReplyLemmas.{replied, fresh_is}
 
 -- two answers do the same, and leave the same view
@@ -33,7 +33,7 @@ made_same : (o : OpenValue) (g : Change) (r : ReplyValue) → o.session.held ≡
 made_same o g (Ok lines) alone idle = record { effects = refl; view = ap (λ (s : SessionState). record o { session = s }) (made_moved o.session g alone idle) }
 made_same o g (Err e) alone idle = record { effects = refl; view = refl }
 
-module _ (f : FeedView) (a : Arrival) (n : FeedView) (x : Outcome) (took : Takes f a n x) (alone : f.view.session.held ≡ None) where
+module _ (f : FeedView) (a : Arrival) (n : FeedView) (x : Outcome) (took : TakesArrival f a n x) (alone : f.view.session.held ≡ None) where
   abbrev s : SessionState
   s = f.view.session
 

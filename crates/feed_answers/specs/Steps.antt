@@ -11,7 +11,7 @@ use Rattle.feed_core.specs.declared.outcome.Outcome.TheVariants.{Fresh}
 use Rattle.feed_answers.specs.declared.view.FeedView.{FeedView}
 
 -- an arrival was taken with an answer: what the view and its feeds were before and are behind it
-pub record Takes (f : FeedView) (a : Arrival) (n : FeedView) (x : Outcome) : Type 0 where
+pub record TakesArrival (f : FeedView) (a : Arrival) (n : FeedView) (x : Outcome) : Type 0 where
   pub idle : f.view.session.proposed ≡ None
   pub stands : verdict_of f.view.session.query f.view.session.catalogue ≡ Makes (tables_in (verdict_of f.view.session.query f.view.session.catalogue))
   pub answer : x ≡ answer_to f.feeds a

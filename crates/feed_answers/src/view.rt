@@ -11,7 +11,7 @@ ghost use Rattle.feed_core.specs.Arrivals.{handled_at};
 ghost use Rattle.feed_answers.specs.Lines.{said_by_line};
 ghost use Rattle.feed_answers.specs.declared.line.FeedLine.TheVariants.{Arrives};
 ghost use Rattle.feed_answers.specs.Answers.{answer, by_line, fed, fed_by, repeating, told_by};
-ghost use Rattle.feed_answers.specs.Steps.{Takes};
+ghost use Rattle.feed_answers.specs.Steps.{TakesArrival};
 ghost use Rattle.feed_answers.specs.Limits as limits;
 
 use crate::fields::{line_fault_fields, reply_refused_fields};
@@ -112,7 +112,7 @@ impl FeedView {
         requires number { 1 ≤ arrival.number }
         requires well_formed { IsTrue (is_well_formed arrival.change) }
         requires idle { self.old.view.session.held ≡ None }
-        ensures took { IfOk result (Takes self.old arrival self.new) }
+        ensures took { IfOk result (TakesArrival self.old arrival self.new) }
         ensures rises { steps.old ≤ steps.new }
         ensures within { IsWithin (limits.limit_of_arrival self.old arrival) steps.old steps.new }
     {

@@ -81,10 +81,10 @@ pub record TakesNone (f : JournalView) (a : Answer) (gs : Group) (n : JournalVie
   pub refuses : a ≡ refused
   pub stays : n ≡ record { view = left; journal = f.journal }
 
-abbrev pub Takes : (OpenValue → Row → Answer) → JournalView → Answer → Group → OpenValue → JournalView → Taken → Type 0
-Takes refuse f a gs left n (taken.Made lines) = TakesScript f a gs n lines
-Takes refuse f a gs left n (taken.Refused fields) = TakesNone f a gs n (refuse f.view fields) left
-Takes refuse f a gs left n taken.Full = lacks_room f.journal.end gs ≡ true
+abbrev pub Became : (OpenValue → Row → Answer) → JournalView → Answer → Group → OpenValue → JournalView → Taken → Type 0
+Became refuse f a gs left n (taken.Made lines) = TakesScript f a gs n lines
+Became refuse f a gs left n (taken.Refused fields) = TakesNone f a gs n (refuse f.view fields) left
+Became refuse f a gs left n taken.Full = lacks_room f.journal.end gs ≡ true
 
 -- the answer to a line behind a call: the run goes on, or it stopped there
 abbrev pub said : {A : Type 0} → Result A Stop → Result (Option Verdict) LineStop

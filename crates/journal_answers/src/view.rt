@@ -14,7 +14,7 @@ ghost use Rattle.view_answers.specs.Limits as limits;
 ghost use Rattle.view_answers.specs.Limits.{IsWithin};
 ghost use Rattle.view_answers.specs.Answers.{by_row, end_view, giving_up, refusing, syncing_view};
 ghost use Rattle.journal_answers.specs.Answers.{answer, asked_of, finish, made, made_by};
-ghost use Rattle.journal_answers.specs.Steps.{Acts, Takes, ending_group, judging, said};
+ghost use Rattle.journal_answers.specs.Steps.{Acts, Became, ending_group, judging, said};
 
 use crate::asking::{Asked, asked_by_row};
 use crate::taking::{Taken, copies, settle};
@@ -64,7 +64,7 @@ impl JournalView {
         requires formed { IsTrue (is_well_formed change.now) }
         requires alone { self.old.view.session.held ≡ None }
         requires ready { IsReady self.old.journal (D.state disk.old) }
-        ensures took { IfOk result (Takes refusing self.old (judging self.old.view change.now) (made_by (judging self.old.view change.now).said (change.now ∷ [])) self.old.view self.new) }
+        ensures took { IfOk result (Became refusing self.old (judging self.old.view change.now) (made_by (judging self.old.view change.now).said (change.now ∷ [])) self.old.view self.new) }
         ensures keeps { (es : List Entry) → LeavesNow (log_of D.state D.left_since) es disk.old
             → KeepsFirst (log_of D.state D.left_since) es (lines_in (appended_to self.old.journal.end (made_by (judging self.old.view change.now).said (change.now ∷ [])))) disk.old disk.new result }
         ensures ready { OnOk result (IsReady self.new.journal (D.state disk.new)) }
@@ -102,7 +102,7 @@ impl JournalView {
     ) -> Result<Taken, LineStop>
         requires open_group { is_some self.old.view.session.held ≡ true }
         requires ready { IsReady self.old.journal (D.state disk.old) }
-        ensures took { IfOk result (Takes giving_up self.old (ending_group self.old.view) (made_by (ending_group self.old.view).said (unwrap_or self.old.view.session.held []))
+        ensures took { IfOk result (Became giving_up self.old (ending_group self.old.view) (made_by (ending_group self.old.view).said (unwrap_or self.old.view.session.held []))
             (record self.old.view { session = closed self.old.view.session }) self.new) }
         ensures keeps { (es : List Entry) → LeavesNow (log_of D.state D.left_since) es disk.old
             → KeepsFirst (log_of D.state D.left_since) es (lines_in (appended_to self.old.journal.end (made_by (ending_group self.old.view).said (unwrap_or self.old.view.session.held []))))

@@ -11,7 +11,8 @@ use Rattle.kept_tables.specs.declared.slot.Held.{Held as Slot}
 use Rattle.kept_tables.specs.Slots.{slot_label, table_there, tables_in, AreSlots}
 use Rattle.kept_tables.proofs.SlotLemmas.{either, ascends_kept}
 
-tables_joined : (ss ts : List Slot) → tables_in (ss ++ ts) ≡ tables_in ss ++ tables_in ts
+-- the tables of slots, one slot after another
+pub tables_joined : (ss ts : List Slot) → tables_in (ss ++ ts) ≡ tables_in ss ++ tables_in ts
 tables_joined [] ts = refl
 tables_joined (s ∷ ss) ts = either s.there _ (λ e. rw e (ap (λ us. (s.label, s.table.table) ∷ us) (tables_joined ss ts))) (λ e. rw e (tables_joined ss ts))
 

@@ -7,9 +7,8 @@ use Rattle.ss_text.specs.Ascending.{ascending}
 use Rattle.ss_text.proofs.KeyLemmas.{IsKeyOrder, equal_itself, equal_is}
 use Rattle.ss_text.proofs.PairLemmas.{any_ascending}
 use Rattle.ss_text.proofs.SetLemmas.{SameElements}
-use Rattle.valuation_meaning.proofs.OrderLemmas.{In, in_any, any_in, in_map, map_in, flat_in, in_flat, in_kept, kept_in}
+use Rattle.valuation_meaning.proofs.OrderLemmas.{In, in_any, any_in, in_map, map_in, flat_in, in_flat, in_kept, kept_in, both_true}
 use Rattle.view_stack.proofs.ScriptLemmas.{all_append}
-use Rattle.view_stack.proofs.StandsLemmas.{both_true}
 
 -- lists of which each has the elements of the other
 pub same_by : {A : Type 0} (xs ys : List A) → ((x : A) → In x xs → In x ys) → ((x : A) → In x ys → In x xs) → SameElements xs ys
@@ -21,10 +20,6 @@ same_by xs ys f g = record { same = λ p. both_true (list_any p xs) (list_any p 
 pub all_by : {A : Type 0} (P : A → Type 0) (xs : List A) → ((x : A) → In x xs → P x) → AllByRecursion P xs
 all_by P [] h = tt
 all_by P (x ∷ xs) h = (h x (inl refl), all_by P xs (λ y i. h y (inr i)))
-
-pub all_of : {A : Type 0} (P : A → Type 0) → ((x : A) → P x) → (xs : List A) → AllByRecursion P xs
-all_of P h [] = tt
-all_of P h (x ∷ xs) = (h x, all_of P h xs)
 
 pub all_flat : {A B : Type 0} (P : B → Type 0) (f : A → List B) (xs : List A) → AllByRecursion (λ x. AllByRecursion P (f x)) xs → AllByRecursion P (flat_map f xs)
 all_flat P f [] h = tt

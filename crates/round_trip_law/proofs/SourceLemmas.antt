@@ -24,7 +24,8 @@ use Rattle.round_trip_law.specs.Forms.{Named, Parts, cell, no_key_nor_empty, fro
 use Rattle.round_trip_law.specs.Kept.{says}
 use Rattle.round_trip_law.proofs.CellLemmas.{cell_there, cells_there}
 use Rattle.round_trip_law.proofs.Entries.{Entry, AreNamed, Reads, passes, said, entry_at, entry_read, two_declared}
-use Rattle.round_trip_law.proofs.Members.{all_of, all_flat}
+use Rattle.view_stack.proofs.ScriptLemmas.{all_of}
+use Rattle.round_trip_law.proofs.Members.{all_flat}
 
 -- ---- each valuation of the three has a name, whatever the catalogue
 abbrev IsText : Element → Type 0
@@ -39,16 +40,15 @@ module _ (c : CatalogueValue) (d1 d2 : Range) where
   first_named h =
       all_flat (λ v. is_some (value_of v (term.Var 0)) ≡ true) (λ x. flat_map (λ y. (x ∷ y ∷ []) ∷ []) (elements c (x ∷ []) d2)) (elements c [] d1)
       (all_weaker IsText (λ x. AllByRecursion (λ v. is_some (value_of v (term.Var 0)) ≡ true) (flat_map (λ y. (x ∷ y ∷ []) ∷ []) (elements c (x ∷ []) d2)))
-      (λ x is. all_flat (λ v. is_some (value_of v (term.Var 0)) ≡ true) (λ y. (x ∷ y ∷ []) ∷ []) (elements c (x ∷ []) d2) (all_of (λ y. AllByRecursion (λ v. is_some (value_of v (term.Var 0)) ≡ true) ((x ∷ y ∷ []) ∷ [])) (λ y. (is, tt)) (elements c (x ∷ []) d2)))
+      (λ x is. all_flat (λ v. is_some (value_of v (term.Var 0)) ≡ true) (λ y. (x ∷ y ∷ []) ∷ []) (elements c (x ∷ []) d2) (all_of (λ y. AllByRecursion (λ v. is_some (value_of v (term.Var 0)) ≡ true) ((x ∷ y ∷ []) ∷ [])) (elements c (x ∷ []) d2) (λ y. (is, tt))))
       (elements c [] d1) h)
 
   second_named : ((x : Element) → AllByRecursion IsText (elements c (x ∷ []) d2)) → AllByRecursion (λ v. is_some (value_of v (term.Var 1)) ≡ true) (assignments c [] (d1 ∷ d2 ∷ []))
   second_named h =
       all_flat (λ v. is_some (value_of v (term.Var 1)) ≡ true) (λ x. flat_map (λ y. (x ∷ y ∷ []) ∷ []) (elements c (x ∷ []) d2)) (elements c [] d1)
-      (all_of (λ x. AllByRecursion (λ v. is_some (value_of v (term.Var 1)) ≡ true) (flat_map (λ y. (x ∷ y ∷ []) ∷ []) (elements c (x ∷ []) d2)))
+      (all_of (λ x. AllByRecursion (λ v. is_some (value_of v (term.Var 1)) ≡ true) (flat_map (λ y. (x ∷ y ∷ []) ∷ []) (elements c (x ∷ []) d2))) (elements c [] d1)
       (λ x. all_flat (λ v. is_some (value_of v (term.Var 1)) ≡ true) (λ y. (x ∷ y ∷ []) ∷ []) (elements c (x ∷ []) d2)
-      (all_weaker IsText (λ y. AllByRecursion (λ v. is_some (value_of v (term.Var 1)) ≡ true) ((x ∷ y ∷ []) ∷ [])) (λ y is. (is, tt)) (elements c (x ∷ []) d2) (h x)))
-      (elements c [] d1))
+      (all_weaker IsText (λ y. AllByRecursion (λ v. is_some (value_of v (term.Var 1)) ≡ true) ((x ∷ y ∷ []) ∷ [])) (λ y is. (is, tt)) (elements c (x ∷ []) d2) (h x))))
 
 pub values_named : (p : Parts) (at : Named) (c : CatalogueValue) → AreNamed c (from_values p at)
 values_named p at c = second_named c (range.Tuples (place.Fixed at.db) (place.Fixed at.rel)) (range.Alias 0 (place.Fixed p.name)) (λ x. texts (option_to_list (cell_at (x ∷ []) 0 (place.Fixed p.name))))

@@ -15,12 +15,11 @@ use Rattle.flow_law.specs.declared.refused.Clash.{Clash}
 use Rattle.flow_law.specs.Facts.{Fact, Spot, value_in, values_at, facts_of, clash_of, conflict, spots_of, column_of}
 use Rattle.flow_law.specs.FactTables.{value_for}
 use Rattle.flow_law.proofs.Entries.{some_length, spot_order}
-use Rattle.view_stack.proofs.StandsLemmas.{both_true}
 use Rattle.round_trip_law.specs.Forms.{Named}
 use Rattle.round_trip_law.specs.Kept.{has_text}
 use Rattle.round_trip_law.proofs.Entries.{Entry, column_fact}
 use Rattle.round_trip_law.proofs.Members.{in_ascending, ascending_in}
-use Rattle.valuation_meaning.proofs.OrderLemmas.{In, in_any, any_in, in_map, map_in, in_kept, kept_in}
+use Rattle.valuation_meaning.proofs.OrderLemmas.{In, in_any, any_in, in_map, map_in, in_kept, kept_in, both_true}
 
 -- ---- texts that are not empty
 some_long : (t : Text) → not (length t == 0) ≡ has_text t

@@ -57,10 +57,10 @@ use Rattle.view_stages.proofs.StageLemmas.{are_view_files}
 use Rattle.view_answers.specs.Answers.{Said, Tells, Scripts, Syncs, Answer, synced_view, syncing, syncing_view}
 use Rattle.upkeep_law.specs.Given.{IsPrint, AreAlike, Prints, IsSync, sync_by, MayGive, AreGiven}
 use Rattle.upkeep_law.specs.Lists.{effects_by, view_after, writes_by, shown_by, last_shown, synced_by, last_synced}
-use Rattle.upkeep_law.specs.Promises.{printed_by, opening_of, Takes}
+use Rattle.upkeep_law.specs.Promises.{printed_by, opening_of, TakesTo}
 
 -- the script of two meanings takes the one to the other
-pub script_takes : (o : SessionState) (c : CatalogueValue) → Takes (tables_of o) (meaning c o.query) (lines_to o c)
+pub script_takes : (o : SessionState) (c : CatalogueValue) → TakesTo (tables_of o) (meaning c o.query) (lines_to o c)
 script_takes o c = record {
   makes = script_makes (tables_of o) (meaning c o.query) (meaning_in_order c o.query) (meaning_in_order o.catalogue o.query);
   fits = script_fits (tables_of o) (meaning c o.query) (meaning_in_order c o.query) (meaning_in_order o.catalogue o.query);

@@ -19,7 +19,7 @@ use Rattle.view_stages.specs.Opening.{IsDefinition, definition_bytes, opening}
 use Rattle.view_answers.specs.Answers.{Answer, step, finish}
 use Rattle.upkeep_law.specs.Given.{AreGiven}
 use Rattle.upkeep_law.specs.Lists.{last_shown, last_synced}
-use Rattle.upkeep_law.specs.Promises.{IsUpheld, IsMaintained, IsCutOff, Takes, effects_so_far}
+use Rattle.upkeep_law.specs.Promises.{IsUpheld, IsMaintained, IsCutOff, TakesTo, effects_so_far}
 
 -- a view that is opened over a tree, whose sources are one catalogue, and over another where syncs do not save the sources
 pub record IsStart (saves : Bool) (t : Tree) (q : Query) (sources c : CatalogueValue) : Type 0 where
@@ -55,4 +55,4 @@ CutOffIsSynced =
 
 -- the lines from a view's tables to those over another catalogue take the first to the second, and each fits those that the lines before it leave
 abbrev pub ScriptsTake : Type 0
-ScriptsTake = (s : SessionState) (c : CatalogueValue) → Takes (tables_of s) (meaning c s.query) (lines_to s c)
+ScriptsTake = (s : SessionState) (c : CatalogueValue) → TakesTo (tables_of s) (meaning c s.query) (lines_to s c)

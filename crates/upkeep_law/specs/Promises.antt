@@ -111,6 +111,6 @@ pub record IsCutOff (d : DefinitionOrRefusal) (t : Tree) (bytes : List ℕ) (res
   pub upheld : IsUpheld t opened.accepted.query opened.catalogue (answers_to (view_at_first opened) (whole_lines taken)) (saved_behind (view_at_first opened) (whole_lines taken)).catalogue (saved_behind (view_at_first opened) (whole_lines taken)) old new
 
 -- the lines of a script take the old tables to the new ones, and each fits the tables that those before it leave
-pub record Takes (old new : TablesValue) (lines : List TableLine) : Type 0 where
+pub record TakesTo (old new : TablesValue) (lines : List TableLine) : Type 0 where
   pub makes : after_lines old lines ≡ new
   pub fits : fit_lines old lines ≡ true

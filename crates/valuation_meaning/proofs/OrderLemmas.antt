@@ -1,6 +1,6 @@
 -- Catalogues that differ in order alone give the same facts.
 use Rattle.std.proofs.Common.{◌≡◌, ◌+◌, ◌∙◌, ◌⊎◌, inl, inr, ℕ, zero, suc, Bool, true, false, cond, ◌&&◌, ◌||◌, ◌<◌, List, [], ◌∷◌, ◌++◌, Option, Some, None, length, map, refl, sym, ap, subst, arith}
-use Rattle.std.specs.Prelude.{flat_map, filter, find, slice_get, slice_index_or, option_and_then, option_map, option_to_list, unwrap_or, position, is_some, nat_lt, sum_by}
+use Rattle.std.specs.Prelude.{flat_map, filter, find, slice_get, slice_index_or, option_and_then, option_map, option_to_list, unwrap_or, nat_lt, sum_by}
 use Rattle.std.specs.Option.{option_or}
 use Rattle.std.specs.List.{filter_map, cons_option, range_with_len, list_any, position_or_len, AllByRecursion}
 use Rattle.std.proofs.lemmas.Bool.{lt-ltb, ltb-true}
@@ -9,7 +9,7 @@ use Rattle.std.proofs.lemmas.Slice.Eq.{bytes_eq-Decides}
 use Rattle.ss_text.specs.Texts.{Text, Row, text_eq, row_eq, is_in}
 use Rattle.ss_text.proofs.SetLemmas.{SameElements, same_filter, same_map, same_filter_map, least_of_same}
 use Rattle.ss_text.proofs.KeyLemmas.{text_order}
-use Rattle.schema_model.specs.Catalogue.{RelationValue, DatabaseValue, CatalogueValue, database_of, relation_in}
+use Rattle.schema_model.specs.Catalogue.{RelationValue, DatabaseValue, CatalogueValue, database_of}
 use Rattle.schema_model.specs.Sound.{IsRelation, IsDatabase, IsSound}
 use Rattle.view_def.specs.declared.typed.Place.{Place}
 use Rattle.view_def.specs.declared.typed.Place.TheVariants as place
@@ -25,12 +25,12 @@ use Rattle.flow_law.specs.Facts.{Fact, Pair, illegal_table, illegal_column, ille
 use Rattle.flow_law.proofs.RefusedLemmas.{pair_total, pair_same}
 use Rattle.flow_law.proofs.SameFacts.{tables_same, conflict_same}
 use Rattle.valuation_meaning.specs.Elements.{Element, A_text, A_row, Valuation, text_of, text_at, place_text, cell_under, cell_of_element, cell_at, database_at, relation_at, all_rows, ◌>>=◌, elements}
-use Rattle.valuation_meaning.specs.Terms.{value_of, Reading}
+use Rattle.valuation_meaning.specs.Terms.{value_of}
 use Rattle.valuation_meaning.specs.Valuations.{assignments, counts, valuations}
 use Rattle.valuation_meaning.specs.Meaning.{given, fact_of, facts, shape_of, meaning}
 use Rattle.valuation_meaning.specs.Refusal.{refusal}
 use Rattle.flow_law.specs.declared.refused.EvalFault.TheVariants as eval
-use Rattle.valuation_meaning.specs.Orders.{text_under, row_under, rows_under, SameRelation, SameRelations, SameDatabase, DifferInOrder}
+use Rattle.valuation_meaning.specs.Orders.{text_under, row_under, rows_under, SameRelation, SameRelations, DifferInOrder}
 
 -- ---- elements of lists
 abbrev pub In : {A : Type 0} → A → List A → Type 0
@@ -115,7 +115,7 @@ bag_any p xs ys same h = by_case (list_any p ys) refl
 bag_back : {A : Type 0} (xs ys : List A) → EachAsOften xs ys → EachAsOften ys xs
 bag_back xs ys same = λ f. sym (same f)
 
-both_true : (a b : Bool) → (a ≡ true → b ≡ true) → (b ≡ true → a ≡ true) → a ≡ b
+pub both_true : (a b : Bool) → (a ≡ true → b ≡ true) → (b ≡ true → a ≡ true) → a ≡ b
 both_true true true f g = refl
 both_true true false f g = sym (f refl)
 both_true false true f g = g refl
@@ -130,13 +130,13 @@ abbrev cell_or : Bool → Text → Option Text
 cell_or true t = Some t
 cell_or false t = None
 
-one_more : (n : ℕ) → 1 + n ≡ suc n
+pub one_more : (n : ℕ) → 1 + n ≡ suc n
 one_more n = omega arith
 
-first_there : (n : ℕ) → nat_lt 0 (suc n) ≡ true
+pub first_there : (n : ℕ) → nat_lt 0 (suc n) ≡ true
 first_there n = lt-ltb 0 (suc n) (omega arith)
 
-one_later : (p n : ℕ) → nat_lt (suc p) (suc n) ≡ nat_lt p n
+pub one_later : (p n : ℕ) → nat_lt (suc p) (suc n) ≡ nat_lt p n
 one_later p n = both_true (nat_lt (suc p) (suc n)) (nat_lt p n)
     (λ h. let l : suc p < suc n = ltb-true (suc p) (suc n) h in lt-ltb p n (omega (arith, l)))
     (λ h. let l : p < n = ltb-true p n h in lt-ltb (suc p) (suc n) (omega (arith, l)))
@@ -151,10 +151,10 @@ cell_here x ns cell row a e = rw (e, first_there (length ns)) refl
 pub cell_later : (x : Text) (ns : Row) (cell : Text) (row : Row) (a : Text) → text_eq a x ≡ false → cell_under (x ∷ ns) a (cell ∷ row) ≡ cell_under ns a row
 cell_later x ns cell row a e = rw (e, one_more, one_later (position_or_len (text_eq a) ns) (length ns)) (next_place (nat_lt (position_or_len (text_eq a) ns) (length ns)) (position_or_len (text_eq a) ns) cell row)
 
-text_here : (x : Text) (ns : Row) (cell : Text) (row : Row) (a : Text) → text_eq a x ≡ true → text_under (x ∷ ns) (cell ∷ row) a ≡ cell
+pub text_here : (x : Text) (ns : Row) (cell : Text) (row : Row) (a : Text) → text_eq a x ≡ true → text_under (x ∷ ns) (cell ∷ row) a ≡ cell
 text_here x ns cell row a e = ap given (cell_here x ns cell row a e)
 
-text_later : (x : Text) (ns : Row) (cell : Text) (row : Row) (a : Text) → text_eq a x ≡ false → text_under (x ∷ ns) (cell ∷ row) a ≡ text_under ns row a
+pub text_later : (x : Text) (ns : Row) (cell : Text) (row : Row) (a : Text) → text_eq a x ≡ false → text_under (x ∷ ns) (cell ∷ row) a ≡ text_under ns row a
 text_later x ns cell row a e = ap given (cell_later x ns cell row a e)
 
 cell_is : (ns row : Row) (a : Text) → length row ≡ length ns → cell_under ns a row ≡ cell_or (is_in a ns) (text_under ns row a)
@@ -172,13 +172,13 @@ cell_is (x ∷ ns) (cell ∷ row) a l = by_first (text_eq a x) refl (cell_is ns 
         cell_later x ns cell row a e ∙ rest ∙ sym (λ i. cell_or (there i) (text_later x ns cell row a e i))
 
 -- ---- a row of one relation has a row of the other that says the same
-bytes_same : (a b : Text) → text_eq a b ≡ true → a ≡ b
+pub bytes_same : (a b : Text) → text_eq a b ≡ true → a ≡ b
 bytes_same a b e = (bytes_eq-Decides a b).0 e
 
-same_bytes : (a : Text) → text_eq a a ≡ true
+pub same_bytes : (a : Text) → text_eq a a ≡ true
 same_bytes a = (bytes_eq-Decides a a).1 refl
 
-rows_same : (a b : Row) → row_eq a b ≡ true → a ≡ b
+pub rows_same : (a b : Row) → row_eq a b ≡ true → a ≡ b
 rows_same [] [] e = refl
 rows_same [] (y ∷ ys) e = absurd (cc)
 rows_same (x ∷ xs) [] e = absurd (cc)
@@ -188,7 +188,7 @@ rows_same (x ∷ xs) (y ∷ ys) e = by_first (text_eq x y) refl (rows_same xs ys
     by_first true is rest = λ i. bytes_same x y is i ∷ rest (sym (ap (λ (b : Bool). b && row_eq xs ys) is) ∙ e) i
     by_first false is rest = let bad : false ≡ true = sym (ap (λ (b : Bool). b && row_eq xs ys) is) ∙ e in absurd (cc)
 
-same_rows : (a : Row) → row_eq a a ≡ true
+pub same_rows : (a : Row) → row_eq a a ≡ true
 same_rows [] = refl
 same_rows (x ∷ xs) = rw (same_bytes x) (same_rows xs)
 

@@ -21,11 +21,12 @@ use Rattle.schema_model.specs.declared.change.Change.{Change}
 use Rattle.schema_model.specs.declared.refusal.Refusal.{Refusal}
 use Rattle.schema_model.specs.declared.refusal.Refusal.TheVariants.{Limit}
 use Rattle.schema_model.specs.declared.refusal.Which.{Which}
+use Rattle.valuation_meaning.proofs.OrderLemmas.{same_bytes, same_rows, bytes_same}
 use Rattle.view_stack.specs.Stands.{database_for, stands}
 use Rattle.view_stack.specs.Limits.{first_limit, lifted_limit}
 use Rattle.view_stack.specs.Records.{front_cells}
 use Rattle.view_stack.specs.Lifted.{lifted_line, row_of, goes_on, table_at, names_after, names_of, lifted_behind, lifted}
-use Rattle.view_stack.proofs.SaysLemmas.{Distinct, same_bytes, same_rows, bytes_same, and_first, and_second}
+use Rattle.view_stack.proofs.SaysLemmas.{Distinct, and_first, and_second}
 use Rattle.view_stack.proofs.MovedLemmas.{AreSaid, whole, HasColumns}
 use Rattle.view_stack.proofs.LinesLemmas.{IsSaid, IsDynamic, AreBlocks, Heads, Leaves, Reads, pending, after_in_order, after_all-append, table_went, table_came, row_gone, row_new, column_gone, column_new, row_changes, after_cells, after_row, cells_fit, row_fits, same_line, after_names, same_both, own_names, next_heads, off_pending, on_pending, none_pending}
 use Rattle.view_stack.proofs.LimitLemmas.{IsLegal, line_judged, goes_on_within, sound_within}

@@ -32,12 +32,13 @@ use Rattle.schema_model.specs.declared.refusal.Which.{Which}
 use Rattle.schema_model.specs.declared.refusal.Which.TheVariants.{Relations, Attributes, Rows}
 use Rattle.schema_model.proofs.Repeated.{found_none}
 use Rattle.operator_law.specs.Bags.{weigh}
+use Rattle.valuation_meaning.proofs.OrderLemmas.{same_bytes}
 use Rattle.view_stack.specs.Limits.{past, is_wide, first_limit}
 use Rattle.view_stack.specs.Records.{text_of, record_of, front_cells, text_after, record_after}
 use Rattle.view_stack.specs.Lifted.{lifted_line, goes_on, table_at}
 use Rattle.view_stack.specs.Stands.{header, relation_for, database_for}
 use Rattle.flow_law.specs.Records.{spliced}
-use Rattle.view_stack.proofs.SaysLemmas.{weigh_mapped, weigh_inserted, weigh_removed, keys_weighed, one_key_more, one_key_less, mark, Distinct, Says, in_upper, record_there, same_bytes, and_first, not_true, or_false_left, or_false_right}
+use Rattle.view_stack.proofs.SaysLemmas.{weigh_mapped, weigh_inserted, weigh_removed, keys_weighed, one_key_more, one_key_less, mark, Distinct, Says, in_upper, record_there, and_first, not_true, or_false_left, or_false_right}
 use Rattle.view_stack.proofs.MovedLemmas.{AreSaid, whole, relation_at}
 use Rattle.view_stack.proofs.LinesLemmas.{IsSaid, IsDynamic, Found, found_table, said_found, said_missing, same_record, same_after, row_gone}
 use Rattle.view_stack.proofs.StandsLemmas.{splice_long, header_long}

@@ -2,10 +2,9 @@
 use Rattle.std.proofs.Common.{◌≡◌, ◌+◌, ◌∙◌, ◌≤◌, ◌<◌, ℕ, zero, suc, Bool, true, false, cond, ◌&&◌, ◌||◌, not, List, [], ◌∷◌, ◌++◌, length, map, take, drop, refl, sym, ap, arith}
 use Rattle.std.specs.Prelude.{filter, replicate, insert, remove, slice_index_or}
 use Rattle.std.specs.List.{list_any, position_or_len, AllByRecursion}
-use Rattle.std.proofs.lemmas.Slice.Eq.{bytes_eq-Decides}
 use Rattle.ss_text.specs.Texts.{Text, Row, text_eq, row_eq, row_cmp, is_in}
 use Rattle.ss_text.specs.Ascending.{with_element}
-use Rattle.ss_text.proofs.KeyLemmas.{text_order, row_order, place_there, equal_is}
+use Rattle.ss_text.proofs.KeyLemmas.{text_order, row_order, place_there}
 use Rattle.flow_law.specs.Tables.{TableValue, cell_in, cell_of, row_keys}
 use Rattle.flow_law.specs.InOrder.{IsTable}
 use Rattle.flow_law.specs.Lines.{without_row, with_row, without_column, with_column, column_place, has_row, has_column}
@@ -14,6 +13,7 @@ use Rattle.flow_law.proofs.TableLemmas.{place_of_column, row_removed, all_remove
 use Rattle.flow_law.specs.declared.line.TableLine.TheVariants.{RowMinus, ColumnMinus, ColumnPlus}
 use Rattle.flow_law.specs.Lines.{by_key}
 use Rattle.flow_law.specs.Tables.{key_of}
+use Rattle.valuation_meaning.proofs.OrderLemmas.{one_more, bytes_same, same_bytes, rows_same, same_rows}
 use Rattle.std.specs.Map.{keys_of}
 use Rattle.ss_text.specs.Ascending.{by_order}
 use Rattle.ss_text.proofs.PairLemmas.{turned}
@@ -92,19 +92,6 @@ any_by_weight p q xs ys h = by_both (list_any p xs) (list_any q ys) refl refl
     by_both false true d e = let m = none_marked p xs d in let n = some_marked q ys e in absurd (omega (arith, m, n, h))
 
 -- ---- texts and rows
-pub bytes_same : (a b : Text) → text_eq a b ≡ true → a ≡ b
-bytes_same a b e = (bytes_eq-Decides a b).0 e
-
-pub same_bytes : (a : Text) → text_eq a a ≡ true
-same_bytes a = (bytes_eq-Decides a a).1 refl
-
-pub rows_same : (a b : Row) → row_eq a b ≡ true → a ≡ b
-rows_same a b e = equal_is row_order a b e
-
-pub same_rows : (a : Row) → row_eq a a ≡ true
-same_rows [] = refl
-same_rows (x ∷ xs) = rw (same_bytes x) (same_rows xs)
-
 pub in_append : (a : Text) (ns ms : Row) → is_in a (ns ++ ms) ≡ (is_in a ns || is_in a ms)
 in_append a [] ms = refl
 in_append a (x ∷ ns) ms = ap (λ (b : Bool). text_eq a x || b) (in_append a ns ms) ∙ or_same (text_eq a x) (is_in a ns) (is_in a ms)
@@ -148,9 +135,6 @@ one_empty (x ∷ ns) (cell ∷ row) a name l = by_first (text_eq name x) refl (o
     by_first false e rest = cell_later x (ns ++ a ∷ []) cell (row ++ [] ∷ []) name e ∙ rest ∙ sym (cell_later x ns cell row name e)
 
 -- one more
-pub one_more : (n : ℕ) → 1 + n ≡ suc n
-one_more n = omega arith
-
 -- a name that is taken out reads as empty
 one_less : (ns row : Row) (a name : Text) → Distinct ns → length row ≡ length ns
     → cell_in (remove ns (position_or_len (text_eq a) ns)) (remove row (position_or_len (text_eq a) ns)) name ≡ cond (text_eq name a) [] (cell_in ns row name)

@@ -22,8 +22,9 @@ use Rattle.flow_law.proofs.StepLemmas.{has_key, key_is_there, row_minus_keys, ro
 use Rattle.flow_law.proofs.ScriptLaw.{lines_passed, script_fits}
 use Rattle.change_script.specs.Fits.{TableFits}
 use Rattle.flow_law.specs.declared.shape.Shape.{Shape}
+use Rattle.valuation_meaning.proofs.OrderLemmas.{same_bytes, bytes_same, same_rows, rows_same}
 use Rattle.view_stack.specs.Lifted.{row_of, goes_on, table_at}
-use Rattle.view_stack.proofs.SaysLemmas.{same_bytes, bytes_same, same_rows, rows_same, and_first, and_second, not_true, or_right, or_false_left, or_false_right}
+use Rattle.view_stack.proofs.SaysLemmas.{and_first, and_second, not_true, or_right, or_false_left, or_false_right}
 use Rattle.view_stack.proofs.LinesLemmas.{Agrees, Reads, AreBlocks, IsDynamic, table_found_in_order}
 use Rattle.view_stack.proofs.LimitLemmas.{IsLegal}
 
@@ -36,7 +37,7 @@ all_mapped : {A B : Type 0} (P : B → Type 0) (f : A → B) (xs : List A) → A
 all_mapped P f [] h = tt
 all_mapped P f (x ∷ xs) h = (h.0, all_mapped P f xs h.1)
 
-all_of : {A : Type 0} (P : A → Type 0) (xs : List A) → ((x : A) → P x) → AllByRecursion P xs
+pub all_of : {A : Type 0} (P : A → Type 0) (xs : List A) → ((x : A) → P x) → AllByRecursion P xs
 all_of P [] h = tt
 all_of P (x ∷ xs) h = (h x, all_of P xs h)
 

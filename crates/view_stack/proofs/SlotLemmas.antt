@@ -20,7 +20,7 @@ use Rattle.kept_tables.specs.Kept.{KeptTableValue}
 use Rattle.kept_tables.specs.declared.slot.Held.{Held as Slot}
 use Rattle.kept_tables.specs.Slots.{slot_label, table_there, tables_in}
 use Rattle.kept_tables.proofs.SlotLemmas.{either}
-use Rattle.kept_tables.proofs.ThereLemmas.{tables_more, one_there}
+use Rattle.kept_tables.proofs.ThereLemmas.{tables_joined, tables_more, one_there}
 use Rattle.schema_model.specs.Catalogue.{RelationValue, CatalogueValue, relation_value, database_value, relation_names, rows_in}
 use Rattle.schema_model.specs.Limits.{most_relations, most_attributes, most_rows}
 use Rattle.schema_model.specs.States.{CatalogueState, settled}
@@ -34,11 +34,7 @@ use Rattle.flow_law.specs.Records.{spliced, row_records}
 use Rattle.view_stack.proofs.PutLemmas.{split_at, shelves_joined, relation_takes, relation_filled}
 use Rattle.view_stack.proofs.StandsLemmas.{header_long, header_distinct, records_fit}
 
--- ---- the tables of slots, one slot after another
-tables_joined : (ss ts : List Slot) → tables_in (ss ++ ts) ≡ tables_in ss ++ tables_in ts
-tables_joined [] ts = refl
-tables_joined (s ∷ ss) ts = either s.there _ (λ e. rw e (ap (λ (us : TablesValue). (s.label, s.table.table) ∷ us) (tables_joined ss ts))) (λ e. rw e (tables_joined ss ts))
-
+-- ---- the tables of slots
 -- those before a slot, its own, and those behind it
 split_tables : (ss : List Slot) (i : ℕ) (s : Slot) → i < length ss → s ≡ get_or ss i s → tables_in ss ≡ tables_in (take i ss) ++ (tables_in (s ∷ []) ++ tables_in (drop (i + 1) ss))
 split_tables ss i s lt is =

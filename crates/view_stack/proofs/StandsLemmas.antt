@@ -1,12 +1,11 @@
 -- A relation that says what a table says is the table's, up to the order of rows and attributes.
-use Rattle.std.proofs.Common.{◌≡◌, ◌+◌, ◌∙◌, ◌<◌, ◌≤◌, ℕ, zero, suc, Bool, true, false, cond, ◌||◌, not, List, [], ◌∷◌, ◌++◌, Option, Some, None, length, map, take, drop, refl, sym, ap, arith, length-append}
-use Rattle.std.specs.Prelude.{unwrap_or, slice_get, option_and_then, position, is_some, nat_lt, sum_by, bytes_eq}
-use Rattle.std.specs.List.{list_any, position_or_len, AllByRecursion, IsDistinct}
+use Rattle.std.proofs.Common.{◌≡◌, ◌+◌, ◌∙◌, ◌≤◌, ℕ, zero, suc, Bool, true, false, cond, ◌||◌, not, List, [], ◌∷◌, ◌++◌, Option, Some, None, length, map, take, drop, refl, sym, ap, arith, length-append}
+use Rattle.std.specs.Prelude.{unwrap_or, slice_get, option_and_then, position, is_some, sum_by, bytes_eq}
+use Rattle.std.specs.List.{list_any, AllByRecursion, IsDistinct}
 use Rattle.std.specs.List.Sorted.{IsStrictlySortedBy}
 use Rattle.std.specs.Map.{lookup, keys_of}
 use Rattle.std.specs.Ordering.{is_eq}
 use Rattle.std.specs.declared.cmp.Ordering.TheVariants.{Less}
-use Rattle.std.proofs.lemmas.Bool.{lt-ltb, ltb-true}
 use Rattle.std.proofs.lemmas.List.Sums.{sum_by-cons}
 use Rattle.ss_text.specs.Texts.{Text, Row, text_eq, row_eq, text_cmp, row_cmp, is_in}
 use Rattle.ss_text.specs.Label.{is_column_label}
@@ -18,52 +17,18 @@ use Rattle.flow_law.specs.InOrder.{IsTable, AreTables}
 use Rattle.change_script.specs.Fits.{IsForm, TableFits, TablesFit}
 use Rattle.schema_model.specs.Catalogue.{RelationValue, CatalogueValue, database_value}
 use Rattle.schema_model.specs.Sound.{IsRelation, IsSound}
-use Rattle.valuation_meaning.specs.Elements.{cell_under}
 use Rattle.valuation_meaning.specs.Meaning.{given}
 use Rattle.valuation_meaning.specs.Orders.{text_under, row_under, rows_under, SameRelation, SameRelations}
+use Rattle.valuation_meaning.proofs.OrderLemmas.{bytes_same, same_bytes, same_rows, text_here, text_later}
 use Rattle.operator_law.specs.Bags.{weigh}
 use Rattle.operator_law.proofs.Weights.{weigh-append}
 use Rattle.view_stack.specs.Records.{text_of}
 use Rattle.view_stack.specs.Stands.{header, relation_for, catalogue_for, stands}
 use Rattle.flow_law.specs.Records.{spliced}
-use Rattle.view_stack.proofs.SaysLemmas.{mark, none_marked, weigh_mapped, Distinct, Says, rows_by, says_by, cell_here, cell_later, cell_missing, bytes_same, same_bytes, same_rows, halves, in_append, and_second, not_true, one_more}
+use Rattle.view_stack.proofs.SaysLemmas.{mark, none_marked, weigh_mapped, Distinct, Says, rows_by, says_by, cell_here, cell_later, cell_missing, halves, in_append, and_second, not_true}
 use Rattle.view_stack.proofs.MovedLemmas.{AreSaid, whole}
 
 -- ---- texts under names are cells
-abbrev cell_or : Bool → Text → Option Text
-cell_or true t = Some t
-cell_or false t = None
-
-pub first_there : (n : ℕ) → nat_lt 0 (suc n) ≡ true
-first_there n = lt-ltb 0 (suc n) (omega arith)
-
-pub both_true : (a b : Bool) → (a ≡ true → b ≡ true) → (b ≡ true → a ≡ true) → a ≡ b
-both_true true true f g = refl
-both_true true false f g = sym (f refl)
-both_true false true f g = g refl
-both_true false false f g = refl
-
-pub one_later : (p n : ℕ) → nat_lt (suc p) (suc n) ≡ nat_lt p n
-one_later p n = both_true (nat_lt (suc p) (suc n)) (nat_lt p n)
-    (λ h. let l : suc p < suc n = ltb-true (suc p) (suc n) h in lt-ltb p n (omega (arith, l)))
-    (λ h. let l : p < n = ltb-true p n h in lt-ltb (suc p) (suc n) (omega (arith, l)))
-
-pub next_place : (b : Bool) (p : ℕ) (cell : Text) (row : Row) → option_and_then (slice_get (cell ∷ row)) (cond b (Some (suc p)) None) ≡ option_and_then (slice_get row) (cond b (Some p) None)
-next_place true p cell row = refl
-next_place false p cell row = refl
-
-text_here : (x : Text) (ns : Row) (cell : Text) (row : Row) (a : Text) → text_eq a x ≡ true → text_under (x ∷ ns) (cell ∷ row) a ≡ cell
-text_here x ns cell row a e = ap given found
-  where
-    found : cell_under (x ∷ ns) a (cell ∷ row) ≡ Some cell
-    found = rw (e, first_there (length ns)) refl
-
-text_later : (x : Text) (ns : Row) (cell : Text) (row : Row) (a : Text) → text_eq a x ≡ false → text_under (x ∷ ns) (cell ∷ row) a ≡ text_under ns row a
-text_later x ns cell row a e = ap given found
-  where
-    found : cell_under (x ∷ ns) a (cell ∷ row) ≡ cell_under ns a row
-    found = rw (e, one_more, one_later (position_or_len (text_eq a) ns) (length ns)) (next_place (nat_lt (position_or_len (text_eq a) ns) (length ns)) (position_or_len (text_eq a) ns) cell row)
-
 no_text : (o : Option ℕ) → given (option_and_then (slice_get []) o) ≡ []
 no_text None = refl
 no_text (Some p) = refl
