@@ -5,8 +5,8 @@ ghost use Rattle.whole_sync.specs.Lists.{IsWord};
 
 use crate::listing::{Wanted, list_at};
 use crate::paths::{
-    Root, file_path, folder_path, is_beside, is_missing, is_part, list_in, new_list_in, parent_of,
-    target_of,
+    Root, file_path, folder_path, is_beside, is_part, list_in, new_list_in, parent_of, target_of,
+    text_of,
 };
 use crate::stamps::{Stamp, link_stamp_at, stamp_at};
 use crate::writing::{
@@ -236,7 +236,7 @@ impl<R: Files + AllocGlobal + Clone + Drop> RootFiles<R> {
         if self.root.is_view() {
             return Ok(());
         }
-        let name = text_of(self.rt.alloc(), root)?;
+        let name = text_of(self.rt.alloc(), root.as_bytes())?;
         for folder in list_at(&self.rt, &name, Wanted::Folders)? {
             let folder = folder_path(&folder)?;
             let path = format!(in self.rt.alloc(); "{root}/{folder}")?;
@@ -246,18 +246,11 @@ impl<R: Files + AllocGlobal + Clone + Drop> RootFiles<R> {
     }
 }
 
-fn text_of(alloc: Global, path: &str) -> Result<Text, Error> {
-    match Text::of(alloc, path.as_bytes()) {
-        Ok(text) => Ok(text),
-        Err(_) => Err(Error::from(ErrorKind::OutOfMemory)),
-    }
-}
-
 // A path as a name on a list. One with a 0 byte is a failure.
 fn word_of(alloc: Global, path: &str) -> Result<Text, Error>
     ensures { IfOk result (λ name. IsWord name) }
 {
-    let name = text_of(alloc, path)?;
+    let name = text_of(alloc, path.as_bytes())?;
     if name.as_slice().contains(&0) {
         return Err(Error::from(ErrorKind::InvalidData));
     }

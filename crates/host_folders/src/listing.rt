@@ -3,7 +3,7 @@ ghost use Rattle.std.specs.Prelude.{IfOk};
 ghost use Rattle.std.specs.List.Sorted.{IsStrictlySortedBy};
 ghost use Rattle.ss_text.specs.Texts.{text_cmp};
 
-use crate::paths::{folder_path, is_missing, is_own, leads_nowhere};
+use crate::paths::{folder_path, found, is_own, leads_nowhere, text_of};
 use ss_text::{NoMemory, Text, make_ascending};
 use std::alloc::Global;
 use std::fs::{self, DirEntry};
@@ -35,10 +35,8 @@ fn listing<R: Files + AllocGlobal + Clone + Drop>(
     folder: &str,
     wanted: Wanted,
 ) -> Result<Vec<Text>, Error> {
-    let entries = match fs::read_dir(rt, folder) {
-        Ok(entries) => entries,
-        Err(error) if is_missing(&error) => return Ok(Vec::new(rt.alloc())),
-        Err(error) => return Err(error),
+    let Some(entries) = found(fs::read_dir(rt, folder))? else {
+        return Ok(Vec::new(rt.alloc()));
     };
     let mut names = Vec::new(rt.alloc());
     for entry in entries {
@@ -67,13 +65,6 @@ fn is_wanted<R: Files + AllocGlobal + Clone + Drop>(
     }
 }
 
-fn text_of(alloc: Global, bytes: &[u8]) -> Result<Text, Error> {
-    match Text::of(alloc, bytes) {
-        Ok(text) => Ok(text),
-        Err(NoMemory) => Err(Error::from(ErrorKind::OutOfMemory)),
-    }
-}
-
 #[tactic(auto, using(std::proofs::lemmas::Map::Lookups::exact_bytes))]
 fn in_order(mut names: Vec<Text>) -> Result<Vec<Text>, Error>
     ensures { IfOk result (λ names. IsStrictlySortedBy text_cmp names.items) }
@@ -89,10 +80,8 @@ pub(crate) fn own_files<R: Files + AllocGlobal + Clone + Drop>(
     rt: &R,
     folder: &str,
 ) -> Result<Vec<String>, Error> {
-    let entries = match fs::read_dir(rt, folder) {
-        Ok(entries) => entries,
-        Err(error) if is_missing(&error) => return Ok(Vec::new(rt.alloc())),
-        Err(error) => return Err(error),
+    let Some(entries) = found(fs::read_dir(rt, folder))? else {
+        return Ok(Vec::new(rt.alloc()));
     };
     let mut paths = Vec::new(rt.alloc());
     for entry in entries {

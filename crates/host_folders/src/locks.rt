@@ -1,5 +1,5 @@
 //! Locks on files and folders, by which one program at a time writes.
-use crate::paths::is_missing;
+use crate::paths::found;
 use std::alloc::Global;
 use std::fs::{self, File, TryLockError};
 use std::io::{Error, ErrorKind};
@@ -43,10 +43,8 @@ impl Locks {
 /// The lock of the file or folder at a path. There is none where nothing lies there, and where the file system knows no
 /// locks. One that another program holds is a failure.
 pub(crate) fn lock_at<R: Files<File = File>>(rt: &R, path: &str) -> Result<Option<File>, Error> {
-    let metadata = match fs::metadata(rt, path) {
-        Ok(metadata) => metadata,
-        Err(error) if is_missing(&error) => return Ok(None),
-        Err(error) => return Err(error),
+    let Some(metadata) = found(fs::metadata(rt, path))? else {
+        return Ok(None);
     };
     if !metadata.is_file() && !metadata.is_dir() {
         return Ok(None);

@@ -1,6 +1,6 @@
 //! The paths of folders and files.
 use outside::Edit;
-use ss_text::Text;
+use ss_text::{NoMemory, Text};
 use std::alloc::Global;
 use std::fs;
 use std::io::{Error, ErrorKind};
@@ -95,9 +95,18 @@ pub(crate) fn file_path(alloc: Global, folder: &Text, file: &Text) -> Result<Str
     Ok(format!(in alloc; "{folder}/{file}")?)
 }
 
-/// Whether an error says that a folder or a file is not there.
-pub(crate) fn is_missing(error: &Error) -> bool {
+// Whether an error says that a folder or a file is not there.
+fn is_missing(error: &Error) -> bool {
     matches!(error.kind(), ErrorKind::NotFound | ErrorKind::NotADirectory)
+}
+
+/// What was found, or nothing where an error says that nothing is there.
+pub(crate) fn found<T>(result: Result<T, Error>) -> Result<Option<T>, Error> {
+    match result {
+        Ok(value) => Ok(Some(value)),
+        Err(error) if is_missing(&error) => Ok(None),
+        Err(error) => Err(error),
+    }
 }
 
 /// Whether an error says that a link leads nowhere, also in a circle or by a text that is too long.
@@ -111,10 +120,9 @@ pub(crate) fn leads_nowhere(error: &Error) -> bool {
 
 /// Whether a symbolic link stands at a path.
 pub(crate) fn is_link<R: Files>(rt: &R, path: &str) -> Result<bool, Error> {
-    match fs::symlink_metadata(rt, path) {
-        Ok(metadata) => Ok(metadata.is_symlink()),
-        Err(error) if is_missing(&error) => Ok(false),
-        Err(error) => Err(error),
+    match found(fs::symlink_metadata(rt, path))? {
+        Some(metadata) => Ok(metadata.is_symlink()),
+        None => Ok(false),
     }
 }
 
@@ -200,6 +208,14 @@ pub(crate) fn new_list_in(alloc: Global, root: &str) -> Result<String, Error> {
 /// Whether a name is one under which files are put until they are whole, or the list is.
 pub(crate) fn is_own(name: &str) -> bool {
     name.starts_with(OWN)
+}
+
+/// These bytes as a text.
+pub(crate) fn text_of(alloc: Global, bytes: &[u8]) -> Result<Text, Error> {
+    match Text::of(alloc, bytes) {
+        Ok(text) => Ok(text),
+        Err(NoMemory) => Err(Error::from(ErrorKind::OutOfMemory)),
+    }
 }
 
 /// Whether a path is one of a file that was put beside a place.

@@ -1,7 +1,7 @@
 //! What a file holds.
 ghost use Rattle.std.specs.Prelude.{◌≡◌, ◌≤◌, length, IfOk, IfSome};
 
-use crate::paths::{file_path, is_missing};
+use crate::paths::{file_path, found};
 use crate::stamps::Stamp;
 use ss_text::{NoMemory, Text};
 use std::fs::{self, File, Metadata, OpenFile};
@@ -19,13 +19,12 @@ pub(crate) fn read_at<R: Files + AllocGlobal>(
     file: &Text,
 ) -> Result<Option<(Text, Stamp)>, Error> {
     let path = file_path(rt.alloc(), folder, file)?;
-    match opened(rt, path.as_str()) {
-        Ok(file) => {
+    match found(opened(rt, path.as_str()))? {
+        Some(file) => {
             let stamp = Stamp::of(&file.metadata()?);
             Ok(Some((contents(rt, file)?, stamp)))
         }
-        Err(error) if is_missing(&error) => Ok(None),
-        Err(error) => Err(error),
+        None => Ok(None),
     }
 }
 
@@ -39,10 +38,9 @@ pub(crate) fn front_at<R: Files + AllocGlobal>(
     ensures { IfOk result (λ bytes. IfSome bytes (λ b. length b ≤ most)) }
 {
     let path = file_path(rt.alloc(), folder, file)?;
-    match opened(rt, path.as_str()) {
-        Ok(file) => Ok(Some(first_bytes(rt, file, most)?)),
-        Err(error) if is_missing(&error) => Ok(None),
-        Err(error) => Err(error),
+    match found(opened(rt, path.as_str()))? {
+        Some(file) => Ok(Some(first_bytes(rt, file, most)?)),
+        None => Ok(None),
     }
 }
 

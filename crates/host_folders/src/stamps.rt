@@ -1,5 +1,5 @@
 //! Which file was read, so that one that somebody else changed meanwhile is not written over.
-use crate::paths::is_missing;
+use crate::paths::found;
 use std::alloc::Global;
 use std::collections::{BTreeMap, BTreeSet};
 use std::fs::{self, Metadata};
@@ -36,19 +36,17 @@ impl Stamp {
 
 /// The stamp of what lies at a path, where links are followed, if something does.
 pub(crate) fn stamp_at<R: Files>(rt: &R, path: &str) -> Result<Option<Stamp>, Error> {
-    match fs::metadata(rt, path) {
-        Ok(metadata) => Ok(Some(Stamp::of(&metadata))),
-        Err(error) if is_missing(&error) => Ok(None),
-        Err(error) => Err(error),
+    match found(fs::metadata(rt, path))? {
+        Some(metadata) => Ok(Some(Stamp::of(&metadata))),
+        None => Ok(None),
     }
 }
 
 /// The stamp of what lies at a path, where links are not followed, if something does.
 pub(crate) fn link_stamp_at<R: Files>(rt: &R, path: &str) -> Result<Option<Stamp>, Error> {
-    match fs::symlink_metadata(rt, path) {
-        Ok(metadata) => Ok(Some(Stamp::of(&metadata))),
-        Err(error) if is_missing(&error) => Ok(None),
-        Err(error) => Err(error),
+    match found(fs::symlink_metadata(rt, path))? {
+        Some(metadata) => Ok(Some(Stamp::of(&metadata))),
+        None => Ok(None),
     }
 }
 

@@ -1,6 +1,6 @@
 //! Files that are put beside their places until they are whole, and what is removed.
 use crate::listing::{is_empty, own_files};
-use crate::paths::{beside_in, folder_path, is_link, is_missing, target_of};
+use crate::paths::{beside_in, folder_path, found, is_link, target_of};
 use ss_text::Text;
 use std::fs::{self, File, OpenFile, Permissions};
 use std::io::{Error, ErrorKind, Write};
@@ -103,10 +103,8 @@ fn new_file<R: Files + AllocGlobal>(
 // Who may read and write the file at a path, where one is there. A link is none, for where links are followed there is
 // none at this path.
 fn permissions_at<R: Files>(rt: &R, path: &str) -> Result<Option<Permissions>, Error> {
-    let metadata = match fs::symlink_metadata(rt, path) {
-        Ok(metadata) => metadata,
-        Err(error) if is_missing(&error) => return Ok(None),
-        Err(error) => return Err(error),
+    let Some(metadata) = found(fs::symlink_metadata(rt, path))? else {
+        return Ok(None);
     };
     if metadata.is_symlink() {
         return Ok(None);
@@ -173,10 +171,8 @@ impl Writing {
 /// What was done in a folder is on the disk. A folder that is gone has nothing to be synced, and a file system that syncs
 /// no folders does without.
 pub(crate) fn sync_folder<R: Files>(rt: &R, folder: &str) -> Result<(), Error> {
-    let file = match File::open(rt, folder) {
-        Ok(file) => file,
-        Err(error) if is_missing(&error) => return Ok(()),
-        Err(error) => return Err(error),
+    let Some(file) = found(File::open(rt, folder))? else {
+        return Ok(());
     };
     match file.sync_all() {
         Ok(()) => Ok(()),
@@ -188,11 +184,7 @@ pub(crate) fn sync_folder<R: Files>(rt: &R, folder: &str) -> Result<(), Error> {
 
 /// Removes the file at a path, and answers whether it was there.
 pub(crate) fn remove_where_there<R: Files>(rt: &R, path: &str) -> Result<bool, Error> {
-    match fs::remove_file(rt, path) {
-        Ok(()) => Ok(true),
-        Err(error) if is_missing(&error) => Ok(false),
-        Err(error) => Err(error),
-    }
+    Ok(found(fs::remove_file(rt, path))?.is_some())
 }
 
 /// Takes away what lies in a folder under names of the program's own. What cannot be taken away stays.
@@ -222,29 +214,24 @@ pub(crate) fn try_writing_in<R: Files + AllocGlobal>(
 /// Whether a folder is to be made at a path, where none is there. A path at which something lies that is no folder, as a
 /// link that leads nowhere, is a failure.
 pub(crate) fn check_makes<R: Files>(rt: &R, path: &str) -> Result<bool, Error> {
-    match fs::metadata(rt, path) {
-        Ok(metadata) if metadata.is_dir() => Ok(false),
-        Ok(_) => Err(Error::from(ErrorKind::NotADirectory)),
-        Err(error) if is_missing(&error) => {
-            if is_link(rt, path)? {
-                return Err(error);
-            }
-            Ok(true)
-        }
-        Err(error) => Err(error),
+    match found(fs::metadata(rt, path))? {
+        Some(metadata) if metadata.is_dir() => Ok(false),
+        Some(_) => Err(Error::from(ErrorKind::NotADirectory)),
+        None if is_link(rt, path)? => Err(Error::from(ErrorKind::NotFound)),
+        None => Ok(true),
     }
 }
 
 /// Makes a folder and those above it, where it is missing, and answers whether it was.
 pub(crate) fn make_folder_at<R: Files>(rt: &R, path: &str) -> Result<bool, Error> {
-    match fs::metadata(rt, path) {
-        Ok(metadata) if metadata.is_dir() => return Ok(false),
-        Ok(_) => return Err(Error::from(ErrorKind::NotADirectory)),
-        Err(error) if is_missing(&error) => {}
-        Err(error) => return Err(error),
+    match found(fs::metadata(rt, path))? {
+        Some(metadata) if metadata.is_dir() => Ok(false),
+        Some(_) => Err(Error::from(ErrorKind::NotADirectory)),
+        None => {
+            fs::create_dir_all(rt, path)?;
+            Ok(true)
+        }
     }
-    fs::create_dir_all(rt, path)?;
-    Ok(true)
 }
 
 /// Removes a folder in which nothing lies but what the program itself left there, and answers whether it was so. Of a
@@ -258,9 +245,7 @@ pub(crate) fn remove_folder_at<R: Files + AllocGlobal + Clone + Drop>(
         return Ok(is_empty(rt, path)? && remove_where_there(rt, path)?);
     }
     match fs::remove_dir(rt, path) {
-        Ok(()) => Ok(true),
-        Err(error) if is_missing(&error) => Ok(false),
         Err(error) if error.kind() == ErrorKind::DirectoryNotEmpty => Ok(false),
-        Err(error) => Err(error),
+        removed => Ok(found(removed)?.is_some()),
     }
 }
