@@ -93,11 +93,11 @@ impl FeedView {
             Outcome::Kept => self.repeat(alloc, output, source, number),
             Outcome::Early { want } => {
                 let fields = early_fields(alloc, source, want)?;
-                self.view.refuse(alloc, output, &fields)
+                self.view.refuse(alloc, output, fields)
             }
             Outcome::OtherChange => {
                 let fields = other_change_fields(alloc, source, number)?;
-                self.view.refuse(alloc, output, &fields)
+                self.view.refuse(alloc, output, fields)
             }
         }
     }
@@ -170,7 +170,7 @@ impl FeedView {
             Ok(FeedLine::Sync) => self.view.sync(alloc, store, output),
             Err(fault) => {
                 let fields = line_fault_fields(alloc, &fault)?;
-                self.view.refuse(alloc, output, &fields)
+                self.view.refuse(alloc, output, fields)
             }
         }
     }
@@ -202,7 +202,7 @@ fn tell_again<K: Sink>(
         Err(refused) => {
             let change = handled.change(alloc)?;
             let fields = reply_refused_fields(alloc, &change, refused)?;
-            view.refuse(alloc, output, &fields)
+            view.refuse(alloc, output, fields)
         }
     }
 }

@@ -64,7 +64,7 @@ pub(crate) fn open<F: Folders, K: Sink, D: Disk, L: Ledger>(
 {
     match read_definition(alloc, store, name)? {
         Understood::Refused(fields) => {
-            refuse(alloc, output, &fields)?;
+            refuse(alloc, output, fields)?;
             Ok(Opened::Ended(Verdict::BadDefinition))
         }
         Understood::Accepted(definition) => {
@@ -99,7 +99,7 @@ fn open_defined<F: Folders, K: Sink, D: Disk, L: Ledger>(
 {
     match load_sources(alloc, store)? {
         Loading::Refused(fields) => {
-            refuse(alloc, output, &fields)?;
+            refuse(alloc, output, fields)?;
             Ok(Opened::Ended(Verdict::BadCatalogue))
         }
         Loading::Catalogue(catalogue) => {
@@ -137,7 +137,7 @@ fn open_loaded<F: Folders, K: Sink, D: Disk, L: Ledger>(
         Ok(journal) => open_replayed(alloc, store, output, definition, catalogue, journal, steps),
         Err(ReplayFault::Refused(refusal)) => {
             let fields = journal_fields(alloc, refusal)?;
-            refuse(alloc, output, &fields)?;
+            refuse(alloc, output, fields)?;
             Ok(Opened::Ended(Verdict::BadCatalogue))
         }
         Err(ReplayFault::DiskFault) => Ok(Opened::HeldUp),
@@ -167,7 +167,7 @@ fn open_replayed<F: Folders, K: Sink, L: Ledger>(
 {
     match view_over(alloc, definition, catalogue, steps)? {
         Viewing::Refused(fields) => {
-            refuse(alloc, output, &fields)?;
+            refuse(alloc, output, fields)?;
             Ok(Opened::Ended(Verdict::NoView))
         }
         Viewing::View(view) => match view.fill_folder(alloc, store, output) {

@@ -157,7 +157,7 @@ impl JournalView {
     {
         match self.take_change(alloc, disk, change, steps) {
             Ok(Taken::Made(script)) => said(print_script(alloc, output, &script)),
-            Ok(Taken::Refused(fields)) => said(self.view.refuse(alloc, output, &fields)),
+            Ok(Taken::Refused(fields)) => said(self.view.refuse(alloc, output, fields)),
             Ok(Taken::Full) => Ok(Some(Verdict::JournalFull)),
             Err(stop) => Err(stop),
         }
@@ -179,7 +179,7 @@ impl JournalView {
     {
         match self.take_group(alloc, disk, steps) {
             Ok(Taken::Made(lines)) => said(print_script(alloc, output, &lines)),
-            Ok(Taken::Refused(fields)) => said(self.view.refuse_group(alloc, output, &fields)),
+            Ok(Taken::Refused(fields)) => said(self.view.refuse_group(alloc, output, fields)),
             Ok(Taken::Full) => Ok(Some(Verdict::JournalFull)),
             Err(stop) => Err(stop),
         }
@@ -231,7 +231,7 @@ impl JournalView {
         match read_line(alloc, line) {
             Ok(read) => self.row(alloc, store, output, disk, &read, steps),
             Err(LineFault::BadEscape { at }) => match escape_fields(alloc, at) {
-                Ok(fields) => said(self.view.refuse(alloc, output, &fields)),
+                Ok(fields) => said(self.view.refuse(alloc, output, fields)),
                 Err(NoMemory) => Err(LineStop::Stopped(Stop::NoMemory)),
             },
             Err(LineFault::NoMemory) => Err(LineStop::Stopped(Stop::NoMemory)),

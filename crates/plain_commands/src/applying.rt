@@ -49,7 +49,7 @@ fn open<F: Folders, K: Sink>(
 {
     match read_definition(alloc, store, name)? {
         Understood::Refused(fields) => {
-            refuse(alloc, output, &fields)?;
+            refuse(alloc, output, fields)?;
             Ok(Folder::Ended(Verdict::BadDefinition))
         }
         Understood::Accepted(definition) => {

@@ -37,7 +37,7 @@ pub fn check<F: Folders, K: Sink>(
 {
     match read_definition(alloc, store, name)? {
         Understood::Refused(fields) => {
-            refuse(alloc, output, &fields)?;
+            refuse(alloc, output, fields)?;
             Ok(Verdict::BadDefinition)
         }
         Understood::Accepted(definition) => {

@@ -260,7 +260,7 @@ impl LineHandler<NoDisk> for Applying {
         match self.take(alloc, line)? {
             None => Ok(None),
             Some(fields) => {
-                refuse(alloc, output, &fields)?;
+                refuse(alloc, output, fields)?;
                 Ok(Some(Verdict::BadCatalogue))
             }
         }

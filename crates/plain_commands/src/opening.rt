@@ -48,7 +48,7 @@ pub fn open_folder<F: Folders, K: Sink>(
         Err(TablesFault::NoMemory) => Err(Stop::NoMemory),
         Err(fault) => {
             let fields = tables_fields(alloc, &view_db, &fault)?;
-            refuse(alloc, output, &fields)?;
+            refuse(alloc, output, fields)?;
             Ok(OpenedFolder::Refused)
         }
     }

@@ -36,7 +36,7 @@ pub fn show<F: Folders, K: Sink>(
 {
     match meant_files(alloc, store, name)? {
         Meant::Refused(fields, verdict) => {
-            refuse(alloc, output, &fields)?;
+            refuse(alloc, output, fields)?;
             Ok(verdict)
         }
         Meant::Files(view_db, files) => {

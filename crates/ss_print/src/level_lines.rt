@@ -18,9 +18,9 @@ pub fn refuse_level<K: Sink>(
     alloc: Global,
     output: &mut K,
     level: usize,
-    fields: &Row,
+    fields: Row,
 ) -> Result<(), Stop>
-    ensures does { (s : _) → Does (refuses_at level fields.now) (world_of s (K.state output.old)) (world_of s (K.state output.new)) result }
+    ensures does { (s : _) → Does (refuses_at level fields) (world_of s (K.state output.old)) (world_of s (K.state output.new)) result }
     ensures blames { SinkBlames (K.state output.old) (K.state output.new) result }
 {
     name_level(alloc, output, level)?;
@@ -53,11 +53,16 @@ fn say_level<K: Sink>(alloc: Global, output: &mut K, level: usize) -> Result<(),
 
 /// Prints the lines of each level, behind its number, and how many they are together.
 #[tactic(auto, using(outside::proofs::Following::following))]
-pub fn print_scripts<K: Sink>(alloc: Global, output: &mut K, all: &[Script]) -> Result<(), Stop>
-    ensures does { (s : _) → Does (prints_scripts all.now ∷ []) (world_of s (K.state output.old)) (world_of s (K.state output.new)) result }
+pub fn print_scripts<K: Sink>(
+    alloc: Global,
+    output: &mut K,
+    all: Vec<Script>,
+) -> Result<(), Stop>
+    ensures does { (s : _) → Does (prints_scripts all.items ∷ []) (world_of s (K.state output.old)) (world_of s (K.state output.new)) result }
     ensures blames { SinkBlames (K.state output.old) (K.state output.new) result }
 {
-    let text = scripts_text(alloc, all)?;
+    let text = scripts_text(alloc, &all)?;
+    drop(all);
     print(alloc, output, text.as_slice())?;
     Ok(())
 }

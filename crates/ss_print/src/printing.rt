@@ -46,11 +46,12 @@ pub fn say<K: Sink>(alloc: Global, output: &mut K, row: &Row) -> Result<(), Stop
 
 /// Prints a refusal, its name and fields.
 #[tactic(auto, using(outside::proofs::Following::following))]
-pub fn refuse<K: Sink>(alloc: Global, output: &mut K, fields: &Row) -> Result<(), Stop>
-    ensures does { (s : _) → Does (refuses fields.now ∷ []) (world_of s (K.state output.old)) (world_of s (K.state output.new)) result }
+pub fn refuse<K: Sink>(alloc: Global, output: &mut K, fields: Row) -> Result<(), Stop>
+    ensures does { (s : _) → Does (refuses fields ∷ []) (world_of s (K.state output.old)) (world_of s (K.state output.new)) result }
     ensures blames { SinkBlames (K.state output.old) (K.state output.new) result }
 {
-    let row = refused_row(alloc, fields)?;
+    let row = refused_row(alloc, &fields)?;
+    drop(fields);
     say(alloc, output, &row)?;
     Ok(())
 }

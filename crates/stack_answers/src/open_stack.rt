@@ -166,10 +166,10 @@ impl OpenStack {
         alloc: Global,
         output: &mut K,
         level: usize,
-        fields: &Row,
+        fields: Row,
     ) -> Result<(), Stop>
-        ensures does { (s : _) → Does (refusing self.old (refused_at level fields.now)).effects (world_of s (K.state output.old)) (world_of s (K.state output.new)) result }
-        ensures stack { OnOk result (self.new ≡ (refusing self.old (refused_at level fields.now)).stack) }
+        ensures does { (s : _) → Does (refusing self.old (refused_at level fields)).effects (world_of s (K.state output.old)) (world_of s (K.state output.new)) result }
+        ensures stack { OnOk result (self.new ≡ (refusing self.old (refused_at level fields)).stack) }
         ensures blames { SinkBlames (K.state output.old) (K.state output.new) result }
     {
         let broken = self.more_broken()?;
@@ -180,9 +180,9 @@ impl OpenStack {
     }
 
     // Refuses a line before the levels are judged.
-    fn refuse<K: Sink>(&mut self, alloc: Global, output: &mut K, fields: &Row) -> Result<(), Stop>
-        ensures does { (s : _) → Does (plainly refusing self.old fields.now).effects (world_of s (K.state output.old)) (world_of s (K.state output.new)) result }
-        ensures stack { OnOk result (self.new ≡ (plainly refusing self.old fields.now).stack) }
+    fn refuse<K: Sink>(&mut self, alloc: Global, output: &mut K, fields: Row) -> Result<(), Stop>
+        ensures does { (s : _) → Does (plainly refusing self.old fields).effects (world_of s (K.state output.old)) (world_of s (K.state output.new)) result }
+        ensures stack { OnOk result (self.new ≡ (plainly refusing self.old fields).stack) }
         ensures blames { SinkBlames (K.state output.old) (K.state output.new) result }
     {
         self.refuse_at(alloc, output, 1, fields)
@@ -333,10 +333,10 @@ impl OpenStack {
         ensures rises { steps.old ≤ steps.new }
     {
         match self.take(alloc, from_ref(change), steps) {
-            Ok(all) => print_scripts(alloc, output, &all),
+            Ok(all) => print_scripts(alloc, output, all),
             Err(refused) => {
                 let refusal = change_refusal(alloc, change, refused)?;
-                self.refuse_at(alloc, output, refusal.level, &refusal.fields)
+                self.refuse_at(alloc, output, refusal.level, refusal.fields)
             }
         }
     }
@@ -381,7 +381,7 @@ impl OpenStack {
             Ok(change) => self.change(alloc, output, &change, steps),
             Err(fault) => {
                 let fields = line_refusal(alloc, row, fault)?;
-                self.refuse(alloc, output, &fields)
+                self.refuse(alloc, output, fields)
             }
         }
     }
@@ -429,7 +429,7 @@ impl OpenStack {
             Ok(row) => self.row(alloc, store, output, &row, steps),
             Err(LineFault::BadEscape { at }) => {
                 let fields = escape_fields(alloc, at)?;
-                self.refuse(alloc, output, &fields)
+                self.refuse(alloc, output, fields)
             }
             Err(LineFault::NoMemory) => Err(Stop::NoMemory),
         }

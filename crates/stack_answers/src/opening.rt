@@ -55,7 +55,7 @@ pub(crate) fn open<F: Folders, K: Sink, L: Ledger>(
 {
     match read_definitions(alloc, store, names)? {
         Defined::Refused(fields) => {
-            refuse(alloc, output, &fields)?;
+            refuse(alloc, output, fields)?;
             Ok(Opened::Ended(Verdict::BadDefinition))
         }
         Defined::Accepted(definitions) => {
@@ -86,7 +86,7 @@ fn open_views<F: Folders, K: Sink, L: Ledger>(
     match repeated_database(alloc, store.seed(), &definitions)? {
         Some(db) => {
             let fields = twice_fields(alloc, &db)?;
-            refuse(alloc, output, &fields)?;
+            refuse(alloc, output, fields)?;
             Ok(Opened::Ended(Verdict::BadDefinition))
         }
         None => {
@@ -128,7 +128,7 @@ fn open_sources<F: Folders, K: Sink, L: Ledger>(
 {
     match load_sources(alloc, store)? {
         Loading::Refused(fields) => {
-            refuse(alloc, output, &fields)?;
+            refuse(alloc, output, fields)?;
             Ok(Opened::Ended(Verdict::BadCatalogue))
         }
         Loading::Catalogue(catalogue) => {
@@ -163,7 +163,7 @@ fn open_levels<F: Folders, K: Sink, L: Ledger>(
             Ok(opened)
         }
         Err(OpenFault::Refused(refusal)) => {
-            refuse_level(alloc, output, refusal.level, &refusal.fields)?;
+            refuse_level(alloc, output, refusal.level, refusal.fields)?;
             Ok(Opened::Ended(Verdict::NoView))
         }
         Err(OpenFault::NoMemory) => Err(Stop::NoMemory),

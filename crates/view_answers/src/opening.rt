@@ -55,7 +55,7 @@ pub fn open<F: Folders, K: Sink, L: Ledger>(
 {
     match read_definition(alloc, store, name)? {
         Understood::Refused(fields) => {
-            refuse(alloc, output, &fields)?;
+            refuse(alloc, output, fields)?;
             Ok(Opened::Ended(Verdict::BadDefinition))
         }
         Understood::Accepted(definition) => {
@@ -85,7 +85,7 @@ fn open_view<F: Folders, K: Sink, L: Ledger>(
 {
     match load_sources(alloc, store)? {
         Loading::Refused(fields) => {
-            refuse(alloc, output, &fields)?;
+            refuse(alloc, output, fields)?;
             Ok(Opened::Ended(Verdict::BadCatalogue))
         }
         Loading::Catalogue(catalogue) => {
@@ -116,7 +116,7 @@ fn open_session<F: Folders, K: Sink, L: Ledger>(
 {
     match view_over(alloc, definition, catalogue, steps)? {
         Viewing::Refused(fields) => {
-            refuse(alloc, output, &fields)?;
+            refuse(alloc, output, fields)?;
             Ok(Opened::Ended(Verdict::NoView))
         }
         Viewing::View(view) => match view.fill_folder(alloc, store, output) {

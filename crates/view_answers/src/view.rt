@@ -188,10 +188,10 @@ impl OpenView {
         &mut self,
         alloc: Global,
         output: &mut K,
-        fields: &Row,
+        fields: Row,
     ) -> Result<(), Stop>
-        ensures does { (s : _) → Does (refuses fields.now ∷ []) (world_of s (K.state output.old)) (world_of s (K.state output.new)) result }
-        ensures view { OnOk result (self.new ≡ (refusing self.old fields.now).view) }
+        ensures does { (s : _) → Does (refuses fields ∷ []) (world_of s (K.state output.old)) (world_of s (K.state output.new)) result }
+        ensures view { OnOk result (self.new ≡ (refusing self.old fields).view) }
         ensures blames { SinkBlames (K.state output.old) (K.state output.new) result }
     {
         let broken = self.more_broken()?;
@@ -376,7 +376,7 @@ impl OpenView {
             Ok(script) => print_script(alloc, output, &script),
             Err(refused) => {
                 let fields = refused_fields(alloc, change, refused)?;
-                self.refuse(alloc, output, &fields)
+                self.refuse(alloc, output, fields)
             }
         }
     }
@@ -423,7 +423,7 @@ impl OpenView {
             Ok(change) => self.change(alloc, output, &change, steps),
             Err(fault) => {
                 let fields = line_refusal(alloc, row, fault)?;
-                self.refuse(alloc, output, &fields)
+                self.refuse(alloc, output, fields)
             }
         }
     }
@@ -473,7 +473,7 @@ impl OpenView {
             Ok(row) => self.row(alloc, store, output, &row, steps),
             Err(LineFault::BadEscape { at }) => {
                 let fields = escape_fields(alloc, at)?;
-                self.refuse(alloc, output, &fields)
+                self.refuse(alloc, output, fields)
             }
             Err(LineFault::NoMemory) => Err(Stop::NoMemory),
         }

@@ -42,7 +42,7 @@ impl OpenStack {
         ensures blames { SinkBlames (K.state output.old) (K.state output.new) result }
     {
         let fields = in_group_fields(alloc, row)?;
-        self.refuse(alloc, output, &fields)
+        self.refuse(alloc, output, fields)
     }
 
     // Refuses a line that stands only in a group.
@@ -58,7 +58,7 @@ impl OpenStack {
         ensures blames { SinkBlames (K.state output.old) (K.state output.new) result }
     {
         let fields = no_group_fields(alloc, row)?;
-        self.refuse(alloc, output, &fields)
+        self.refuse(alloc, output, fields)
     }
 
     // Opens a group.
@@ -111,7 +111,7 @@ impl OpenStack {
             Ok(()) => print_held(alloc, output),
             Err(refused) => {
                 let fields = held_fields(alloc, change, &refused)?;
-                self.refuse(alloc, output, &fields)
+                self.refuse(alloc, output, fields)
             }
         }
     }
@@ -149,10 +149,10 @@ impl OpenStack {
         alloc: Global,
         output: &mut K,
         level: usize,
-        fields: &Row,
+        fields: Row,
     ) -> Result<(), Stop>
-        ensures does { (s : _) → Does (giving_up self.old (refused_at level fields.now)).effects (world_of s (K.state output.old)) (world_of s (K.state output.new)) result }
-        ensures stack { OnOk result (self.new ≡ (giving_up self.old (refused_at level fields.now)).stack) }
+        ensures does { (s : _) → Does (giving_up self.old (refused_at level fields)).effects (world_of s (K.state output.old)) (world_of s (K.state output.new)) result }
+        ensures stack { OnOk result (self.new ≡ (giving_up self.old (refused_at level fields)).stack) }
         ensures blames { SinkBlames (K.state output.old) (K.state output.new) result }
     {
         refuse_level(alloc, output, level, fields)?;
@@ -163,9 +163,9 @@ impl OpenStack {
     }
 
     // Refuses a group before the levels are judged.
-    fn give_up<K: Sink>(&mut self, alloc: Global, output: &mut K, fields: &Row) -> Result<(), Stop>
-        ensures does { (s : _) → Does (plainly giving_up self.old fields.now).effects (world_of s (K.state output.old)) (world_of s (K.state output.new)) result }
-        ensures stack { OnOk result (self.new ≡ (plainly giving_up self.old fields.now).stack) }
+    fn give_up<K: Sink>(&mut self, alloc: Global, output: &mut K, fields: Row) -> Result<(), Stop>
+        ensures does { (s : _) → Does (plainly giving_up self.old fields).effects (world_of s (K.state output.old)) (world_of s (K.state output.new)) result }
+        ensures stack { OnOk result (self.new ≡ (plainly giving_up self.old fields).stack) }
         ensures blames { SinkBlames (K.state output.old) (K.state output.new) result }
     {
         self.give_up_at(alloc, output, 1, fields)
@@ -189,10 +189,10 @@ impl OpenStack {
         let taken = self.take(alloc, draft.changes(), steps);
         drop(draft);
         match taken {
-            Ok(all) => print_scripts(alloc, output, &all),
+            Ok(all) => print_scripts(alloc, output, all),
             Err(refused) => {
                 let refusal = level_refusal(refused)?;
-                self.give_up_at(alloc, output, refusal.level, &refusal.fields)
+                self.give_up_at(alloc, output, refusal.level, refusal.fields)
             }
         }
     }
@@ -215,7 +215,7 @@ impl OpenStack {
             return self.make_group(alloc, output, steps);
         }
         let fields = group_broken_fields(alloc, self.broken)?;
-        self.give_up(alloc, output, &fields)
+        self.give_up(alloc, output, fields)
     }
 
     // Answers `begin` alone.
@@ -335,7 +335,7 @@ impl OpenStack {
             return self.word_alone(alloc, store, output, row, word, steps);
         }
         let fields = line_fields(alloc, row, ChangeFault::FieldCount { got })?;
-        self.refuse(alloc, output, &fields)
+        self.refuse(alloc, output, fields)
     }
 
     // Refuses an open group at the end of the input.
@@ -348,7 +348,7 @@ impl OpenStack {
         match self.held() {
             Some(changes) => {
                 let fields = open_group_fields(alloc, changes)?;
-                self.give_up(alloc, output, &fields)
+                self.give_up(alloc, output, fields)
             }
             None => Ok(()),
         }

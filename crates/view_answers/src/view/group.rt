@@ -42,7 +42,7 @@ impl OpenView {
         ensures blames { SinkBlames (K.state output.old) (K.state output.new) result }
     {
         let fields = in_group_fields(alloc, row)?;
-        self.refuse(alloc, output, &fields)
+        self.refuse(alloc, output, fields)
     }
 
     /// Refuses a line that stands only in a group.
@@ -58,7 +58,7 @@ impl OpenView {
         ensures blames { SinkBlames (K.state output.old) (K.state output.new) result }
     {
         let fields = no_group_fields(alloc, row)?;
-        self.refuse(alloc, output, &fields)
+        self.refuse(alloc, output, fields)
     }
 
     // Opens a group.
@@ -93,7 +93,7 @@ impl OpenView {
             Ok(()) => print_held(alloc, output),
             Err(refused) => {
                 let fields = held_fields(alloc, change, &refused)?;
-                self.refuse(alloc, output, &fields)
+                self.refuse(alloc, output, fields)
             }
         }
     }
@@ -118,9 +118,9 @@ impl OpenView {
         &mut self,
         alloc: Global,
         output: &mut K,
-        fields: &Row,
+        fields: Row,
     ) -> Result<(), Stop>
-        ensures does { (s : _) → Does (refuses fields.now ∷ []) (world_of s (K.state output.old)) (world_of s (K.state output.new)) result }
+        ensures does { (s : _) → Does (refuses fields ∷ []) (world_of s (K.state output.old)) (world_of s (K.state output.new)) result }
         ensures view { OnOk result (self.new ≡ record { session = self.old.session; synced = self.old.synced; refused = true; broken = 0 }) }
         ensures blames { SinkBlames (K.state output.old) (K.state output.new) result }
     {
@@ -136,11 +136,11 @@ impl OpenView {
         &mut self,
         alloc: Global,
         output: &mut K,
-        fields: &Row,
+        fields: Row,
     ) -> Result<(), Stop>
         requires { is_some self.old.session.held ≡ true }
-        ensures does { (s : _) → Does (giving_up self.old fields.now).effects (world_of s (K.state output.old)) (world_of s (K.state output.new)) result }
-        ensures view { OnOk result (self.new ≡ (giving_up self.old fields.now).view) }
+        ensures does { (s : _) → Does (giving_up self.old fields).effects (world_of s (K.state output.old)) (world_of s (K.state output.new)) result }
+        ensures view { OnOk result (self.new ≡ (giving_up self.old fields).view) }
         ensures blames { SinkBlames (K.state output.old) (K.state output.new) result }
     {
         self.session.abort_group();
@@ -169,7 +169,7 @@ impl OpenView {
             }
             Err(fault) => {
                 let fields = fault_fields(alloc, fault)?;
-                self.refuse_group(alloc, output, &fields)
+                self.refuse_group(alloc, output, fields)
             }
         }
     }
@@ -192,7 +192,7 @@ impl OpenView {
             return self.make_group(alloc, output, steps);
         }
         let fields = group_broken_fields(alloc, self.broken)?;
-        self.give_up(alloc, output, &fields)
+        self.give_up(alloc, output, fields)
     }
 
     /// Answers `begin` alone.
@@ -325,7 +325,7 @@ impl OpenView {
             return self.word_alone(alloc, store, output, row, word, steps);
         }
         let fields = line_fields(alloc, row, ChangeFault::FieldCount { got })?;
-        self.refuse(alloc, output, &fields)
+        self.refuse(alloc, output, fields)
     }
 
     /// Refuses an open group at the end of the input.
@@ -338,7 +338,7 @@ impl OpenView {
         match self.session.held() {
             Some(changes) => {
                 let fields = open_group_fields(alloc, changes)?;
-                self.give_up(alloc, output, &fields)
+                self.give_up(alloc, output, fields)
             }
             None => Ok(()),
         }

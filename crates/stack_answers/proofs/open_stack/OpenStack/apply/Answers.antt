@@ -1,4 +1,4 @@
-use Rattle.std.proofs.Common.{◌≡◌, ◌∙◌, ◌∷◌, [], rules}
+use Rattle.std.proofs.Common.{◌≡◌, ◌∷◌, [], rules}
 use Rattle.stack_answers.proofs.AnswerLemmas.{taken_does, refused_does}
 use Rattle.stack_answers.proofs.open_stack.OpenStack.apply.Goals as goal
 
@@ -6,7 +6,7 @@ pub returns-in-Ok-clause-does : goal.returns-in-Ok-clause-does
 returns-in-Ok-clause-does g c =
     let alone : c.from_ref.result.now ≡ c.args.change.now ∷ [] = search rules in
     let took = rw alone at c.in-Ok.ensures in
-    λ s. taken_does _ _ _ c.args.self.now c.args.change.now c.deref.result.now c.requires.closed took.accepted took.unrefused (c.deref.ensures.value ∙ took.lines) (c.print_scripts.ensures.does s)
+    λ s. taken_does _ _ _ c.args.self.now c.args.change.now c.in-Ok.all.items c.requires.closed took.accepted took.unrefused took.lines (c.print_scripts.ensures.does s)
 
 pub returns-in_ok-refusal-in-Err-clause-does : goal.returns-in_ok-refusal-in-Err-clause-does
 returns-in_ok-refusal-in-Err-clause-does g c =

@@ -7,7 +7,7 @@ pub returns-in-Ok-clause-does : goal.returns-in-Ok-clause-does
 returns-in-Ok-clause-does g c =
     let gs = c.changes.ensures ∙ c.close-draft.ensures.changes in
     let took = rw gs at c.in-Ok.ensures in
-    λ s. made_does _ _ _ c.args.self.now c.close-draft.new.self (unwrap_or c.args.self.now.held []) c.deref.result.now c.close-draft.ensures.stack took.unrefused (c.deref.ensures.value ∙ took.lines) (c.print_scripts.ensures.does s)
+    λ s. made_does _ _ _ c.args.self.now c.close-draft.new.self (unwrap_or c.args.self.now.held []) c.in-Ok.all.items c.close-draft.ensures.stack took.unrefused took.lines (c.print_scripts.ensures.does s)
 
 pub returns-in_ok-refusal-in-Err-clause-does : goal.returns-in_ok-refusal-in-Err-clause-does
 returns-in_ok-refusal-in-Err-clause-does g c =
