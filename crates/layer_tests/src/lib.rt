@@ -1,6 +1,7 @@
 //! Worked rows of the layers beside the engine: the language, lines and scripts, changes that wait, the objects in memory,
 //! records as they are read and written, catalogues that are loaded and saved, feeds over a small thing that takes changes
-//! in two steps, and journals, with every image that a crash may leave of a small group.
+//! in two steps, syncs that are stopped at each of their calls, and journals, with every image that a crash may leave of a
+//! small group.
 //!
 //! It has tests alone, so that none of these layers is proved again with them. What they want comes from outside, never from
 //! the program. A function that owns something large does its work over a borrow, and lets go once.
@@ -23,6 +24,8 @@ mod prints;
 mod scripts;
 #[cfg(test)]
 mod sources;
+#[cfg(test)]
+mod syncs;
 #[cfg(test)]
 mod tables;
 #[cfg(test)]

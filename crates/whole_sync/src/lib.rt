@@ -19,8 +19,6 @@
 mod file_calls;
 mod moves;
 mod sync;
-#[cfg(test)]
-mod tests;
 mod words;
 
 pub use file_calls::FileCalls;

@@ -4,11 +4,11 @@ ghost use Rattle.std.specs.Prelude.{◌≡◌, ◌≤◌, IfOk, OnErr};
 ghost use Rattle.outside.specs.Counts.{Rose};
 ghost use Rattle.whole_sync.specs.Lists.{IsWord};
 
-use crate::{FileCalls, recover, replace};
 use outside::{Edit, StoreFault};
 use ss_text::Text;
 use std::alloc::Global;
 use std::collections::{BTreeMap, BTreeSet};
+use whole_sync::{FileCalls, recover, replace};
 
 // More calls than one sync makes.
 const MOST: u64 = 40;
