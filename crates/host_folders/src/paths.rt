@@ -101,8 +101,8 @@ fn is_missing(error: &Error) -> bool {
 }
 
 /// What was found, or nothing where an error says that nothing is there.
-pub(crate) fn found<T>(result: Result<T, Error>) -> Result<Option<T>, Error> {
-    match result {
+pub(crate) fn found<T>(answer: Result<T, Error>) -> Result<Option<T>, Error> {
+    match answer {
         Ok(value) => Ok(Some(value)),
         Err(error) if is_missing(&error) => Ok(None),
         Err(error) => Err(error),
