@@ -53,11 +53,7 @@ fn say_level<K: Sink>(alloc: Global, output: &mut K, level: usize) -> Result<(),
 
 /// Prints the lines of each level, behind its number, and how many they are together.
 #[tactic(auto, using(outside::proofs::Following::following))]
-pub fn print_scripts<K: Sink>(
-    alloc: Global,
-    output: &mut K,
-    all: Vec<Script>,
-) -> Result<(), Stop>
+pub fn print_scripts<K: Sink>(alloc: Global, output: &mut K, all: Vec<Script>) -> Result<(), Stop>
     ensures does { (s : _) → Does (prints_scripts all.items ∷ []) (world_of s (K.state output.old)) (world_of s (K.state output.new)) result }
     ensures blames { SinkBlames (K.state output.old) (K.state output.new) result }
 {

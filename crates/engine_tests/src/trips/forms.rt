@@ -1,9 +1,9 @@
 //! What trips by sessions come to, over relations by chance.
 use crate::chance::Chance;
-use crate::trips::{Outcome, Trip, comes_to};
 use crate::trips::relations::{
     as_columns, as_tables, as_values, has_clash, has_no_column, has_no_label, said_by,
 };
+use crate::trips::{Outcome, Trip, comes_to};
 use std::alloc::Global;
 use std::test::Fail;
 
