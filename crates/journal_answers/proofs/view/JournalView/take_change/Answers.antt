@@ -20,8 +20,8 @@ returns-in-Ok-false-clause-took g c =
     change_full (record { session = c.view.inside.session; synced = c.view.inside.synced.items; refused = c.view.inside.some_refused; broken = c.view.inside.broken }) c.args.self.now.view c.args.self.now.journal c.view.view_is c.args.change.now c.requires.alone
     c.from_ref.result.now c.in-Ok-false.field-0 c.in-Ok.ensures.accepted c.from_ref.ensures.value c.in-Ok-false.field-0-test c.in-Ok-false.ensures.room
 
-pub returns-in-Ok-clause-keeps : goal.returns-in-Ok-clause-keeps
-returns-in-Ok-clause-keeps g c = λ es leaves.
+pub returns-in-Err-settle-clause-keeps : goal.returns-in-Err-settle-clause-keeps
+returns-in-Err-settle-clause-keeps g c = λ es leaves.
     kept_stopped g.D.Disk.state g.D.Disk.left_since c.args.self.now.journal.end es c.from_ref.result.now _ c.args.disk.now c.settle.new.disk c.in-Err-settle.stop
     (change_made (record { session = c.view.inside.session; synced = c.view.inside.synced.items; refused = c.view.inside.some_refused; broken = c.view.inside.broken }) c.args.self.now.view c.args.self.now.journal c.view.view_is c.args.change.now c.requires.alone c.from_ref.result.now c.in-Ok.ensures.accepted c.from_ref.ensures.value)
     (c.in-Err-settle.ensures.keeps es leaves)
@@ -37,5 +37,5 @@ returns-in-Ok-refused_fields-clause-keeps g c = λ es leaves.
     (change_unmade (record { session = c.view.inside.session; synced = c.view.inside.synced.items; refused = c.view.inside.some_refused; broken = c.view.inside.broken }) c.args.self.now.view c.args.self.now.journal c.view.view_is c.args.change.now c.requires.alone c.in-Err.refused c.in-Ok-refused_fields.fields c.in-Err.ensures.refused c.in-Ok-refused_fields.ensures)
     leaves
 
-pub returns-clause-keeps : goal.returns-clause-keeps
-returns-clause-keeps g c = λ es leaves. lacked_first (log_of g.D.Disk.state g.D.Disk.left_since) es _ c.args.disk.now _ leaves
+pub returns-in-Err-refused_fields-clause-keeps : goal.returns-in-Err-refused_fields-clause-keeps
+returns-in-Err-refused_fields-clause-keeps g c = λ es leaves. lacked_first (log_of g.D.Disk.state g.D.Disk.left_since) es _ c.args.disk.now _ leaves
