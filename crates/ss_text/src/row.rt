@@ -14,9 +14,16 @@ use std::marker::Model;
 
 /// A list of texts, which contracts see as the list of their lists of bytes. Equality, order and hash are
 /// those of the list, a prefix being less.
-#[derive(Clone, Debug, Drop)]
+#[derive(Clone, Debug)]
 pub struct Row {
     texts: Vec<Text>,
+}
+
+impl Drop for Row {
+    fn drop(self) {
+        let Row { texts } = self;
+        drop(texts);
+    }
 }
 
 impl Model for Row {

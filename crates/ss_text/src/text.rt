@@ -16,10 +16,17 @@ use std::marker::Model;
 
 /// A byte string, which contracts see as the list of its bytes. Equality, order and hash are those of
 /// the bytes, a prefix being less.
-#[derive(Clone, Debug, Drop)]
+#[derive(Clone, Debug)]
 pub struct Text {
     alloc: Global,
     held: Held,
+}
+
+impl Drop for Text {
+    fn drop(self) {
+        let Text { alloc: _, held } = self;
+        drop(held);
+    }
 }
 
 // The vector is boxed, so that a text takes 24 bytes: most texts are short, and there are many.

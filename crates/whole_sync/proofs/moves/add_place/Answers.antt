@@ -6,6 +6,6 @@ use Rattle.whole_sync.proofs.moves.add_place.Goals as goal
 
 pub returns-in_ok-insert-in-Write-clause-ok : goal.returns-in_ok-insert-in-Write-clause-ok
 returns-in_ok-insert-in-Write-clause-ok c = λ es all among.
-    place_added es c.in-Write.folder c.in-Write.file c.in-Write.bytes c.args.places.now.keys c.insert-in-Write.new.self.keys
+    place_added es c.in-Write.folder c.in-Write.file c.in-Write.bytes c.args.places.now.keys c.insert.new.self.keys
     (rw (c.in_ok-copy-in-Write.ensures, c.in_ok-copy-in-Write-2.ensures) at c.in_ok-insert-in-Write.ensures.keys) all
     (subst (λ (e : Edit). Contains es e) c.in-Write.is among)
