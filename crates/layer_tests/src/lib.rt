@@ -14,6 +14,8 @@ mod feeds;
 #[cfg(test)]
 mod journals;
 #[cfg(test)]
+mod lines;
+#[cfg(test)]
 mod names;
 #[cfg(test)]
 mod objects;
@@ -24,6 +26,8 @@ mod prints;
 mod scripts;
 #[cfg(test)]
 mod sources;
+#[cfg(test)]
+mod spellings;
 #[cfg(test)]
 mod syncs;
 #[cfg(test)]

@@ -71,24 +71,16 @@ impl Model for Lines {
 }
 
 impl Lines {
-    ghost use Rattle.tab_lines.specs.Taking.{Answers, Reads, TakesPiece, IsNextOf, IsWithinLimit, is_ready, ahead, most_taken};
+    ghost use Rattle.tab_lines.specs.Taking.{Answers, Reads, TakesPiece, IsNextOf, IsWithinLimit, is_ready, ahead};
 
     /// A reader that took nothing yet.
     pub fn new(alloc: Global) -> Result<Lines, NoMemory>
         ensures { IfOk result (λ lines. lines ≡ record { taken = 0; left = []; ended = false }) }
     {
-        Lines::after(alloc, 0)
-    }
-
-    // A reader that took and answered so many bytes.
-    fn after(alloc: Global, taken: u64) -> Result<Lines, NoMemory>
-        requires { taken ≤ most_taken }
-        ensures { IfOk result (λ lines. lines ≡ record { taken = taken; left = []; ended = false }) }
-    {
         Ok(Lines {
             held: Vec::new(alloc),
             window: Window::new(alloc)?,
-            taken,
+            taken: 0,
             ended: false,
         })
     }
@@ -208,6 +200,3 @@ fn hold(held: &mut Vec<u8>, window: &mut Window, n: usize) -> Result<(), NoMemor
     window.pass(n);
     Ok(())
 }
-
-#[cfg(test)]
-mod tests;

@@ -1,27 +1,8 @@
-//! Lines of inputs that are cut, fail or do not end.
-use super::{Lines, MOST_TAKEN, Next, ReadStop};
-use outside::{Failed, MemSource, Source, SureSource};
+//! Lines of inputs that are cut or fail.
+use outside::{MemSource, Source, SureSource};
 use ss_text::{NoMemory, Text};
 use std::alloc::Global;
-
-/// A source of LFs without end.
-#[derive(Drop)]
-struct Feeds;
-
-impl Source for Feeds {
-    ghost use Rattle.std.specs.Prelude.{None};
-
-    ghost rest = { λ _. None };
-
-    ghost last = { λ _. None };
-
-    ghost faults = { λ _. 0 };
-
-    fn read(&mut self, into: &mut [u8]) -> Result<usize, Failed> {
-        into.fill(b'\n');
-        Ok(into.len())
-    }
-}
+use tab_lines::{Lines, Next, ReadStop};
 
 // The bytes, in pieces of so many.
 fn cut(alloc: Global, bytes: &[u8], size: usize) -> Result<Vec<Text>, NoMemory> {
@@ -77,22 +58,6 @@ fn bytes_stay_after_a_fault(rt: HostRuntime) -> Result<(), NoMemory> {
             read.as_ref().map(|text| text.as_slice()),
             line.as_ref().copied()
         );
-    }
-    Ok(())
-}
-
-#[test]
-fn an_input_is_too_long(rt: HostRuntime) -> Result<(), NoMemory> {
-    let alloc = rt.alloc();
-    let mut lines = Lines::after(alloc, MOST_TAKEN - 2)?;
-    let empty = Ok(Text::of(alloc, b"")?);
-    for line in [
-        &empty,
-        &empty,
-        &Err(ReadStop::TooLong),
-        &Err(ReadStop::TooLong),
-    ] {
-        assert_eq!(rt; next(alloc, &mut lines, &mut Feeds), *line);
     }
     Ok(())
 }
