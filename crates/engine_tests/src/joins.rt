@@ -5,7 +5,6 @@ ghost use Rattle.ss_text.specs.Texts.{Row as RowValue};
 ghost use Rattle.operator_law.specs.Bags.{all_signed};
 
 use crate::flat::{fields, lines};
-use flow_law::EvalFault;
 use join_delta::{Join, KeyPlaces};
 use operator_law::{Delta, Kept, Operator, Signed};
 use ss_text::{NoMemory, Row, Seed, Steps};
@@ -204,7 +203,7 @@ fn moves<L: Ledger>(
     join: &Join,
     change: &(Delta, Delta),
     blank: Blank,
-) -> Result<Delta, EvalFault>
+) -> Result<Delta, NoMemory>
     requires name { blank.name ≡ L.name }
     requires parts { blank.parts ≡ L.parts }
     requires some { 0 < L.parts }
@@ -214,7 +213,7 @@ fn moves<L: Ledger>(
 }
 
 // What the change moves in the join, each a line, sorted.
-fn shown(alloc: Global, join: &Join, change: &(Delta, Delta)) -> Result<Vec<u8>, EvalFault> {
+fn shown(alloc: Global, join: &Join, change: &(Delta, Delta)) -> Result<Vec<u8>, NoMemory> {
     let delta = moves::<Brand>(alloc, join, change, Blank::new(1))?;
     let shown = lines(alloc, slice::from_ref(&delta));
     drop(delta);
@@ -222,14 +221,14 @@ fn shown(alloc: Global, join: &Join, change: &(Delta, Delta)) -> Result<Vec<u8>,
 }
 
 // Whether the moves move just these rows of the join.
-fn is_joined(alloc: Global, joined: &Joined) -> Result<bool, EvalFault> {
+fn is_joined(alloc: Global, joined: &Joined) -> Result<bool, NoMemory> {
     let join = kept(alloc, joined.left, joined.right)?;
     let same = is_joined_in(alloc, &join, joined);
     drop(join);
     same
 }
 
-fn is_joined_in(alloc: Global, join: &Join, joined: &Joined) -> Result<bool, EvalFault> {
+fn is_joined_in(alloc: Global, join: &Join, joined: &Joined) -> Result<bool, NoMemory> {
     let change = deltas(alloc, joined)?;
     let shown = shown(alloc, join, &change);
     drop(change);
@@ -237,7 +236,7 @@ fn is_joined_in(alloc: Global, join: &Join, joined: &Joined) -> Result<bool, Eva
 }
 
 #[test]
-fn moves_of_both_sides_move_a_join(rt: HostRuntime) -> Result<(), EvalFault> {
+fn moves_of_both_sides_move_a_join(rt: HostRuntime) -> Result<(), NoMemory> {
     for joined in &JOINED {
         assert!(rt;
             is_joined(rt.alloc(), joined)?,

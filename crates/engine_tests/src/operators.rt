@@ -1,9 +1,8 @@
 //! Two signed rows through each operator, by hand.
 ghost use Rattle.std.specs.Prelude.{◌≡◌, ◌<◌, IfOk, All, length};
 
-use flow_law::EvalFault;
 use operator_law::{Delta, Operator, Signed};
-use other_operators::{Project, Select, Side, Then};
+use other_operators::{EitherFault, Project, Select, Side, Then};
 use ss_text::{NoMemory, Row, Steps, Text};
 use std::alloc::Global;
 use std::marker::Brand;
@@ -57,7 +56,7 @@ fn show(delta: &Delta, out: &mut Vec<u8>) -> Result<(), NoMemory> {
     Ok(())
 }
 
-fn second_then_differing<L: Ledger>(alloc: Global, blank: Blank) -> Result<Delta, EvalFault>
+fn second_then_differing<L: Ledger>(alloc: Global, blank: Blank) -> Result<Delta, NoMemory>
     requires name { blank.name ≡ L.name }
     requires parts { blank.parts ≡ L.parts }
     requires some { 0 < L.parts }
@@ -73,11 +72,13 @@ fn second_then_differing<L: Ledger>(alloc: Global, blank: Blank) -> Result<Delta
     };
     let change = change(alloc)?;
     let mut steps = Steps::<L>::of(blank);
-    let out = operator.prepare(alloc, &(), &change, &mut steps)?;
-    Ok(out)
+    match operator.prepare(alloc, &(), &change, &mut steps) {
+        Ok(out) => Ok(out),
+        Err(EitherFault::First(fault) | EitherFault::Second(fault)) => Err(fault),
+    }
 }
 
-fn equal_beside_first<L: Ledger>(alloc: Global, blank: Blank) -> Result<(Delta, Delta), EvalFault>
+fn equal_beside_first<L: Ledger>(alloc: Global, blank: Blank) -> Result<(Delta, Delta), NoMemory>
     requires name { blank.name ≡ L.name }
     requires parts { blank.parts ≡ L.parts }
     requires some { 0 < L.parts }
@@ -95,15 +96,17 @@ fn equal_beside_first<L: Ledger>(alloc: Global, blank: Blank) -> Result<(Delta, 
     let right = change(alloc)?;
     let both = (left, right);
     let mut steps = Steps::<L>::of(blank);
-    let out = operator.prepare(alloc, &((), ()), &both, &mut steps)?;
-    Ok(out)
+    match operator.prepare(alloc, &((), ()), &both, &mut steps) {
+        Ok(out) => Ok(out),
+        Err(EitherFault::First(fault) | EitherFault::Second(fault)) => Err(fault),
+    }
 }
 
-fn one_after_the_other(alloc: Global) -> Result<Delta, EvalFault> {
+fn one_after_the_other(alloc: Global) -> Result<Delta, NoMemory> {
     second_then_differing::<Brand>(alloc, Blank::new(1))
 }
 
-fn side_by_side(alloc: Global) -> Result<(Delta, Delta), EvalFault> {
+fn side_by_side(alloc: Global) -> Result<(Delta, Delta), NoMemory> {
     equal_beside_first::<Brand>(alloc, Blank::new(1))
 }
 
@@ -117,7 +120,7 @@ fn written(alloc: Global, through: &Delta, beside: &(Delta, Delta)) -> Result<Ve
     Ok(out)
 }
 
-fn shown(alloc: Global) -> Result<Vec<u8>, EvalFault> {
+fn shown(alloc: Global) -> Result<Vec<u8>, NoMemory> {
     let through = one_after_the_other(alloc)?;
     let beside = side_by_side(alloc)?;
     let out = written(alloc, &through, &beside)?;

@@ -5,7 +5,6 @@ ghost use Rattle.ss_text.specs.Texts.{is_in};
 ghost use Rattle.fold_op.specs.Sheets.{FitsSheet};
 
 use crate::flat::{fields, lines};
-use flow_law::EvalFault;
 use fold_op::{Fold, Pick, Sheet, SheetChange};
 use operator_law::{Delta, Operator};
 use ss_text::{NoMemory, Row, Steps, Text};
@@ -358,7 +357,7 @@ fn moves<S: Sheet, L: Ledger>(
     by: By,
     wanted: &'static str,
     steps: &mut Steps<L>,
-) -> Result<Delta, EvalFault>
+) -> Result<Delta, NoMemory>
     requires { FitsSheet change.now (S.attributes sheet.now, placed_rows (S.placed sheet.now)) }
 {
     let wanted = fields(alloc, wanted)?;
@@ -384,7 +383,7 @@ fn page_moves<L: Ledger>(
     change: &SheetChange,
     shifted: &Shifted,
     blank: Blank,
-) -> Result<Delta, EvalFault>
+) -> Result<Delta, NoMemory>
     requires fits { FitsSheet change.now (page.now.0, placed_rows page.now.1) }
     requires name { blank.name ≡ L.name }
     requires parts { blank.parts ≡ L.parts }
@@ -400,7 +399,7 @@ fn born_moves<L: Ledger>(
     change: &SheetChange,
     by: By,
     blank: Blank,
-) -> Result<Delta, EvalFault>
+) -> Result<Delta, NoMemory>
     requires fits { FitsSheet change.now (absent.now.0, placed_rows absent.now.1) }
     requires name { blank.name ≡ L.name }
     requires parts { blank.parts ≡ L.parts }
@@ -416,7 +415,7 @@ fn shown(
     page: &Page,
     change: &SheetChange,
     shifted: &Shifted,
-) -> Result<Option<Vec<u8>>, EvalFault> {
+) -> Result<Option<Vec<u8>>, NoMemory> {
     if !fits(page, change) {
         return Ok(None);
     }
@@ -427,14 +426,14 @@ fn shown(
 }
 
 // Whether a change moves just these rows.
-fn is_shifted(alloc: Global, shifted: &Shifted) -> Result<bool, EvalFault> {
+fn is_shifted(alloc: Global, shifted: &Shifted) -> Result<bool, NoMemory> {
     let page = full_page(alloc)?;
     let same = is_shifted_in(alloc, &page, shifted);
     drop(page);
     same
 }
 
-fn is_shifted_in(alloc: Global, page: &Page, shifted: &Shifted) -> Result<bool, EvalFault> {
+fn is_shifted_in(alloc: Global, page: &Page, shifted: &Shifted) -> Result<bool, NoMemory> {
     let change = change(alloc, shifted.shift)?;
     let shown = shown(alloc, page, &change, shifted);
     drop(change);
@@ -460,7 +459,7 @@ fn birth(alloc: Global) -> Result<SheetChange, NoMemory>
 }
 
 // How many rows an absent sheet moves once it is there.
-fn born(alloc: Global, by: By) -> Result<usize, EvalFault> {
+fn born(alloc: Global, by: By) -> Result<usize, NoMemory> {
     let birth = birth(alloc)?;
     let absent = no_sheet(alloc);
     let delta = born_moves::<Brand>(alloc, &absent, &birth, by, Blank::new(1));
@@ -470,7 +469,7 @@ fn born(alloc: Global, by: By) -> Result<usize, EvalFault> {
 }
 
 // The moves of the first change that makes others.
-fn first_other(alloc: Global) -> Result<Option<&'static str>, EvalFault> {
+fn first_other(alloc: Global) -> Result<Option<&'static str>, NoMemory> {
     for shifted in &SHIFTED {
         if !is_shifted(alloc, shifted)? {
             return Ok(Some(shifted.moves));
@@ -480,14 +479,14 @@ fn first_other(alloc: Global) -> Result<Option<&'static str>, EvalFault> {
 }
 
 // How many rows a sheet that is born brings, alone and with each name.
-fn born_of_both(alloc: Global) -> Result<(usize, usize), EvalFault> {
+fn born_of_both(alloc: Global) -> Result<(usize, usize), NoMemory> {
     let alone = born(alloc, By::Pick)?;
     let named = born(alloc, By::Fold)?;
     Ok((alone, named))
 }
 
 #[test]
-fn changes_move_what_sheets_give(rt: HostRuntime) -> Result<(), EvalFault> {
+fn changes_move_what_sheets_give(rt: HostRuntime) -> Result<(), NoMemory> {
     let other = first_other(rt.alloc())?;
     assert_eq!(rt; other, None);
     let born = born_of_both(rt.alloc())?;

@@ -1,12 +1,11 @@
 -- Cells of attributes that a change leaves.
-use Rattle.std.proofs.Common.{◌≡◌, ℕ, zero, suc, ◌+◌, ◌<◌, List, [], ◌∷◌, ◌++◌, Bool, true, false, cond, refl, arith, ap, sym, ◌∙◌, map, length, ◌&&◌, ◌||◌, not, subst}
-use Rattle.std.specs.Prelude.{remove, slice_set, slice_index_or, bytes_eq}
-use Rattle.std.specs.List.{list_any, list_all, AllByRecursion, IsDistinct, position_or_len}
+use Rattle.std.proofs.Common.{◌≡◌, ℕ, zero, suc, ◌+◌, [], ◌∷◌, ◌++◌, Bool, true, false, refl, arith, sym, ◌∙◌, length, ◌&&◌, ◌||◌, subst}
+use Rattle.std.specs.Prelude.{remove, slice_set, bytes_eq}
+use Rattle.std.specs.List.{AllByRecursion, IsDistinct}
 use Rattle.std.proofs.lemmas.Slice.Eq.{bytes_eq-Decides}
 use Rattle.std.proofs.lemmas.Map.Keys.{IsDistinct-head, IsDistinct-tail}
 use Rattle.ss_text.specs.Texts.{Text, Row, text_eq, is_in}
-use Rattle.fold_op.specs.Cells.{has_all, place_of, places_of, cell_at, picked}
-use Rattle.operator_law.specs.Rows.{cells_at}
+use Rattle.fold_op.specs.Cells.{has_all, place_of, cell_at, picked}
 
 -- the cell of an attribute
 abbrev pub cell_of : Row → Row → Text → Text

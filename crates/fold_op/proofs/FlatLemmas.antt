@@ -1,18 +1,16 @@
 -- How changes of a sheet move what it gives.
-use Rattle.std.proofs.Common.{◌≡◌, ℕ, zero, suc, ◌+◌, ◌<◌, List, [], ◌∷◌, ◌++◌, Bool, true, false, cond, refl, arith, ap, sym, ◌∙◌, map, length, ◌&&◌, not}
-use Rattle.std.specs.Prelude.{remove, slice_set, slice_index_or, bytes_eq, IsTrue}
-use Rattle.std.specs.List.{flat_map, zip, list_any, list_all, AllByRecursion, IsDistinct}
+use Rattle.std.proofs.Common.{◌≡◌, ℕ, ◌+◌, List, [], ◌∷◌, ◌++◌, true, false, cond, refl, arith, ap, sym, ◌∙◌, map, length, ◌&&◌}
+use Rattle.std.specs.Prelude.{remove, slice_set, bytes_eq, IsTrue}
+use Rattle.std.specs.List.{list_any, AllByRecursion, IsDistinct}
 use Rattle.ss_text.specs.Texts.{Text, Row, row_eq, is_in}
-use Rattle.operator_law.specs.declared.delta.Signed.{Signed}
 use Rattle.fold_op.specs.declared.change.SheetChange.{SheetChange}
 use Rattle.fold_op.specs.declared.change.SheetChange.TheVariants.{Up, Down, Add, Drop, Rename, Born, Gone}
-use Rattle.operator_law.specs.Bags.{weigh, come, go, MovesBag, signed, all_signed, less_first}
-use Rattle.fold_op.specs.Sheets.{SheetValue, sheet_after, IsSheet, FitsSheet, with_last, less_place, absent}
-use Rattle.operator_law.proofs.Weights.{weigh-append, weigh-push, weigh-map, weigh-flat_map, weigh-same, weigh-same_where, weigh-plus, weigh-none}
+use Rattle.operator_law.specs.Bags.{weigh, MovesBag, all_signed, less_first}
+use Rattle.fold_op.specs.Sheets.{SheetValue, sheet_after, IsSheet, FitsSheet, with_last, less_place}
+use Rattle.operator_law.proofs.Weights.{weigh-push, weigh-map, weigh-same, weigh-none}
 use Rattle.operator_law.proofs.SignedRows.{come-up, go-up, come-down, go-down, stays, all_come, all_go, moves_on, weigh-less_first}
-use Rattle.fold_op.specs.Cells.{has_all, place_of, places_of, cell_at, picked}
-use Rattle.operator_law.specs.Rows.{cells_at}
-use Rattle.fold_op.specs.Flat.{pick_value, pick_moves, replaced, entry, entries, column, fold_value, fold_moves}
+use Rattle.fold_op.specs.Cells.{has_all, picked}
+use Rattle.fold_op.specs.Flat.{pick_value, pick_moves, replaced}
 use Rattle.fold_op.proofs.CellLemmas.{cell_more, cell_less, cell_renamed, same_cells, has_more, has_less, and_both}
 
 -- what is given row by row

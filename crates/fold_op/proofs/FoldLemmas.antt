@@ -1,17 +1,16 @@
 -- How changes of a sheet move what `Fold` gives.
-use Rattle.std.proofs.Common.{◌≡◌, ℕ, zero, suc, ◌+◌, ◌<◌, List, [], ◌∷◌, ◌++◌, Bool, true, false, cond, refl, arith, ap, sym, ◌∙◌, map, length, ◌&&◌, not}
-use Rattle.std.specs.Prelude.{remove, slice_set, slice_index_or, bytes_eq, IsTrue}
-use Rattle.std.specs.List.{flat_map, zip, list_any, list_all, AllByRecursion, IsDistinct}
+use Rattle.std.proofs.Common.{◌≡◌, ℕ, zero, suc, ◌+◌, ◌<◌, List, [], ◌∷◌, ◌++◌, true, false, cond, refl, arith, ap, sym, ◌∙◌, map, length, ◌&&◌}
+use Rattle.std.specs.Prelude.{remove, slice_set, bytes_eq}
+use Rattle.std.specs.List.{flat_map, zip, AllByRecursion, IsDistinct}
 use Rattle.std.proofs.Math.Seq.{get_or-append_seam}
-use Rattle.ss_text.specs.Texts.{Text, Row, row_eq, is_in}
+use Rattle.ss_text.specs.Texts.{Text, Row, is_in}
 use Rattle.fold_op.specs.declared.change.SheetChange.{SheetChange}
 use Rattle.fold_op.specs.declared.change.SheetChange.TheVariants.{Up, Down, Add, Drop, Rename, Born, Gone}
-use Rattle.operator_law.specs.Bags.{weigh, come, go, MovesBag, signed, all_signed, less_first}
-use Rattle.fold_op.specs.Sheets.{SheetValue, sheet_after, IsSheet, FitsSheet, with_last, less_place, absent}
-use Rattle.operator_law.proofs.Weights.{weigh-append, weigh-push, weigh-map, weigh-flat_map, weigh-same, weigh-same_where, weigh-plus, weigh-none}
-use Rattle.operator_law.proofs.SignedRows.{come-up, go-up, come-down, go-down, come-append, go-append, stays, all_come, all_go, moves_on}
-use Rattle.fold_op.specs.Cells.{has_all, place_of, places_of, cell_at, picked}
-use Rattle.operator_law.specs.Rows.{cells_at}
+use Rattle.operator_law.specs.Bags.{weigh, come, MovesBag, all_signed}
+use Rattle.fold_op.specs.Sheets.{SheetValue, sheet_after, IsSheet, FitsSheet, with_last, less_place}
+use Rattle.operator_law.proofs.Weights.{weigh-append, weigh-map, weigh-flat_map, weigh-same, weigh-same_where, weigh-plus, weigh-none}
+use Rattle.operator_law.proofs.SignedRows.{come-up, go-up, come-down, go-down, come-append, go-append, stays, all_come, all_go}
+use Rattle.fold_op.specs.Cells.{has_all, places_of, cell_at, picked}
 use Rattle.fold_op.specs.Flat.{replaced, entry, entries, column, fold_value, fold_moves}
 use Rattle.fold_op.proofs.CellLemmas.{cell_more, cell_less, cell_renamed, same_cells, has_more, has_less, and_both}
 use Rattle.fold_op.proofs.FlatLemmas.{Fit, row_comes, row_goes, replaces}

@@ -1,5 +1,5 @@
 -- What a sheet gives, and how its changes move it.
-use Rattle.std.specs.Prelude.{ℕ, Bool, true, false, cond, ◌&&◌, List, [], ◌∷◌, ◌++◌, map, remove, slice_set, length}
+use Rattle.std.specs.Prelude.{ℕ, true, false, cond, ◌&&◌, List, [], ◌∷◌, ◌++◌, map, remove, slice_set, length}
 use Rattle.std.specs.List.{flat_map, zip}
 use Rattle.ss_text.specs.Texts.{Text, Row}
 use Rattle.operator_law.specs.declared.delta.Signed.{Signed}

@@ -1,5 +1,6 @@
 //! Changes of a sheet.
-use operator_law::{Moves, Rows};
+use flow_law::Moves;
+use operator_law::Rows;
 use ss_text::{Row, Text};
 
 /// A change of a sheet.

@@ -11,7 +11,6 @@ use crate::entries::{column_rows, push_entries};
 use crate::header::{borrowed, renamed, with_last, with_text, without};
 use crate::moves::replaced;
 use crate::{Sheet, SheetChange, rows_of};
-use flow_law::EvalFault;
 use operator_law::{Delta, Operator};
 use ss_text::{NoMemory, Row, Steps, Text};
 use std::alloc::Global;
@@ -39,7 +38,6 @@ impl<S: Sheet> Fold<S> {
 }
 
 impl<S: Sheet> Operator for Fold<S> {
-    ghost use Rattle.flow_law.specs.declared.refused.EvalFault.TheVariants.{NoMemory};
     ghost use Rattle.schema_model.specs.Placed.{placed_rows};
     ghost use Rattle.fold_op.specs.Sheets.{FitsSheet};
     ghost use Rattle.fold_op.specs.Flat.{fold_value, fold_moves};
@@ -50,6 +48,8 @@ impl<S: Sheet> Operator for Fold<S> {
 
     type Output = Delta;
 
+    type Fault = NoMemory;
+
     ghost value = { λ s x. fold_value s.wanted x };
 
     ghost stands_for = { λ s i x. x ≡ (S.attributes i, placed_rows (S.placed i)) };
@@ -58,7 +58,7 @@ impl<S: Sheet> Operator for Fold<S> {
 
     ghost gives = { λ s i g o. o ≡ fold_moves s.wanted (S.attributes i, placed_rows (S.placed i)) g };
 
-    ghost may_stop = { λ s i g e. e ≡ NoMemory };
+    ghost may_stop = { λ s i g e. Unit {0} };
 
     ghost is_bound = { λ s i g n. Unit {0} };
 
@@ -68,7 +68,7 @@ impl<S: Sheet> Operator for Fold<S> {
         input: &S,
         change: &SheetChange,
         steps: &mut Steps<L>,
-    ) -> Result<Delta, EvalFault> {
+    ) -> Result<Delta, NoMemory> {
         let delta = fold_moves(alloc, &self.wanted, input, change)?;
         Ok(delta)
     }

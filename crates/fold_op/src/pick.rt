@@ -9,7 +9,6 @@ use crate::cells::{cells_at, has_all, places_of};
 use crate::header::{borrowed, renamed, with_last, with_text, without};
 use crate::moves::replaced;
 use crate::{Sheet, SheetChange, rows_of};
-use flow_law::EvalFault;
 use operator_law::{Delta, Operator};
 use ss_text::{NoMemory, Row, Steps, Text};
 use std::alloc::Global;
@@ -36,7 +35,6 @@ impl<S: Sheet> Pick<S> {
 }
 
 impl<S: Sheet> Operator for Pick<S> {
-    ghost use Rattle.flow_law.specs.declared.refused.EvalFault.TheVariants.{NoMemory};
     ghost use Rattle.schema_model.specs.Placed.{placed_rows};
     ghost use Rattle.fold_op.specs.Sheets.{FitsSheet};
     ghost use Rattle.fold_op.specs.Flat.{pick_value, pick_moves};
@@ -47,6 +45,8 @@ impl<S: Sheet> Operator for Pick<S> {
 
     type Output = Delta;
 
+    type Fault = NoMemory;
+
     ghost value = { λ s x. pick_value s.wanted x };
 
     ghost stands_for = { λ s i x. x ≡ (S.attributes i, placed_rows (S.placed i)) };
@@ -55,7 +55,7 @@ impl<S: Sheet> Operator for Pick<S> {
 
     ghost gives = { λ s i g o. o ≡ pick_moves s.wanted (S.attributes i, placed_rows (S.placed i)) g };
 
-    ghost may_stop = { λ s i g e. e ≡ NoMemory };
+    ghost may_stop = { λ s i g e. Unit {0} };
 
     ghost is_bound = { λ s i g n. Unit {0} };
 
@@ -65,7 +65,7 @@ impl<S: Sheet> Operator for Pick<S> {
         input: &S,
         change: &SheetChange,
         steps: &mut Steps<L>,
-    ) -> Result<Delta, EvalFault> {
+    ) -> Result<Delta, NoMemory> {
         let delta = pick_moves(alloc, &self.wanted, input, change)?;
         Ok(delta)
     }

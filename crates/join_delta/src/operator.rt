@@ -6,7 +6,6 @@ ghost use Rattle.join_delta.specs.Joined.{matches, joined, joined_moves, pairs_r
 use crate::Join;
 use crate::pairs::pairs;
 use crate::products::Keyed;
-use flow_law::EvalFault;
 use operator_law::{Delta, Operator};
 use ss_text::{NoMemory, Steps};
 use std::alloc::Global;
@@ -40,13 +39,13 @@ impl Join {
 }
 
 impl Operator for Join {
-    ghost use Rattle.flow_law.specs.declared.refused.EvalFault.TheVariants.{NoMemory};
-
     type Input = ();
 
     type Change = (Delta, Delta);
 
     type Output = Delta;
+
+    type Fault = NoMemory;
 
     ghost value = { λ j x. joined (matches j.left_key j.right_key) x.0 x.1 };
 
@@ -56,7 +55,7 @@ impl Operator for Join {
 
     ghost gives = { λ j i g o. SameBag o (joined_moves (matches j.left_key j.right_key) j.left j.right g.0 g.1) };
 
-    ghost may_stop = { λ j i g stop. stop ≡ NoMemory };
+    ghost may_stop = { λ j i g stop. Unit {0} };
 
     ghost is_bound = { λ j i g n. pairs_right (matches j.left_key j.right_key) j.right g.0 + pairs_left (matches j.left_key j.right_key) j.left g.1 ≤ n };
 
@@ -66,7 +65,7 @@ impl Operator for Join {
         input: &(),
         change: &(Delta, Delta),
         steps: &mut Steps<L>,
-    ) -> Result<Delta, EvalFault> {
+    ) -> Result<Delta, NoMemory> {
         let delta = self.moves(alloc, change, steps)?;
         Ok(delta)
     }

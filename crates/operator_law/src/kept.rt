@@ -2,7 +2,8 @@
 ghost use Rattle.std.specs.Prelude.{◌≡◌, [], List, IfOk, MatchResult, Some, None};
 ghost use Rattle.ss_text.specs.Texts.{Row as RowValue};
 
-use crate::{Delta, Moves, Operator};
+use crate::{Delta, Operator};
+use flow_law::Moves;
 use ss_text::NoMemory;
 use std::alloc::Global;
 

@@ -1,22 +1,22 @@
 //! What an operator promises.
 ghost use Rattle.std.specs.Prelude.{◌≡◌, ◌+◌, ◌≤◌, ℕ, IfOk, IfErr};
 
-use crate::Moves;
-use flow_law::EvalFault;
+use flow_law::Moves;
 use ss_text::Steps;
 use std::alloc::Global;
 use std::sync::ledger::Ledger;
 
 /// What has a value on a whole thing, and says how a change of the thing moves the value.
 pub trait Operator {
-    ghost use Rattle.flow_law.specs.declared.refused.EvalFault.{EvalFault};
-
     /// What an operator that keeps nothing is given of the thing.
     type Input;
 
     type Change: Moves;
 
     type Output: Moves + Drop;
+
+    /// Why `prepare` may stop: `NoMemory` where the operator refuses nothing.
+    type Fault: Drop;
 
     // The value on a whole thing.
     ghost value: { Self → Self.Change.Thing → Self.Output.Thing };
@@ -30,8 +30,8 @@ pub trait Operator {
     // What `prepare` may answer.
     ghost gives: { Self → Self.Input → Self.Change → Self.Output → Type 0 };
 
-    // Why `prepare` may stop.
-    ghost may_stop: { Self → Self.Input → Self.Change → EvalFault → Type 0 };
+    // The faults with which `prepare` may stop.
+    ghost may_stop: { Self → Self.Input → Self.Change → Self.Fault → Type 0 };
 
     // That `prepare` takes at most so many steps.
     ghost is_bound: { Self → Self.Input → Self.Change → ℕ → Type 0 };
@@ -43,7 +43,7 @@ pub trait Operator {
         input: &Self::Input,
         change: &Self::Change,
         steps: &mut Steps<L>,
-    ) -> Result<Self::Output, EvalFault>
+    ) -> Result<Self::Output, Self::Fault>
         requires { can_prepare self.now input.now change.now }
         ensures law { IfOk result (λ out. (x y : Self.Change.Thing) → stands_for self.now input.now x → Self.Change.moves x change.now y
             → Self.Output.moves (value self.now x) out (value self.now y)) }

@@ -4,7 +4,8 @@ ghost use Rattle.ss_text.specs.Texts.{Row as RowValue};
 ghost use Rattle.operator_law.specs.Bags.{MovesBag, MovesCounts};
 ghost use Rattle.operator_law.specs.declared.delta.Signed.{Signed as SignedValue};
 
-use crate::{Delta, Moves};
+use crate::Delta;
+use flow_law::Moves;
 use ss_text::Row;
 use std::marker::Model;
 

@@ -1,2 +1,3 @@
 pub mod BagFields
 pub mod RowCounts
+pub mod Faults

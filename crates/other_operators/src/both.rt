@@ -1,11 +1,17 @@
 //! Two operators, one after the other and side by side.
 ghost use Rattle.std.specs.Prelude.{◌≡◌, ◌+◌, ◌≤◌, ℕ, IfOk, IfErr, ◌⊎◌};
 
-use flow_law::EvalFault;
 use operator_law::Operator;
 use ss_text::Steps;
 use std::alloc::Global;
 use std::sync::ledger::Ledger;
+
+/// A fault of one of two operators.
+#[derive(Debug, Drop)]
+pub enum EitherFault<A, B> {
+    First(A),
+    Second(B),
+}
 
 /// Gives the output of `first` to `second`. Where `second` keeps its input, it keeps the value of `first`.
 #[derive(Debug, Drop)]
@@ -15,11 +21,15 @@ pub struct Then<A, B> {
 }
 
 impl<A: Operator, B: Operator<Input = (), Change = A::Output>> Operator for Then<A, B> {
+    ghost use Rattle.other_operators.specs.Faults.{MatchFault};
+
     type Input = A::Input;
 
     type Change = A::Change;
 
     type Output = B::Output;
+
+    type Fault = EitherFault<A::Fault, B::Fault>;
 
     ghost value = { λ t x. B.value t.second (A.value t.first x) };
 
@@ -29,7 +39,7 @@ impl<A: Operator, B: Operator<Input = (), Change = A::Output>> Operator for Then
 
     ghost gives = { λ t i g o. (m : A.Output) × A.gives t.first i g m × B.gives t.second tt m o };
 
-    ghost may_stop = { λ t i g s. A.may_stop t.first i g s ⊎ ((m : A.Output) × A.gives t.first i g m × B.may_stop t.second tt m s) };
+    ghost may_stop = { λ t i g s. MatchFault (A.may_stop t.first i g) (λ e. (m : A.Output) × A.gives t.first i g m × B.may_stop t.second tt m e) s };
 
     ghost is_bound = { λ t i g n. (a : ℕ) × (b : ℕ) × A.is_bound t.first i g a × ((m : A.Output) → A.gives t.first i g m → B.is_bound t.second tt m b) × (n ≡ a + b) };
 
@@ -39,9 +49,15 @@ impl<A: Operator, B: Operator<Input = (), Change = A::Output>> Operator for Then
         input: &A::Input,
         change: &A::Change,
         steps: &mut Steps<L>,
-    ) -> Result<B::Output, EvalFault> {
-        let between = self.first.prepare(alloc, input, change, steps)?;
-        self.second.prepare(alloc, &(), &between, steps)
+    ) -> Result<B::Output, EitherFault<A::Fault, B::Fault>> {
+        let between = match self.first.prepare(alloc, input, change, steps) {
+            Ok(between) => between,
+            Err(fault) => return Err(EitherFault::First(fault)),
+        };
+        match self.second.prepare(alloc, &(), &between, steps) {
+            Ok(output) => Ok(output),
+            Err(fault) => Err(EitherFault::Second(fault)),
+        }
     }
 }
 
@@ -53,11 +69,15 @@ pub struct Side<A, B> {
 }
 
 impl<A: Operator, B: Operator> Operator for Side<A, B> {
+    ghost use Rattle.other_operators.specs.Faults.{MatchFault};
+
     type Input = (A::Input, B::Input);
 
     type Change = (A::Change, B::Change);
 
     type Output = (A::Output, B::Output);
+
+    type Fault = EitherFault<A::Fault, B::Fault>;
 
     ghost value = { λ s x. (A.value s.left x.0, B.value s.right x.1) };
 
@@ -67,7 +87,7 @@ impl<A: Operator, B: Operator> Operator for Side<A, B> {
 
     ghost gives = { λ s i g o. A.gives s.left i.0 g.0 o.0 × B.gives s.right i.1 g.1 o.1 };
 
-    ghost may_stop = { λ s i g e. A.may_stop s.left i.0 g.0 e ⊎ B.may_stop s.right i.1 g.1 e };
+    ghost may_stop = { λ s i g e. MatchFault (A.may_stop s.left i.0 g.0) (B.may_stop s.right i.1 g.1) e };
 
     ghost is_bound = { λ s i g n. (a : ℕ) × (b : ℕ) × A.is_bound s.left i.0 g.0 a × B.is_bound s.right i.1 g.1 b × (n ≡ a + b) };
 
@@ -77,9 +97,14 @@ impl<A: Operator, B: Operator> Operator for Side<A, B> {
         input: &(A::Input, B::Input),
         change: &(A::Change, B::Change),
         steps: &mut Steps<L>,
-    ) -> Result<(A::Output, B::Output), EvalFault> {
-        let left = self.left.prepare(alloc, &input.0, &change.0, steps)?;
-        let right = self.right.prepare(alloc, &input.1, &change.1, steps)?;
-        Ok((left, right))
+    ) -> Result<(A::Output, B::Output), EitherFault<A::Fault, B::Fault>> {
+        let left = match self.left.prepare(alloc, &input.0, &change.0, steps) {
+            Ok(left) => left,
+            Err(fault) => return Err(EitherFault::First(fault)),
+        };
+        match self.right.prepare(alloc, &input.1, &change.1, steps) {
+            Ok(right) => Ok((left, right)),
+            Err(fault) => Err(EitherFault::Second(fault)),
+        }
     }
 }

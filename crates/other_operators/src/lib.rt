@@ -11,6 +11,6 @@ mod project;
 mod select;
 
 pub use bag::{Bag, BagReady};
-pub use both::{Side, Then};
+pub use both::{EitherFault, Side, Then};
 pub use project::{Project, cells_at};
 pub use select::Select;

@@ -2,8 +2,8 @@
 ghost use Rattle.std.specs.Prelude.{◌≡◌, ◌+◌, ◌≤◌, ◌<◌, ℕ, IfOk, IfErr, All, map, length};
 ghost use Rattle.operator_law.specs.Rows.{cells_at, projected};
 
-use flow_law::EvalFault;
-use operator_law::{Delta, Moves, Operator, Signed};
+use flow_law::Moves;
+use operator_law::{Delta, Operator, Signed};
 use ss_text::{NoMemory, Row, Steps};
 use std::alloc::Global;
 use std::sync::ledger::Ledger;
@@ -41,13 +41,13 @@ impl Project {
 }
 
 impl Operator for Project {
-    ghost use Rattle.flow_law.specs.declared.refused.EvalFault.TheVariants.{NoMemory};
-
     type Input = ();
 
     type Change = Delta;
 
     type Output = Delta;
+
+    type Fault = NoMemory;
 
     ghost value = { λ s x. map (cells_at s.places.items) x };
 
@@ -57,7 +57,7 @@ impl Operator for Project {
 
     ghost gives = { λ s i g o. o ≡ projected s.places.items g };
 
-    ghost may_stop = { λ s i g e. e ≡ NoMemory };
+    ghost may_stop = { λ s i g e. Unit {0} };
 
     ghost is_bound = { λ s i g n. Unit {0} };
 
@@ -68,10 +68,10 @@ impl Operator for Project {
         input: &(),
         change: &Delta,
         steps: &mut Steps<L>,
-    ) -> Result<Delta, EvalFault> {
+    ) -> Result<Delta, NoMemory> {
         match self.projected(alloc, change) {
             Ok(delta) => Ok(delta),
-            Err(NoMemory) => Err(EvalFault::NoMemory),
+            Err(fault) => Err(fault),
         }
     }
 }

@@ -2,8 +2,8 @@
 ghost use Rattle.std.specs.Prelude.{◌≡◌, ◌+◌, ◌≤◌, ◌<◌, ℕ, IfOk, IfErr, All, filter, length};
 ghost use Rattle.operator_law.specs.Rows.{passes, filtered};
 
-use flow_law::EvalFault;
-use operator_law::{Delta, Moves, Operator, Signed};
+use flow_law::Moves;
+use operator_law::{Delta, Operator, Signed};
 use ss_text::{NoMemory, Row, Steps};
 use std::alloc::Global;
 use std::sync::ledger::Ledger;
@@ -42,13 +42,13 @@ impl Select {
 }
 
 impl Operator for Select {
-    ghost use Rattle.flow_law.specs.declared.refused.EvalFault.TheVariants.{NoMemory};
-
     type Input = ();
 
     type Change = Delta;
 
     type Output = Delta;
+
+    type Fault = NoMemory;
 
     ghost value = { λ s x. filter (passes s.left s.op_equal s.right) x };
 
@@ -58,7 +58,7 @@ impl Operator for Select {
 
     ghost gives = { λ s i g o. o ≡ filtered (passes s.left s.op_equal s.right) g };
 
-    ghost may_stop = { λ s i g e. e ≡ NoMemory };
+    ghost may_stop = { λ s i g e. Unit {0} };
 
     ghost is_bound = { λ s i g n. Unit {0} };
 
@@ -69,10 +69,10 @@ impl Operator for Select {
         input: &(),
         change: &Delta,
         steps: &mut Steps<L>,
-    ) -> Result<Delta, EvalFault> {
+    ) -> Result<Delta, NoMemory> {
         match self.filtered(alloc, change) {
             Ok(delta) => Ok(delta),
-            Err(NoMemory) => Err(EvalFault::NoMemory),
+            Err(fault) => Err(fault),
         }
     }
 }

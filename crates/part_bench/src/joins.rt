@@ -97,7 +97,7 @@ fn moves<L: Ledger>(
     let mut steps = Steps::<L>::of(blank);
     match join.prepare(alloc, &(), change, &mut steps) {
         Ok(delta) => Ok(delta.moves.len()),
-        Err(_) => Err(NoMemory),
+        Err(fault) => Err(fault),
     }
 }
 

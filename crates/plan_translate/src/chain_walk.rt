@@ -38,7 +38,7 @@ fn joined<L: Ledger>(
 {
     match join.prepare(alloc, &(), change, steps) {
         Ok(delta) => Ok(delta),
-        Err(_) => Err(NoMemory),
+        Err(fault) => Err(fault),
     }
 }
 

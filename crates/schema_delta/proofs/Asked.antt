@@ -1,5 +1,5 @@
 -- What a change that is not refused asks of the relation that it names.
-use Rattle.std.proofs.Common.{◌≡◌, ◌<◌, ◌∙◌, Some, None, ap, length, subst, true, false, IsTrue}
+use Rattle.std.proofs.Common.{◌≡◌, ◌<◌, ◌∙◌, Some, None, ap, length, subst, true, false}
 use Rattle.std.specs.Prelude.{option_and_then}
 use Rattle.std.specs.List.{list_any, position_or_len}
 use Rattle.ss_text.specs.Texts.{Text, Row, row_eq, text_eq, is_in}

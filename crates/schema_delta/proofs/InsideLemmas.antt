@@ -1,11 +1,10 @@
 -- How attributes move.
-use Rattle.std.proofs.Common.{◌≡◌, ℕ, zero, suc, ◌+◌, ◌<◌, List, [], ◌∷◌, ◌++◌, Bool, true, false, cond, refl, arith, ap, sym, ◌∙◌, map, length, get_or}
+use Rattle.std.proofs.Common.{◌≡◌, ℕ, zero, suc, ◌+◌, ◌<◌, [], ◌∷◌, ◌++◌, true, false, arith, ap, length, get_or}
 use Rattle.std.specs.Prelude.{remove, slice_set}
 use Rattle.ss_text.specs.Texts.{Text, Row}
-use Rattle.operator_law.specs.declared.delta.Signed.{Signed}
 use Rattle.schema_delta.specs.Flat.{names_of}
-use Rattle.operator_law.specs.Bags.{weigh, come, go, MovesBag, signed}
-use Rattle.operator_law.proofs.Weights.{weigh-append, weigh-map, weigh-remove, weigh-push}
+use Rattle.operator_law.specs.Bags.{weigh, MovesBag, signed}
+use Rattle.operator_law.proofs.Weights.{weigh-map, weigh-remove, weigh-push}
 
 pub attribute_comes : (ns : Row) (name : Text) → MovesBag (names_of ns) (signed true (name ∷ []) ∷ []) (names_of (ns ++ name ∷ []))
 attribute_comes ns name f =

@@ -4,7 +4,7 @@ use Rattle.std.specs.Prelude.{nat_lt}
 use Rattle.std.specs.List.{list_all, AllByRecursion}
 use Rattle.ss_text.specs.Texts.{Row}
 use Rattle.operator_law.specs.declared.delta.Signed.{Signed}
-use Rattle.operator_law.specs.Bags.{weigh, is, come, go, all_signed}
+use Rattle.operator_law.specs.Bags.{weigh, is, all_signed}
 use Rattle.operator_law.proofs.Weights.{weigh-append}
 use Rattle.operator_law.proofs.Counts.{moves_from_counts}
 use Rattle.operator_law.proofs.SignedRows.{come-append, go-append, come-up, go-up, come-down, go-down}

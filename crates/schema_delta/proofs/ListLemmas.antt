@@ -1,8 +1,7 @@
 -- Lists of which one element changes, comes or goes.
-use Rattle.std.proofs.Common.{◌≡◌, ℕ, ◌+◌, List, [], ◌∷◌, ◌++◌, Bool, true, false, cond, not, refl, arith, ap, sym, ◌∙◌, map, filter, find, Option, Some, None, subst}
+use Rattle.std.proofs.Common.{◌≡◌, ℕ, ◌+◌, List, [], ◌∷◌, ◌++◌, true, false, cond, not, refl, arith, ap, sym, ◌∙◌, map, filter, find, Some, None, subst}
 use Rattle.std.specs.List.{flat_map, AllByRecursion}
 use Rattle.std.specs.List.Sorted.{IsStrictlySortedBy}
-use Rattle.std.specs.declared.cmp.Ordering.{Ordering}
 use Rattle.std.specs.declared.cmp.Ordering.TheVariants.{Less, Equal, Greater}
 use Rattle.std.specs.Ordering.{is_eq}
 use Rattle.ss_text.specs.Texts.{Text, Row, text_cmp, text_eq}
@@ -11,7 +10,7 @@ use Rattle.ss_text.specs.Places.{changed_where}
 use Rattle.ss_text.proofs.KeyLemmas.{text_order, equal_is}
 use Rattle.operator_law.specs.declared.delta.Signed.{Signed}
 use Rattle.operator_law.specs.Bags.{weigh, MovesBag, all_signed}
-use Rattle.operator_law.proofs.Weights.{weigh-append, weigh-flat_map}
+use Rattle.operator_law.proofs.Weights.{weigh-append}
 use Rattle.operator_law.proofs.SignedRows.{come-up, go-up, come-down, go-down}
 
 -- other rows stay beside those that move

@@ -1,8 +1,8 @@
 -- A change of one row moves the flat rows by what the row contributes, in every catalogue where the relation has its attributes.
-use Rattle.std.proofs.Common.{◌≡◌, ◌<◌, ◌≤◌, ◌+◌, ℕ, List, [], ◌∷◌, ◌++◌, Bool, true, false, cond, refl, ap, sym, ◌∙◌, find, map, length, drop, get_or, suc, add-one, drop-cons, Option, Some, None, subst, arith, IsTrue}
+use Rattle.std.proofs.Common.{◌≡◌, ◌<◌, ◌≤◌, ◌+◌, ℕ, List, [], ◌∷◌, ◌++◌, Bool, true, false, cond, refl, ap, sym, ◌∙◌, find, map, length, drop, get_or, suc, add-one, drop-cons, Option, Some, None, subst, IsTrue}
 use Rattle.std.specs.Prelude.{option_map, option_and_then, ◌&&◌}
-use Rattle.std.specs.List.{AllByRecursion, list_all, list_any}
-use Rattle.ss_text.specs.Texts.{Text, Row, text_eq, row_eq}
+use Rattle.std.specs.List.{list_all}
+use Rattle.ss_text.specs.Texts.{Text, Row, text_eq}
 use Rattle.ss_text.specs.Places.{changed_where}
 use Rattle.ss_text.proofs.KeyLemmas.{text_order, equal_is}
 use Rattle.view_def.specs.declared.typed.Place.TheVariants.{Fixed, Var}
@@ -19,8 +19,8 @@ use Rattle.fold_op.proofs.FlatLemmas.{pick_law}
 use Rattle.fold_op.proofs.FoldLemmas.{fold_law}
 use Rattle.unite_op.specs.NamedThings.{rows_behind, moves_behind}
 use Rattle.unite_op.proofs.UniteLemmas.{moves_rows_behind, signed_behind}
-use Rattle.schema_model.specs.Catalogue.{RelationValue, DatabaseValue, CatalogueValue, relation_value, database_of, relation_in, relation_of, with_row}
-use Rattle.schema_model.specs.Changes.{after, after_all, at_database, at_relation, at_relation_in, less_row, is_well_formed}
+use Rattle.schema_model.specs.Catalogue.{RelationValue, DatabaseValue, CatalogueValue, database_of, relation_in, relation_of, with_row}
+use Rattle.schema_model.specs.Changes.{after, after_all, at_relation, at_relation_in, less_row}
 use Rattle.schema_model.specs.Refusals.{fault}
 use Rattle.schema_model.specs.Sound.{IsSound, IsDatabase, IsRelation}
 use Rattle.schema_model.specs.declared.change.Change.{Change}
@@ -31,7 +31,7 @@ use Rattle.schema_delta.specs.Flat.{flat, part, inside, goes_over, sheet_of, cha
 use Rattle.schema_delta.specs.OneRow.{is_of_rows, header_of, SameHeaders, is_over_rows, row_part}
 use Rattle.schema_delta.specs.declared.spec.FlatSpec.{FlatSpec}
 use Rattle.schema_delta.proofs.FlatLaw.{part_moved, part_stays, changed_law, found_both, found_holds}
-use Rattle.schema_delta.proofs.Asked.{stands, there, insert_fits, delete_fits}
+use Rattle.schema_delta.proofs.Asked.{stands, insert_fits, delete_fits}
 use Rattle.schema_delta.proofs.GroupLemmas.{IsLeft, can_make, one_made, all_made}
 
 -- a row that comes, or goes

@@ -106,7 +106,7 @@ fn pick_change<L: Ledger>(
     let pick = Pick::<Relation>::new(wanted.copy()?);
     match pick.prepare(alloc, relation, change, steps) {
         Ok(delta) => Ok(delta),
-        Err(_) => Err(NoMemory),
+        Err(fault) => Err(fault),
     }
 }
 
@@ -124,7 +124,7 @@ fn fold_change<L: Ledger>(
     let fold = Fold::<Relation>::new(wanted.copy()?);
     match fold.prepare(alloc, relation, change, steps) {
         Ok(delta) => Ok(delta),
-        Err(_) => Err(NoMemory),
+        Err(fault) => Err(fault),
     }
 }
 

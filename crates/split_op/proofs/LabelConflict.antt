@@ -1,24 +1,22 @@
 -- The conflict of all facts is the first conflict of a label that a change names.
-use Rattle.std.proofs.Common.{◌≡◌, ◌∷◌, ◌++◌, [], Bool, true, false, cond, List, Option, Some, None, refl, sym, ◌∙◌, ap, subst, map}
-use Rattle.std.specs.Prelude.{not, ◌&&◌, ◌||◌, filter, flat_map, is_some, slice_get, option_map}
+use Rattle.std.proofs.Common.{◌≡◌, ◌∷◌, ◌++◌, [], Bool, true, false, List, Option, Some, None, refl, sym, ◌∙◌, ap, subst, map}
+use Rattle.std.specs.Prelude.{◌&&◌, ◌||◌, flat_map, is_some, slice_get}
 use Rattle.std.specs.Option.{option_or}
 use Rattle.std.specs.List.{list_any, filter_map, cons_option, AllByRecursion}
 use Rattle.std.specs.List.Sorted.{IsStrictlySortedBy}
-use Rattle.std.specs.declared.cmp.Ordering.{Ordering}
-use Rattle.std.specs.declared.cmp.Ordering.TheVariants.{Less, Equal, Greater}
-use Rattle.std.specs.Ordering.{ordering_then}
+use Rattle.std.specs.declared.cmp.Ordering.TheVariants.{Less}
 use Rattle.std.proofs.lemmas.Bool.{false≢true}
 use Rattle.std.proofs.lemmas.List.Folds.{list_any-append}
-use Rattle.ss_text.specs.Texts.{Text, Row, text_eq, row_eq, text_cmp, row_cmp, is_in}
+use Rattle.ss_text.specs.Texts.{Text, text_eq, row_eq, text_cmp, is_in}
 use Rattle.ss_text.specs.Ascending.{ascending}
-use Rattle.ss_text.proofs.KeyLemmas.{text_order, equal_is, equal_itself}
+use Rattle.ss_text.proofs.KeyLemmas.{text_order, equal_is}
 use Rattle.ss_text.proofs.PairLemmas.{any_ascending, ascending_ascends, each_found}
 use Rattle.flow_law.specs.declared.refused.Clash.{Clash}
-use Rattle.flow_law.specs.Facts.{Fact, Spot, spot_cmp, spots_of, values_at, facts_of, clash_of, conflict, column_of}
+use Rattle.flow_law.specs.Facts.{Fact, Spot, spot_cmp, spots_of, values_at, facts_of, clash_of, conflict}
 use Rattle.unfold_op.specs.Touched.{SameBeyond}
 use Rattle.unfold_op.proofs.Picked.{given_same}
 use Rattle.flow_law.proofs.Entries.{spot_eq, spot_order}
-use Rattle.unfold_op.proofs.NetConflict.{at_spot, ascend_alike, spot_named, spots_named, spots_ascend, clash_named}
+use Rattle.unfold_op.proofs.NetConflict.{at_spot, ascend_alike, spot_named, spots_named, spots_ascend}
 use Rattle.unfold_op.proofs.TouchedLines.{passes, any_value}
 use Rattle.unfold_op.proofs.OneValue.{no_clash}
 use Rattle.split_op.specs.LabelLines.{labels_named, clash_at, first_conflict}

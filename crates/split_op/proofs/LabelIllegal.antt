@@ -1,22 +1,21 @@
 -- The least illegal label of all facts is found among the labels that a change names.
-use Rattle.std.proofs.Common.{◌≡◌, ◌∷◌, ◌++◌, [], Bool, true, false, cond, List, Option, Some, None, refl, sym, ◌∙◌, ap, subst, map}
+use Rattle.std.proofs.Common.{◌≡◌, ◌∷◌, ◌++◌, [], Bool, true, false, List, Option, Some, None, refl, sym, ◌∙◌, ap, subst, map}
 use Rattle.std.specs.Prelude.{not, ◌&&◌, ◌||◌, filter, flat_map, slice_get, option_map}
-use Rattle.std.specs.Option.{option_or, option_map_or}
-use Rattle.std.specs.List.{list_any, filter_map, cons_option, find, AllByRecursion}
+use Rattle.std.specs.Option.{option_or}
+use Rattle.std.specs.List.{list_any, AllByRecursion}
 use Rattle.std.specs.List.Sorted.{IsStrictlySortedBy}
-use Rattle.std.specs.declared.cmp.Ordering.{Ordering}
 use Rattle.std.specs.declared.cmp.Ordering.TheVariants.{Less}
 use Rattle.std.proofs.lemmas.Bool.{false≢true}
 use Rattle.std.proofs.lemmas.List.Folds.{list_any-append}
 use Rattle.std.proofs.lemmas.List.Kept.{IsStrictlySortedBy-filter}
 use Rattle.ss_text.specs.Texts.{Text, Row, text_eq, text_cmp, is_in}
 use Rattle.ss_text.specs.Label.{is_table_label, is_column_label}
-use Rattle.ss_text.specs.Ascending.{ascending, least}
+use Rattle.ss_text.specs.Ascending.{ascending}
 use Rattle.ss_text.proofs.KeyLemmas.{text_order, equal_is}
 use Rattle.ss_text.proofs.PairLemmas.{any_ascending, any_filtered, ascending_ascends, each_found, same_keys}
 use Rattle.ss_text.proofs.SetLemmas.{least_first}
 use Rattle.flow_law.specs.declared.refused.IllegalLabel.{IllegalLabel}
-use Rattle.flow_law.specs.Facts.{Fact, Pair, pair_cmp, pairs_of, column_of, facts_of, illegal_table, illegal_column}
+use Rattle.flow_law.specs.Facts.{Fact, Pair, pair_cmp, pairs_of, facts_of, illegal_table, illegal_column}
 use Rattle.unfold_op.specs.Touched.{SameBeyond, bears_column}
 use Rattle.unfold_op.proofs.NetIllegal.{pair_eq, pair_order, first_found}
 use Rattle.split_op.specs.LabelLines.{labels_named, first_illegal_column, first_illegal_table}

@@ -1,15 +1,13 @@
 -- Labels that a change of facts does not name give no lines.
-use Rattle.std.proofs.Common.{◌≡◌, ◌∷◌, ◌++◌, [], Bool, true, false, cond, List, Option, Some, None, refl, sym, ◌∙◌, ap, map}
-use Rattle.std.specs.Prelude.{not, ◌&&◌, ◌||◌, filter, flat_map, option_to_list, if◌then◌else◌}
+use Rattle.std.proofs.Common.{◌≡◌, ◌∷◌, ◌++◌, [], Bool, true, false, cond, List, Some, None, refl, sym, ◌∙◌, ap, map}
+use Rattle.std.specs.Prelude.{◌&&◌, ◌||◌, filter, flat_map, option_to_list, if◌then◌else◌}
 use Rattle.std.specs.List.{list_any}
-use Rattle.std.specs.List.Sorted.{IsStrictlySortedBy}
 use Rattle.std.specs.Map.{lookup, keys_of}
-use Rattle.std.specs.declared.cmp.Ordering.{Ordering}
 use Rattle.std.proofs.lemmas.Bool.{false≢true}
 use Rattle.std.proofs.lemmas.List.Folds.{list_any-append}
 use Rattle.ss_text.specs.Texts.{Text, text_eq, text_cmp, is_in}
 use Rattle.ss_text.specs.Ascending.{ascending}
-use Rattle.ss_text.proofs.KeyLemmas.{IsKeyOrder, text_order, equal_is}
+use Rattle.ss_text.proofs.KeyLemmas.{text_order, equal_is}
 use Rattle.ss_text.proofs.PairLemmas.{any_ascending, ascending_ascends}
 use Rattle.flow_law.specs.declared.shape.Shape.{Shape}
 use Rattle.flow_law.specs.declared.line.TableLine.{TableLine}

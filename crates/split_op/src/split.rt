@@ -121,6 +121,8 @@ impl<I: TableOperator> Operator for Split<I> {
 
     type Output = Vec<TableLine>;
 
+    type Fault = EvalFault;
+
     ghost value = { λ s x. tables s.shape (facts_in s.shape x) };
 
     ghost stands_for = { λ s i x. KeepsSplit I.table s x };

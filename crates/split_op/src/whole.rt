@@ -86,6 +86,8 @@ impl<I: TableOperator> Operator for Whole<I> {
 
     type Output = Vec<TableLine>;
 
+    type Fault = EvalFault;
+
     ghost value = { λ w x. tables (labelled w.label (I.table w.inner).shape) (facts_in (I.table w.inner).shape x) };
 
     ghost stands_for = { λ w i x. KeepsWhole w.label (I.table w.inner) x };

@@ -112,6 +112,8 @@ impl<F: FactForm> Operator for KeptFacts<F> {
 
     type Output = Vec<TableLine>;
 
+    type Fault = EvalFault;
+
     ghost value = { λ o x. table_value o x };
 
     ghost stands_for = { λ o i x. KeepsFacts o x };

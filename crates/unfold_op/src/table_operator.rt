@@ -10,13 +10,13 @@ ghost use Rattle.unfold_op.specs.OneTables.{OneTableValue, KeepsFacts, CanAdd, C
 
 use crate::form::FactForm;
 use crate::kept_facts::KeptFacts;
-use flow_law::TableLine;
+use flow_law::{EvalFault, TableLine};
 use operator_law::{Delta, Fresh, Kept, Operator};
 use ss_text::{NoMemory, Row, Text};
 
 /// An operator that keeps the facts of one table, which is there while it has facts.
 pub trait TableOperator: Fresh
-    + Operator<Input = (), Change = Delta, Output = Vec<TableLine>>
+    + Operator<Input = (), Change = Delta, Output = Vec<TableLine>, Fault = EvalFault>
     + Kept<Change = Delta>
     + Drop {
     // What is seen of it.

@@ -1,13 +1,12 @@
 -- How the one that bears the names moves the sum.
-use Rattle.std.proofs.Common.{◌≡◌, ℕ, ◌+◌, ◌<◌, List, [], ◌∷◌, ◌++◌, Bool, true, false, cond, refl, arith, ap, sym, ◌∙◌, map, Option, Some, None}
-use Rattle.std.specs.List.{flat_map}
+use Rattle.std.proofs.Common.{◌≡◌, ℕ, ◌+◌, ◌<◌, List, [], ◌∷◌, ◌++◌, Bool, true, false, cond, refl, arith, sym, ◌∙◌, Some, None}
 use Rattle.ss_text.specs.Texts.{Row, row_eq}
 use Rattle.operator_law.specs.declared.delta.Signed.{Signed}
-use Rattle.operator_law.specs.Bags.{weigh, come, go, is, signed, all_signed, MovesBag}
+use Rattle.operator_law.specs.Bags.{weigh, is, signed, all_signed, MovesBag}
 use Rattle.operator_law.proofs.Counts.{row_eq-Decides}
 use Rattle.operator_law.proofs.Weights.{weigh-append, weigh-map, weigh-flat_map}
 use Rattle.unite_op.specs.declared.named.Named.{Named}
-use Rattle.unite_op.specs.NamedThings.{MovesOne, united, rows_behind, moves_behind, Stand, bearer, OneBears}
+use Rattle.unite_op.specs.NamedThings.{united, rows_behind, moves_behind, Stand, bearer, OneBears}
 
 -- a row counts once for an equal one
 one : (r s : Row) → s ≡ r → is r s ≡ 1

@@ -1,5 +1,5 @@
 -- Things that bear names.
-use Rattle.std.specs.Prelude.{ℕ, ◌≡◌, List, [], ◌∷◌, ◌++◌, map, find, Option}
+use Rattle.std.specs.Prelude.{◌≡◌, List, [], ◌∷◌, ◌++◌, map, find, Option}
 use Rattle.std.specs.List.{flat_map}
 use Rattle.ss_text.specs.Texts.{Row, row_eq}
 use Rattle.operator_law.specs.declared.delta.Signed.{Signed}

@@ -1,5 +1,5 @@
 //! Things that bear names.
-use operator_law::Moves;
+use flow_law::Moves;
 use ss_text::Row;
 use std::collections::LinkedList;
 

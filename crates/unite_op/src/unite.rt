@@ -4,13 +4,13 @@ ghost use Rattle.std.specs.Option.{option_copied};
 ghost use Rattle.unite_op.specs.NamedThings.{bearer};
 
 use crate::{Named, moves_behind};
-use flow_law::EvalFault;
 use operator_law::{Delta, Operator};
-use ss_text::{Row, Steps};
+use ss_text::{NoMemory, Row, Steps};
 use std::alloc::Global;
 use std::sync::ledger::Ledger;
 
-/// The sum of the inner operator's values over all inputs, each input's names before its rows.
+/// The sum of the inner operator's values over all inputs, each input's names before its rows. The inner operator refuses
+/// nothing.
 #[derive(Debug, Drop)]
 pub struct Unite<I> {
     pub inner: I,
@@ -18,9 +18,8 @@ pub struct Unite<I> {
     pub names: usize,
 }
 
-impl<I: Operator<Output = Delta>> Operator for Unite<I> {
-    ghost use Rattle.std.specs.Prelude.{Some, List, ◌⊎◌, ◌≡◌};
-    ghost use Rattle.flow_law.specs.declared.refused.EvalFault.TheVariants.{NoMemory};
+impl<I: Operator<Output = Delta, Fault = NoMemory>> Operator for Unite<I> {
+    ghost use Rattle.std.specs.Prelude.{Some, List, ◌≡◌};
     ghost use Rattle.operator_law.specs.declared.delta.Signed.{Signed};
     ghost use Rattle.unite_op.specs.declared.named.Named.{Named};
     ghost use Rattle.unite_op.specs.NamedThings.{united, Stand, bearer, OneBears, moves_behind};
@@ -31,6 +30,8 @@ impl<I: Operator<Output = Delta>> Operator for Unite<I> {
 
     type Output = Delta;
 
+    type Fault = NoMemory;
+
     ghost value = { λ s x. united (I.value s.inner) x };
 
     ghost stands_for = { λ s i x. Stand (I.stands_for s.inner) i.items x };
@@ -39,7 +40,7 @@ impl<I: Operator<Output = Delta>> Operator for Unite<I> {
 
     ghost gives = { λ s i g o. (n : Named I.Input) × (bearer g.names i.items ≡ Some n) × (ms : List Signed) × I.gives s.inner n.value g.value ms × (o ≡ moves_behind g.names ms) };
 
-    ghost may_stop = { λ s i g e. (e ≡ NoMemory) ⊎ ((n : Named I.Input) × (bearer g.names i.items ≡ Some n) × I.may_stop s.inner n.value g.value e) };
+    ghost may_stop = { λ s i g e. Unit {0} };
 
     ghost is_bound = { λ s i g b. (n : Named I.Input) → bearer g.names i.items ≡ Some n → I.is_bound s.inner n.value g.value b };
 
@@ -49,7 +50,7 @@ impl<I: Operator<Output = Delta>> Operator for Unite<I> {
         inputs: &Vec<Named<I::Input>>,
         change: &Named<I::Change>,
         steps: &mut Steps<L>,
-    ) -> Result<Delta, EvalFault> {
+    ) -> Result<Delta, NoMemory> {
         let Some(input) = bearer(inputs, &change.names) else {
             unreachable!()
         };

@@ -1,7 +1,6 @@
 //! Two inputs, of which the second changes, by hand.
 ghost use Rattle.std.specs.Prelude.{◌≡◌, ◌∷◌, ◌<◌, [], IfOk, All, length, map};
 
-use flow_law::EvalFault;
 use operator_law::{Delta, Operator, Signed};
 use other_operators::Select;
 use ss_text::{NoMemory, Row, Steps, Text};
@@ -62,7 +61,7 @@ fn change(alloc: Global) -> Result<Named<Delta>, NoMemory>
     Ok(Named { names, value })
 }
 
-fn moved<L: Ledger>(alloc: Global, blank: Blank) -> Result<Delta, EvalFault>
+fn moved<L: Ledger>(alloc: Global, blank: Blank) -> Result<Delta, NoMemory>
     requires name { blank.name ≡ L.name }
     requires parts { blank.parts ≡ L.parts }
     requires some { 0 < L.parts }
@@ -82,7 +81,7 @@ fn moved<L: Ledger>(alloc: Global, blank: Blank) -> Result<Delta, EvalFault>
     Ok(delta)
 }
 
-fn moved_once(alloc: Global) -> Result<Delta, EvalFault> {
+fn moved_once(alloc: Global) -> Result<Delta, NoMemory> {
     moved::<Brand>(alloc, Blank::new(1))
 }
 
@@ -97,7 +96,7 @@ fn written(alloc: Global, delta: &Delta) -> Result<Vec<u8>, NoMemory> {
     Ok(out)
 }
 
-fn shown(alloc: Global) -> Result<Vec<u8>, EvalFault> {
+fn shown(alloc: Global) -> Result<Vec<u8>, NoMemory> {
     let delta = moved_once(alloc)?;
     let out = written(alloc, &delta)?;
     Ok(out)

@@ -1,4 +1,4 @@
-use Rattle.std.proofs.Common.{◌≡◌, ◌<◌, ◌++◌, arith, ap, sym, ◌∙◌, map, length, min, get_or}
+use Rattle.std.proofs.Common.{◌≡◌, ◌<◌, ◌++◌, arith, ap, ◌∙◌, length, min}
 use Rattle.ss_text.specs.Texts.{Text, Row}
 use Rattle.operator_law.specs.Rows.{cells_at}
 use Rattle.fold_op.specs.Flat.{entry}

@@ -1,7 +1,7 @@
-use Rattle.std.proofs.Common.{◌≡◌, map, sym, ◌∙◌, ap, ◌++◌, [], ◌∷◌, IsTrue, true}
+use Rattle.std.proofs.Common.{◌≡◌, true}
 use Rattle.std.proofs.lemmas.List.{map_push}
-use Rattle.schema_model.specs.Placed.{placed_rows, is_place, first_place, after_place}
-use Rattle.schema_model.proofs.Walks.{walks_on, walk_shortens, goes_there, rows_from, IsThere}
+use Rattle.schema_model.specs.Placed.{is_place}
+use Rattle.schema_model.proofs.Walks.{walks_on, walk_shortens, goes_there}
 use Rattle.fold_op.proofs.sheet.rows_of.Goals as goal
 
 pub loop-next-smaller : goal.loop-next-smaller

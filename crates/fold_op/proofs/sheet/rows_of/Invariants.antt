@@ -1,5 +1,5 @@
 use Rattle.std.proofs.Common.{◌≡◌, ◌++◌, map, length}
-use Rattle.schema_model.specs.Placed.{placed_rows, ArePlaces}
+use Rattle.schema_model.specs.Placed.{placed_rows}
 use Rattle.schema_model.proofs.Walks.{rows_from, IsThere}
 use Rattle.fold_op.proofs.sheet.rows_of.Given as goal
 

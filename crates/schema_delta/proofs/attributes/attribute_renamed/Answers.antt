@@ -1,4 +1,3 @@
-use Rattle.std.proofs.Common.{◌≡◌}
 use Rattle.schema_model.specs.Changes.{renamed_attribute}
 use Rattle.schema_model.specs.States.{plain_relation}
 use Rattle.schema_model.proofs.Asks.{rename_has}

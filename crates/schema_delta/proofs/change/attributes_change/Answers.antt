@@ -1,4 +1,3 @@
-use Rattle.std.proofs.Common.{◌≡◌}
 use Rattle.schema_delta.proofs.InsideLemmas.{attribute_comes, attribute_goes, attribute_renamed}
 use Rattle.schema_delta.proofs.change.attributes_change.Goals as goal
 

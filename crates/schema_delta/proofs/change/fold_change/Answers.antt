@@ -1,4 +1,4 @@
-use Rattle.std.proofs.Common.{◌≡◌, arith, refl, subst, ◌∙◌}
+use Rattle.std.proofs.Common.{arith, refl, subst, ◌∙◌}
 use Rattle.ss_text.specs.Texts.{Row}
 use Rattle.operator_law.specs.Bags.{MovesBag}
 use Rattle.fold_op.specs.Sheets.{sheet_after}

@@ -1,4 +1,3 @@
-use Rattle.std.proofs.Common.{◌≡◌}
 use Rattle.schema_model.proofs.Asks.{create_database_has}
 use Rattle.schema_delta.proofs.FlatLaw.{database_created_law}
 use Rattle.schema_delta.proofs.databases.database_created.Goals as goal

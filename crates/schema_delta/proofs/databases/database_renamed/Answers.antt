@@ -1,4 +1,3 @@
-use Rattle.std.proofs.Common.{◌≡◌}
 use Rattle.schema_model.specs.States.{plain_database}
 use Rattle.schema_model.proofs.Asks.{rename_database_has}
 use Rattle.schema_delta.proofs.FlatLaw.{database_renamed_law}

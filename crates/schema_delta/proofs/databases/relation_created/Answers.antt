@@ -1,4 +1,3 @@
-use Rattle.std.proofs.Common.{◌≡◌}
 use Rattle.schema_model.proofs.Asks.{create_has}
 use Rattle.schema_delta.proofs.FlatLaw.{created_law}
 use Rattle.schema_delta.proofs.databases.relation_created.Goals as goal

@@ -1,4 +1,3 @@
-use Rattle.std.proofs.Common.{◌≡◌}
 use Rattle.schema_model.specs.States.{plain_relation}
 use Rattle.schema_model.proofs.Asks.{drop_relation_has}
 use Rattle.schema_delta.proofs.Asked.{there}

@@ -3,7 +3,6 @@ use Rattle.std.specs.List.{AllZip}
 use Rattle.std.proofs.lemmas.Slice.Zip.{AllZip-long}
 use Rattle.schema_model.specs.Catalogue.{CatalogueValue}
 use Rattle.schema_model.specs.States.{CatalogueState}
-use Rattle.schema_model.specs.declared.change.Change.{Change}
 use Rattle.operator_law.specs.declared.delta.Signed.{Signed}
 use Rattle.schema_delta.specs.Flat.{MovesBetween}
 use Rattle.schema_delta.proofs.GroupLemmas.{IsLeft, all_stay, can_make, one_made, all_made, flat_nets}

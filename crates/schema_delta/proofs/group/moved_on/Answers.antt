@@ -8,7 +8,7 @@ use Rattle.schema_model.specs.Changes.{after}
 use Rattle.operator_law.specs.declared.delta.Signed.{Signed}
 use Rattle.schema_delta.specs.Flat.{MovesBetween}
 use Rattle.schema_delta.specs.declared.spec.FlatSpec.{FlatSpec}
-use Rattle.schema_delta.proofs.GroupLemmas.{Behind, one_behind, all_behind}
+use Rattle.schema_delta.proofs.GroupLemmas.{one_behind, all_behind}
 use Rattle.schema_delta.proofs.group.moved_on.Goals as goal
 
 pub bounds-specs-len : goal.bounds-specs-len

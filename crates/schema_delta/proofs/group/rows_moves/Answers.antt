@@ -1,4 +1,4 @@
-use Rattle.std.proofs.Common.{◌≡◌, ◌<◌, ◌+◌, List, length, arith, sym, subst}
+use Rattle.std.proofs.Common.{◌<◌, ◌+◌, List, length, arith, sym, subst}
 use Rattle.operator_law.specs.declared.delta.Signed.{Signed}
 use Rattle.schema_delta.proofs.OneRowLaw.{RowsWalk, one_on}
 use Rattle.schema_delta.proofs.group.rows_moves.Goals as goal

@@ -1,5 +1,4 @@
-use Rattle.std.proofs.Common.{◌≡◌, List, Some, ap, sym, ◌∙◌, refl, subst}
-use mathlib.Core.Logic.{inr}
+use Rattle.std.proofs.Common.{◌≡◌, Some, sym, refl, subst}
 use Rattle.unite_op.specs.NamedThings.{bearer, Stand}
 use Rattle.unite_op.specs.declared.named.Named.{Named}
 use Rattle.unite_op.proofs.UniteLemmas.{stands_there, moves_united, someone}
@@ -9,11 +8,6 @@ pub unreachable-requires : goal.unreachable-requires
 unreachable-requires g c =
     let none = rw (c.deref.ensures.value, c.in_default.is) at c.bearer.ensures in
     someone c.args.change.now.names c.args.inputs.now.items c.requires.0 (sym none)
-
-pub returns-in-Err-clause-stops : goal.returns-in-Err-clause-stops
-returns-in-Err-clause-stops g c =
-    let found = rw c.deref.ensures.value at c.in-Some.ensures in
-    inr (c.in-Some.input.now, sym found, c.in-Err.ensures.stops)
 
 pub returns-in-Err-clause-cost : goal.returns-in-Err-clause-cost
 returns-in-Err-clause-cost g c =

@@ -1,5 +1,5 @@
 //! Types of changes.
-use flow_law::{TableLine, Tables};
+use crate::{TableLine, Tables};
 
 /// A type of changes, with what they move.
 pub trait Moves {
