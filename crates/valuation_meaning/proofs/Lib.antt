@@ -11,3 +11,4 @@ pub mod SoughtLemmas
 pub mod MadeLemmas
 pub mod FoundLemmas
 pub mod OrderLemmas
+pub mod ColumnLemmas

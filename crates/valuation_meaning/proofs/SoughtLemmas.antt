@@ -1,7 +1,6 @@
 -- An equality of a column and a term that the first elements bind.
 use Rattle.std.proofs.Common.{◌≡◌, ◌<◌, ◌≤◌, ◌⊎◌, inl, inr, ℕ, Bool, true, false, ◌&&◌, [], ◌∷◌, ◌++◌, Option, Some, None, length, refl, sym, ap, subst, ◌∙◌, append_assoc}
-use Rattle.std.specs.Prelude.{List, slice_get, option_and_then, get_or}
-use Rattle.std.proofs.lemmas.Option.{slice_get_read}
+use Rattle.std.specs.Prelude.{List, slice_get, option_and_then}
 use Rattle.std.specs.List.{All, IsAmong}
 use Rattle.std.proofs.lemmas.Bool.{cases_lt}
 use Rattle.ss_text.specs.Texts.{Text, text_eq}

@@ -1,8 +1,6 @@
 -- The tables of facts in order, with cells or without, and all facts.
-use Rattle.std.specs.Prelude.{List}
-use Rattle.flow_law.specs.Facts.{Fact}
 use Rattle.flow_law.specs.Tables.{TablesValue}
-use Rattle.fact_tables.specs.Counted.{AllFactsValue, each_fact}
+use Rattle.fact_tables.specs.Counted.{AllFactsValue}
 use Rattle.valuation_meaning.specs.declared.evaluation.ViewFacts.{ViewFacts}
 use Rattle.valuation_meaning.specs.declared.evaluation.ViewFacts.TheVariants as view_facts
 use Rattle.valuation_meaning.specs.declared.evaluation.AllViewFacts.{AllViewFacts}

@@ -3,7 +3,7 @@ ghost use Rattle.std.specs.Prelude.{◌≡◌, ◌<◌, IfOk, length};
 ghost use Rattle.schema_model.specs.States.{plain_relation};
 ghost use Rattle.valuation_meaning.specs.Found.{found_at, found_in};
 
-use crate::column::cell_under;
+use crate::column::{cell_near, column_of};
 use crate::element::Element;
 use indexmap::IndexMap;
 use schema_model::Relation;
@@ -54,6 +54,14 @@ fn no_next(alloc: Global, count: usize) -> Result<Vec<Option<usize>>, NoMemory>
     Ok(next)
 }
 
+// Where the attribute stands in the relation, or the first place where it is missing.
+fn place_of(relation: &Relation, attribute: &Text) -> usize {
+    match column_of(relation.attributes(), attribute) {
+        Some(place) => place,
+        None => 0,
+    }
+}
+
 impl<'a> Index<'a> {
     /// The index of a relation by an attribute. It is made from the last row to the first, so that the row that
     /// was the first of its cell so far is the next of the row before it. Cells are hashed by a seed.
@@ -68,11 +76,12 @@ impl<'a> Index<'a> {
         let rows = relation.rows(alloc)?;
         let mut heads = IndexMap::with_hasher(alloc, seed);
         let mut next = no_next(alloc, rows.len())?;
+        let near = place_of(relation, attribute);
         let mut position = rows.len();
         while position > 0 {
             position -= 1;
             let row = rows[position];
-            if let Some(cell) = cell_under(relation.attributes(), attribute, row) {
+            if let Some(cell) = cell_near(relation.attributes(), attribute, near, row) {
                 next[position] = heads.insert(cell, position)?;
             }
         }
