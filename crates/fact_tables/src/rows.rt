@@ -1,5 +1,5 @@
 //! The rows of a table, one after another.
-ghost use Rattle.std.specs.Prelude.{◌≡◌, ◌<◌, ◌∷◌, [], length, slice_get, slice_index_or, Some, IfOk, IfSome, IfNone};
+ghost use Rattle.std.specs.Prelude.{◌≡◌, ◌<◌, ◌∷◌, [], length, slice_get, slice_index_or, option_copied, unwrap_or, Some, IfOk, IfSome, IfNone};
 ghost use Rattle.std.specs.List.Sorted.{IsStrictlySortedBy};
 ghost use Rattle.flow_law.specs.FactOrder.{by_cell, by_key};
 ghost use Rattle.fact_tables.specs.Cells.{cells_for, rows_for};
@@ -141,14 +141,11 @@ impl<'r, 'f, 'a, C: FactCell> FactRow<'r, 'f, 'a, C> {
         self.columns.len()
     }
 
-    /// The bytes of its cell at a place, from 0.
-    pub fn cell(&self, place: usize) -> &'f [u8]
+    /// The text of its cell at a place, from 0. None stands for the empty one.
+    pub fn cell(&self, place: usize) -> Option<&'f Label<'f>>
         requires { place < length self.now.1 }
-        ensures { result.now ≡ slice_index_or self.now.1 place [] }
+        ensures { unwrap_or (option_copied result) [] ≡ slice_index_or self.now.1 place [] }
     {
-        match value(self.facts, &self.columns[place]) {
-            Some(value) => value.text().as_slice(),
-            None => &[],
-        }
+        value(self.facts, &self.columns[place])
     }
 }

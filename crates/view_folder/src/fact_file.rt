@@ -177,9 +177,24 @@ fn put_cells<C: FactCell>(
     ensures { (ended : List ℕ) (fields : Row) → IsWithin ended fields writer.old → OnOk result (IsWithin ended (fields ++ row.now.1) writer.new) }
 {
     for place in 0..row.cell_count() {
-        put_field(writer, row.cell(place))?;
+        put_cell(writer, row, place)?;
     }
     Ok(())
+}
+
+// Writes a field for a cell of a row. A short one is not read.
+fn put_cell<C: FactCell>(
+    writer: &mut Writer<Vec<u8>>,
+    row: &FactRow<'_, '_, '_, C>,
+    place: usize,
+) -> Result<(), NoMemory>
+    requires { place < length row.now.1 }
+    ensures { (ended : List ℕ) (fields : Row) → IsWithin ended fields writer.old → OnOk result (IsWithin ended (fields ++ slice_index_or row.now.1 place [] ∷ []) writer.new) }
+{
+    match row.cell(place) {
+        Some(text) => put_label(writer, text),
+        None => put_field(writer, &[]),
+    }
 }
 
 /// The files of tables whose facts these are, in their order.
