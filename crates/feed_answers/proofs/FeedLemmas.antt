@@ -4,7 +4,6 @@ use Rattle.std.specs.Prelude.{Result, Ok, Err, IfOk, IfErr}
 use Rattle.outside.specs.Effects.{Effect, World}
 use Rattle.outside.specs.declared.stop.Stop.{Stop}
 use Rattle.course.specs.declared.status.Verdict.{Verdict}
-use Rattle.course.specs.declared.status.Verdict.TheVariants as verdict
 use Rattle.course.specs.declared.status.Halt.{Halt}
 use Rattle.course.specs.declared.status.Halt.TheVariants as halt
 use Rattle.course.specs.Answering.{Reply, Continues, Ran, AnsweredSome, IsReadOut, is_too_long}
@@ -12,8 +11,9 @@ use Rattle.course.specs.Answering as lines
 use Rattle.course.specs.Statuses.{can_maintain}
 use Rattle.course.specs.Course.{RanBy, RanSome, Took, TookEnough, by_lines, verdict_status, status_of}
 use Rattle.view_stages.specs.Open.{OpenValue}
-use Rattle.view_answers.specs.declared.opening.Opened.TheVariants as opened_as
-use Rattle.view_answers.specs.Steps.{Begins, Opens, starting}
+use Rattle.view_opening.specs.declared.opening.Opened.TheVariants as opened_as
+use Rattle.view_answers.specs.Steps.{Begins, starting}
+use Rattle.view_opening.specs.Opens.{Opens}
 use Rattle.view_answers.specs.Limits.{IsWithin, StepsBy}
 use Rattle.view_answers.proofs.LimitLemmas.{drove_steps}
 use Rattle.view_answers.proofs.MaintainLemmas.{opening_ended, opening_stopped, opening_drove, ended_enough, enough_answering, open_reads, some_ended, some_stopped, some_drove, took_answering, drove_verdict, begins_with, ends_with, stops_with, stopped_can, done_can}

@@ -20,7 +20,7 @@ use outside::{Folders, Sink, Source};
 use ss_text::{Steps, Text};
 use std::alloc::Global;
 use std::sync::ledger::Ledger;
-use view_answers::{Opened, open};
+use view_opening::{Opened, open};
 
 /// Opens the view of this name, and answers the lines of its feeds in turn. Where a call fails or memory runs out, a
 /// front of the answers is there, and what was under way may have broken off.

@@ -26,7 +26,7 @@ use ss_print::refuse;
 use ss_text::{Steps, Text};
 use std::alloc::Global;
 use std::sync::ledger::Ledger;
-use view_answers::{Viewing, view_over};
+use view_opening::{Viewing, view_over};
 use view_stages::{Definition, Loading, Understood, load_sources, read_definition};
 
 /// What an opening gives: an open view with its journal, the end of the run, or that the disk failed.

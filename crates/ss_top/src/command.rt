@@ -19,7 +19,7 @@ use ss_text::Steps;
 use stack_answers::stack;
 use std::alloc::Global;
 use std::sync::ledger::Ledger;
-use view_answers::maintain;
+use view_opening::maintain;
 
 // Does what a command asks for.
 #[tactic(auto, using(course::proofs::RunLemmas::ran_some, course::proofs::RunLemmas::stopped_some, course::proofs::RunLemmas::stop_can_check, course::proofs::RunLemmas::stop_can_show, course::proofs::RunLemmas::stop_can_load, course::proofs::RunLemmas::stop_can_refuse, course::proofs::RunLemmas::idle_other, crate::proofs::DefinedLemmas::in_order))]

@@ -17,7 +17,6 @@ use Rattle.schema_model.specs.Catalogue.{CatalogueValue}
 use Rattle.schema_model.specs.declared.change.Change.{Change}
 use Rattle.schema_model.specs.declared.change.ChangeFault.{ChangeFault}
 use Rattle.schema_model.specs.declared.change.ChangeFault.TheVariants as change
-use Rattle.view_def.specs.Query.{Query}
 use Rattle.flow_law.specs.declared.line.TableLine.{TableLine}
 use Rattle.valuation_meaning.specs.Refusal.{refusal}
 use Rattle.schema_model.specs.declared.pair.Pair.{Pair}
@@ -37,16 +36,9 @@ use Rattle.view_stages.specs.Open.{OpenValue}
 use Rattle.view_stages.specs.Stages.{refusal_of}
 use Rattle.view_stages.specs.Syncs.{sync_effects}
 use Rattle.view_stages.proofs.StageLemmas.{not_refused, refused_label, refused_clash}
-use Rattle.view_answers.specs.declared.opening.Viewing.TheVariants as viewing
 use Rattle.view_answers.specs.declared.word.Word.{Word}
-use Rattle.view_answers.specs.Steps.{IsFieldsOf, IsHoldFieldsOf, IsFaultFieldsOf, Views}
+use Rattle.view_answers.specs.Steps.{IsFieldsOf, IsHoldFieldsOf, IsFaultFieldsOf}
 use Rattle.view_answers.specs.Answers.{Answer, answer, by_spelling, by_row, by_first, by_fields, by_word, by_broken, by_group, by_open, by_change, by_fault, by_view, refusing, giving_up, keeping, changing, committing, syncing, word_in, end_effects, end_view, finish}
-
--- a view that is refused over a catalogue
-pub refused_views : (f : EvalFault) (row : Row) (c : CatalogueValue) (q : Query) → IsFault (refusal c q) f → IsFaultFieldsOf f row → Views (viewing.Refused row) q c (refusal_of c q)
-refused_views (eval.Illegal e) row c q h is = rw (refused_label c q e h) is
-refused_views (eval.Conflict e) row c q h is = rw (refused_clash c q e h) is
-refused_views eval.NoMemory row c q h is = absurd is
 
 -- a change where no group is open
 own_catalogue : (s : SessionState) (g : Change) → s.held ≡ None → fault (working s) g ≡ fault s.catalogue g

@@ -2,5 +2,4 @@ pub mod AnswerCases
 pub mod AnswerLemmas
 pub mod LimitLemmas
 pub mod MaintainLemmas
-pub mod OpeningLemmas
 pub mod ViewLemmas

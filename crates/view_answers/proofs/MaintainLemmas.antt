@@ -16,8 +16,7 @@ use Rattle.course.specs.Statuses.{can_maintain}
 use Rattle.course.specs.Course.{RanBy, RanSome, Took, TookEnough, by_lines, verdict_status, status_of, is_refused_status, IsWholeInput}
 use Rattle.course.proofs.DriveLemmas.{went_on, ended_later, took_behind, enough_behind}
 use Rattle.view_stages.specs.Open.{OpenValue}
-use Rattle.view_answers.specs.declared.opening.Opened.TheVariants as opened_as
-use Rattle.view_answers.specs.Steps.{Begins, EndsRun, IsRefusal, starting}
+use Rattle.view_answers.specs.Steps.{Begins, EndsRun, starting}
 use Rattle.view_answers.specs.Answers.{step, finish, answer, end_view}
 
 module _ {A : Type 0} (step_by : A → List ℕ → Reply A) (finish_by : A → Ending) where
@@ -113,7 +112,7 @@ module _ {A B : Type 0} (f : A → B) where
   stops_with (Finishes es w) old new h = h
 
 -- an opening that was refused is not done
-pub ended_whole : (bytes : List ℕ) (rest : Option (List ℕ)) (v : Verdict) → IsRefusal (opened_as.Ended v) → IsWholeInput bytes rest (Ok v)
+pub ended_whole : (bytes : List ℕ) (rest : Option (List ℕ)) (v : Verdict) → is_refused_status (verdict_status v) ≡ true → IsWholeInput bytes rest (Ok v)
 ended_whole bytes rest verdict.Done h done = absurd (cc)
 ended_whole bytes rest verdict.SomeRefused h done = absurd (cc)
 ended_whole bytes rest verdict.Usage h done = absurd (cc)

@@ -1,16 +1,12 @@
 //! An opened view, and its answers to the lines of its input.
 //!
-//! Its contract: `maintain` opens the view of a name and does what each line asks, in turn, within the steps that the
-//! line may take, and syncs at the end of the input. Its opened view, and the parts of an answer, are lent to commands
-//! that answer other lines. It knows nothing of the words of the command line.
+//! Its contract: each line is answered as its definition says, within the steps that it may take, and at the end of the
+//! input the view is synced. The opened view, and the parts of an answer, are lent to commands that answer other lines. It
+//! knows nothing of how a view is opened, or of the words of the command line.
 #![tactic(auto)]
 
-mod maintaining;
-mod opening;
 mod view;
 mod word;
 
-pub use maintaining::maintain;
-pub use opening::{Opened, Viewing, fault_fields, open, view_over};
-pub use view::{OpenView, held_fields, line_refusal, refused_fields};
+pub use view::{OpenView, fault_fields, held_fields, line_refusal, refused_fields};
 pub use word::{Word, word_of};

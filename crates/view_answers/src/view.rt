@@ -24,7 +24,7 @@ ghost use Rattle.ss_print.specs.Printing.{refuses, prints_synced};
 ghost use Rattle.outside.specs.Tree.{Tree, files_of};
 ghost use Rattle.view_stages.specs.Opening.{opening_effects};
 ghost use Rattle.view_stages.specs.Stages.{files_of_view};
-ghost use Rattle.view_answers.specs.Steps.{IsFieldsOf};
+ghost use Rattle.view_answers.specs.Steps.{IsFaultFieldsOf, IsFieldsOf};
 ghost use Rattle.course.specs.Idle.{IdleUnread};
 ghost use Rattle.view_stages.specs.Records.{HasRecords};
 ghost use Rattle.view_answers.specs.Limits as limits;
@@ -35,6 +35,7 @@ ghost use Rattle.view_stages.specs.Syncs.{sync_effects, view_effects, sync_count
 use crate::word::word_of;
 use course::{LineHandler, LineStop, NoDisk, Verdict};
 use csv_catalog::save_changed;
+use flow_law::EvalFault;
 use outside::{Folders, Sink, Stop};
 use schema_model::{Change, ChangeFault};
 use ss_print::{
@@ -106,8 +107,8 @@ impl OpenView {
     ghost use Rattle.view_session.specs.Session.{SessionState, opened};
     ghost use Rattle.view_stages.specs.Open.{just_opened};
 
-    // The view that was just opened, of this view database.
-    pub(crate) fn of(alloc: Global, session: Session, view_db: Text) -> Result<OpenView, NoMemory>
+    /// The view that was just opened, of this view database.
+    pub fn of(alloc: Global, session: Session, view_db: Text) -> Result<OpenView, NoMemory>
         requires new { session ≡ opened session.query session.catalogue }
         requires view_db { view_db ≡ session.query.view_db }
         requires records { HasRecords session.query }
@@ -488,6 +489,17 @@ pub fn line_refusal(alloc: Global, row: &Row, fault: ChangeFault) -> Result<Row,
     match fault {
         ChangeFault::NoMemory => Err(NoMemory),
         _ => line_fields(alloc, row, fault),
+    }
+}
+
+/// The fields of a view that has no tables.
+pub fn fault_fields(alloc: Global, fault: EvalFault) -> Result<Row, NoMemory>
+    ensures { IfOk result (λ row. IsFaultFieldsOf fault row) }
+{
+    match fault {
+        EvalFault::Illegal(label) => illegal_fields(alloc, &label),
+        EvalFault::Conflict(clash) => clash_fields(alloc, &clash),
+        EvalFault::NoMemory => Err(NoMemory),
     }
 }
 

@@ -14,8 +14,7 @@ ghost use Rattle.view_answers.specs.Limits.{IsWithin};
 ghost use Rattle.view_answers.specs.Answers.{by_fields, by_word, by_broken, by_group, by_fault, beginning, aborting, giving_up, refusing, syncing, end_effects, end_view};
 ghost use Rattle.view_answers.specs.declared.word.Word.TheVariants as word;
 
-use crate::opening::fault_fields;
-use crate::view::OpenView;
+use crate::view::{OpenView, fault_fields};
 use crate::word::Word;
 use outside::{Folders, Sink, Stop};
 use schema_model::{Change, ChangeFault};

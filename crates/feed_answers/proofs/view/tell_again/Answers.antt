@@ -1,4 +1,4 @@
-use Rattle.std.proofs.Common.{◌≡◌, ◌∙◌, ◌∷◌, [], sym, ap}
+use Rattle.std.proofs.Common.{◌∙◌, sym}
 use Rattle.feed_answers.proofs.TellLemmas.{script_does, refusal_does}
 use Rattle.feed_answers.proofs.view.tell_again.Goals as goal
 

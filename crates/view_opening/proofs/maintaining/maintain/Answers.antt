@@ -7,7 +7,7 @@ use Rattle.view_answers.specs.Answers.{step, finish}
 use Rattle.view_answers.specs.Limits.{limit}
 use Rattle.view_answers.proofs.LimitLemmas.{unspent, drove_steps}
 use Rattle.view_answers.proofs.MaintainLemmas.{opening_stopped, drove_whole, drove_can, took_answering, enough_answering, open_reads, goes}
-use Rattle.view_answers.proofs.maintaining.maintain.Goals as goal
+use Rattle.view_opening.proofs.maintaining.maintain.Goals as goal
 
 pub returns-in_err-view-clause-ran : goal.returns-in_err-view-clause-ran
 returns-in_err-view-clause-ran g c = λ t bytes d told given defined.

@@ -21,7 +21,7 @@ use std::sync::ledger::Ledger;
 
 /// Opens the view of this name, and answers the lines of the input in turn. Where a call fails or memory runs out, a
 /// front of the answers is there, and what was under way may have broken off.
-#[tactic(auto, using(crate::proofs::MaintainLemmas::opening_ended, crate::proofs::MaintainLemmas::opening_stopped, crate::proofs::MaintainLemmas::opening_drove, crate::proofs::MaintainLemmas::drove_whole, crate::proofs::MaintainLemmas::ended_whole, crate::proofs::MaintainLemmas::ended_enough, course::proofs::DriveLemmas::blamed_later, crate::proofs::MaintainLemmas::some_ended, crate::proofs::MaintainLemmas::some_stopped, crate::proofs::MaintainLemmas::some_drove, course::proofs::DriveLemmas::took_nothing, crate::proofs::MaintainLemmas::refused_can, crate::proofs::MaintainLemmas::stopped_can, course::proofs::IdleLemmas::idle_drove))]
+#[tactic(auto, using(view_answers::proofs::MaintainLemmas::opening_ended, view_answers::proofs::MaintainLemmas::opening_stopped, view_answers::proofs::MaintainLemmas::opening_drove, view_answers::proofs::MaintainLemmas::drove_whole, view_answers::proofs::MaintainLemmas::ended_whole, view_answers::proofs::MaintainLemmas::ended_enough, course::proofs::DriveLemmas::blamed_later, view_answers::proofs::MaintainLemmas::some_ended, view_answers::proofs::MaintainLemmas::some_stopped, view_answers::proofs::MaintainLemmas::some_drove, course::proofs::DriveLemmas::took_nothing, view_answers::proofs::MaintainLemmas::refused_can, view_answers::proofs::MaintainLemmas::stopped_can, course::proofs::IdleLemmas::idle_drove))]
 pub fn maintain<F: Folders, S: Source, K: Sink, L: Ledger>(
     alloc: Global,
     store: &mut F,

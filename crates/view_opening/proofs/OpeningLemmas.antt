@@ -1,4 +1,4 @@
--- What an opening did that stopped.
+-- What an opening did, and what it opens.
 use Rattle.std.proofs.Common.{◌≡◌, ◌∙◌, [], Option, None, Some, Result, Ok, Err, sym, ap, subst}
 use Rattle.ss_text.specs.Texts.{Row}
 use Rattle.outside.specs.Tree.{Tree}
@@ -11,10 +11,16 @@ use Rattle.view_def.specs.Query.{Query}
 use Rattle.view_stages.specs.Open.{OpenValue, just_opened}
 use Rattle.view_stages.specs.Stages.{loaded_or_refused, refusal_of}
 use Rattle.view_stages.specs.Opening.{with_view, with_catalogue}
-use Rattle.view_answers.specs.Steps.{Opens, Views}
-use Rattle.view_answers.specs.declared.opening.Viewing.TheVariants as viewing
-use Rattle.view_answers.specs.declared.opening.Opened.{Opened}
-use Rattle.view_answers.specs.declared.opening.Opened.TheVariants as opened_as
+use Rattle.view_stages.proofs.StageLemmas.{refused_label, refused_clash}
+use Rattle.flow_law.specs.declared.refused.EvalFault.{EvalFault}
+use Rattle.flow_law.specs.declared.refused.EvalFault.TheVariants as eval
+use Rattle.flow_law.specs.Faults.{IsFault}
+use Rattle.valuation_meaning.specs.Refusal.{refusal}
+use Rattle.view_answers.specs.Steps.{IsFaultFieldsOf}
+use Rattle.view_opening.specs.Opens.{Opens, Views}
+use Rattle.view_opening.specs.declared.opening.Viewing.TheVariants as viewing
+use Rattle.view_opening.specs.declared.opening.Opened.{Opened}
+use Rattle.view_opening.specs.declared.opening.Opened.TheVariants as opened_as
 
 -- nothing was done
 pub nothing_opened : (r : Reply OpenValue) (old new : World) (e : Stop) → Partly [] (contents old) (contents new) → Opens r old new (Err e)
@@ -40,3 +46,9 @@ opened_behind t q c old mid new x loaded e h =
 pub views_fresh : (v : OpenValue) (q : Query) (c : CatalogueValue) (x : Option Row) → Views (viewing.View v) q c x → v ≡ just_opened v.session.query v.session.catalogue
 views_fresh v q c None h = h ∙ sym (ap (λ (w : OpenValue). just_opened w.session.query w.session.catalogue) h)
 views_fresh v q c (Some fields) h = absurd h
+
+-- a view that is refused over a catalogue
+pub refused_views : (f : EvalFault) (row : Row) (c : CatalogueValue) (q : Query) → IsFault (refusal c q) f → IsFaultFieldsOf f row → Views (viewing.Refused row) q c (refusal_of c q)
+refused_views (eval.Illegal e) row c q h is = rw (refused_label c q e h) is
+refused_views (eval.Conflict e) row c q h is = rw (refused_clash c q e h) is
+refused_views eval.NoMemory row c q h is = absurd is

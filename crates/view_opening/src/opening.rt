@@ -7,18 +7,17 @@ ghost use Rattle.view_def.specs.Query.{query_of};
 ghost use Rattle.view_stages.specs.Stages.{refusal_of, loaded_or_refused};
 ghost use Rattle.view_stages.specs.Stages.{DefinitionOrRefusal};
 ghost use Rattle.view_stages.specs.Opening.{IsDefinition, definition_bytes, opening, with_catalogue, with_view};
-ghost use Rattle.view_answers.specs.Steps.{Opens, Views, IsFaultFieldsOf, IsFresh, IsRefusal};
+ghost use Rattle.view_opening.specs.Opens.{Opens, Views, IsFresh, IsRefusal};
 ghost use Rattle.course.specs.Idle.{IdleUnread};
 
-use crate::view::OpenView;
 use course::Verdict;
-use flow_law::EvalFault;
 use outside::{Folders, Sink, Stop};
 use schema_model::Catalogue;
-use ss_print::{clash_fields, illegal_fields, refuse};
+use ss_print::refuse;
 use ss_text::{NoMemory, Row, Steps, Text};
 use std::alloc::Global;
 use std::sync::ledger::Ledger;
+use view_answers::{OpenView, fault_fields};
 use view_session::Session;
 use view_stages::{Definition, Loading, Understood, load_sources, read_definition};
 
@@ -130,7 +129,7 @@ fn open_session<F: Folders, K: Sink, L: Ledger>(
 }
 
 /// A view over a catalogue, whose folder is not synced yet.
-#[tactic(auto, using(view_stages::proofs::StageLemmas::not_refused, crate::proofs::AnswerLemmas::refused_views))]
+#[tactic(auto, using(view_stages::proofs::StageLemmas::not_refused, crate::proofs::OpeningLemmas::refused_views))]
 pub fn view_over<L: Ledger>(
     alloc: Global,
     definition: Definition,
@@ -153,16 +152,5 @@ pub fn view_over<L: Ledger>(
             let fields = fault_fields(alloc, fault)?;
             Ok(Viewing::Refused(fields))
         }
-    }
-}
-
-/// The fields of a view that has no tables.
-pub fn fault_fields(alloc: Global, fault: EvalFault) -> Result<Row, NoMemory>
-    ensures { IfOk result (λ row. IsFaultFieldsOf fault row) }
-{
-    match fault {
-        EvalFault::Illegal(label) => illegal_fields(alloc, &label),
-        EvalFault::Conflict(clash) => clash_fields(alloc, &clash),
-        EvalFault::NoMemory => Err(NoMemory),
     }
 }

@@ -1,8 +1,8 @@
 use Rattle.std.proofs.Common.{◌∙◌, Ok, sym}
 use Rattle.outside.specs.Effects.{world_of}
 use Rattle.view_def.specs.Query.{query_of}
-use Rattle.view_answers.proofs.OpeningLemmas.{opened_behind}
-use Rattle.view_answers.proofs.opening.open_view.Goals as goal
+use Rattle.view_opening.proofs.OpeningLemmas.{opened_behind}
+use Rattle.view_opening.proofs.opening.open_view.Goals as goal
 
 pub returns-in_ok-opened-in-Catalogue-clause-opens : goal.returns-in_ok-opened-in-Catalogue-clause-opens
 returns-in_ok-opened-in-Catalogue-clause-opens g c = λ t told.
