@@ -1,14 +1,12 @@
 -- What a crash leaves in each of the two steps in which a group is added.
-use Rattle.std.proofs.Common.{◌≡◌, ◌⊎◌, inl, inr, ⊎_elim, ℕ, suc, ◌+◌, ◌<◌, ◌≤◌, ◌==◌, Bool, true, false, List, [], ◌∷◌, ◌++◌, length, take, drop, get_or, Option, None, Some, Result, Ok, Err, refl, sym, ap, ◌∙◌, subst, arith, eqb-true, append_assoc, length-append, length-take-le, take-append-drop}
-use Rattle.std.specs.Prelude.{option_map, IsErrOf}
+use Rattle.std.proofs.Common.{◌≡◌, inl, inr, ℕ, ◌+◌, ◌<◌, ◌≤◌, ◌==◌, false, List, [], ◌∷◌, ◌++◌, length, take, drop, get_or, Option, None, Some, Result, Ok, Err, refl, sym, ap, ◌∙◌, subst, arith, eqb-true, append_assoc, length-append, length-take-le, take-append-drop}
+use Rattle.std.specs.Prelude.{option_map}
 use Rattle.std.proofs.lemmas.Bool.{cases_Bool}
-use Rattle.std.proofs.lemmas.List.{drop_at, take_at, length-take}
-use Rattle.disk.specs.Disk.{Content, IsImage, MayLeave, BrokeOff, MayBreakOff, stable, overwritten, with_written, with_synced}
-use Rattle.outside.specs.declared.fault.StoreFault.{StoreFault}
-use Rattle.outside.specs.declared.fault.StoreFault.TheVariants as fault
+use Rattle.std.proofs.lemmas.List.{drop_at, take_at}
+use Rattle.disk.specs.Disk.{Content, IsImage, MayLeave, stable, overwritten, with_written, with_synced}
 use Rattle.change_journal.specs.Spelled.{Group}
-use Rattle.change_journal.specs.Entries.{Reading, read_journal, only_groups, entries, size_of, IsSized}
-use Rattle.change_journal.specs.Journals.{IsOpenAt, AllHave, IsBeforeOrAfter, MayHaveWritten, IsEntryOf}
+use Rattle.change_journal.specs.Entries.{Reading, read_journal, only_groups, entries, size_of}
+use Rattle.change_journal.specs.Journals.{AllHave, IsBeforeOrAfter, MayHaveWritten, IsEntryOf}
 use Rattle.change_journal.proofs.Readings.{byte_at_end, same_front, entry_added, read_is}
 use Rattle.disk.proofs.FillLemmas.{no_nearer}
 use Rattle.change_journal.proofs.Images.{whole_write, earlier, stable_image, one_byte_image}

@@ -1,12 +1,11 @@
 -- What a crash leaves around one write, and after a sync.
-use Rattle.std.proofs.Common.{◌≡◌, ◌≢◌, ℕ, zero, suc, ◌+◌, ◌-◌, ◌<◌, ◌≤◌, ◌==◌, max, Bool, true, false, ◌&&◌, ◌||◌, nat_le, nat_lt, List, [], ◌∷◌, ◌++◌, length, take, drop, get_or, set, refl, sym, ap, ◌∙◌, subst, inl, inr, arith, length-append, length-take-le, length-drop}
+use Rattle.std.proofs.Common.{◌≡◌, ◌≢◌, ℕ, suc, ◌+◌, ◌-◌, ◌<◌, ◌≤◌, false, List, [], ◌∷◌, ◌++◌, length, take, drop, get_or, set, refl, sym, ap, ◌∙◌, inl, inr, arith, length-append, length-take-le, length-drop}
 use Rattle.std.proofs.lemmas.Bool.{cases_eq, cases_lt}
 use Rattle.std.proofs.lemmas.Bool.Decides.{nat_tests}
-use Rattle.std.proofs.lemmas.List.{take_at, take_all, drop_at, take-append-le, same_lists, get_or-take, get_or-drop, get_or_append_left, get_or-append_right, get_or-set_same, get_or-set_other, length-set, set_split, length-take, get_or_default, append-nil, drop-drop, drop_all}
-use Rattle.std.specs.List.{list_any}
+use Rattle.std.proofs.lemmas.List.{take_at, take_all, drop_at, take-append-le, same_lists, get_or-take, get_or-drop, get_or_append_left, get_or-append_right, get_or-set_same, get_or-set_other, length-set, set_split, get_or_default}
 use Rattle.disk.specs.declared.range.Range.{Range}
 use Rattle.disk.proofs.FillLemmas.{no_nearer}
-use Rattle.disk.specs.Disk.{Content, IsImage, BrokeOff, is_within, is_in_doubt, farthest, stable, overwritten, with_written}
+use Rattle.disk.specs.Disk.{Content, IsImage, BrokeOff, is_within, is_in_doubt, farthest, stable, with_written}
 
 -- the range of a write of n bytes
 abbrev pub range : ℕ → ℕ → Range

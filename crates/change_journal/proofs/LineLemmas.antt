@@ -1,9 +1,8 @@
 -- Journals with equal lines have equal groups.
-use Rattle.std.proofs.Common.{◌≡◌, ℕ, zero, suc, ◌+◌, ◌≤◌, ◌==◌, Bool, true, false, cond, nat_le, List, [], ◌∷◌, ◌++◌, length, map, take, Option, None, Some, Result, Ok, Err, refl, sym, ap, ◌∙◌, subst}
+use Rattle.std.proofs.Common.{◌≡◌, ℕ, zero, suc, ◌+◌, ◌==◌, Bool, true, false, cond, nat_le, List, [], ◌∷◌, length, map, take, Option, None, Some, Result, Ok, Err, refl, sym, ap, ◌∙◌, subst}
 use Rattle.std.specs.Prelude.{option_map}
 use Rattle.std.specs.List.{AllByRecursion}
 use Rattle.tab_lines.specs.Parts.{parts_at}
-use Rattle.disk.specs.Disk.{Content, MayLeave}
 use Rattle.change_journal.specs.Spelled.{Group, spelled, said_by_lines, group_of}
 use Rattle.change_journal.specs.Entries.{Reading, number_of, sized_group, entry_behind, with_group, read_entry, read_from, read_journal, only_groups, entries}
 use Rattle.change_journal.specs.Journals.{AllHave}

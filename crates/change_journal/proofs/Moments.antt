@@ -1,6 +1,6 @@
 -- How a run of calls on a disk goes on.
-use Rattle.std.proofs.Common.{◌≡◌, ◌⊎◌, inl, inr, ⊎_elim, ℕ, ◌≤◌, List, [], ◌∷◌, ◌++◌, Ok, refl, sym, ap, ◌∙◌, append-nil, subst, Option, arith}
-use Rattle.disk.specs.Disk.{Content, DiskState, MayLeave}
+use Rattle.std.proofs.Common.{◌⊎◌, inl, inr, ⊎_elim, ℕ, List, [], ◌∷◌, Ok, refl, sym, ap, ◌∙◌, append-nil, arith}
+use Rattle.disk.specs.Disk.{DiskState, MayLeave}
 use Rattle.disk.specs.Moments.{Elapses, LeavesOnly}
 use Rattle.change_journal.specs.Spelled.{Group}
 use Rattle.change_journal.specs.Journals.{Has, HasFront, IsBeforeOrAfter}

@@ -1,12 +1,12 @@
 -- What stands next in a journal, and what is read of it.
-use Rattle.std.proofs.Common.{◌≡◌, ◌⊎◌, inl, inr, ℕ, zero, suc, ◌+◌, ◌-◌, ◌<◌, ◌≤◌, ◌==◌, min, Bool, true, false, cond, nat_le, List, [], ◌∷◌, ◌++◌, length, take, drop, Option, None, Some, Result, Ok, Err, refl, sym, ap, ◌∙◌, subst, arith, length-append, length-drop, length-take-le, take-append-drop}
+use Rattle.std.proofs.Common.{◌≡◌, ◌⊎◌, inl, inr, ℕ, zero, suc, ◌+◌, ◌-◌, ◌<◌, ◌≤◌, ◌==◌, min, Bool, true, false, cond, nat_le, List, [], ◌∷◌, ◌++◌, length, take, drop, Option, None, Some, Ok, Err, refl, sym, ap, ◌∙◌, arith, length-append, length-drop, length-take-le, take-append-drop}
 use Rattle.std.specs.Prelude.{option_map}
 use Rattle.std.proofs.Math.Seq.{take-add}
 use Rattle.std.proofs.lemmas.Bool.Decides.{nat_tests}
 use Rattle.std.proofs.lemmas.List.{take_all, take-take, drop-take, drop-drop}
 use Rattle.change_journal.specs.States.{WindowState}
 use Rattle.change_journal.specs.Spelled.{Group, group_of}
-use Rattle.change_journal.specs.Entries.{Reading, number_of, sized_group, entry_behind, with_group, read_entry, read_from}
+use Rattle.change_journal.specs.Entries.{number_of, sized_group, entry_behind, with_group, read_entry, read_from}
 use Rattle.change_journal.specs.Opening.{IsAhead, read_at, mark_behind, mark_of}
 use Rattle.change_journal.specs.declared.mark.Mark.{Mark}
 use Rattle.change_journal.specs.declared.mark.Mark.TheVariants as mark

@@ -1,14 +1,14 @@
 -- The two steps in which a group is added, over a disk that may tell nothing.
-use Rattle.std.proofs.Common.{◌≡◌, ◌⊎◌, inl, inr, ℕ, ◌+◌, ◌<◌, ◌≤◌, List, [], ◌∷◌, ◌++◌, length, take, drop, Option, None, Some, Result, Ok, Err, refl, sym, ap, ◌∙◌, subst, arith, append_assoc, length-take-le}
+use Rattle.std.proofs.Common.{◌≡◌, ℕ, ◌+◌, ◌≤◌, List, [], ◌∷◌, ◌++◌, length, take, drop, Option, None, Some, Result, Ok, Err, refl, sym, ap, ◌∙◌, subst, arith, append_assoc, length-take-le}
 use Rattle.std.specs.Prelude.{option_map, OnOk}
 use Rattle.std.proofs.lemmas.List.{take_at}
 use Rattle.disk.specs.Disk.{Content, IsImage, MayLeave, stable, overwritten}
 use Rattle.change_journal.specs.Spelled.{Group}
-use Rattle.change_journal.specs.Entries.{Reading, read_journal, only_groups, entries}
+use Rattle.change_journal.specs.Entries.{read_journal, only_groups, entries}
 use Rattle.change_journal.specs.Journals.{IsOpenAt, AllHave, IsBeforeOrAfter, MayHaveWritten, IsEntryOf}
 use Rattle.change_journal.proofs.Readings.{byte_at_end, same_front}
 use Rattle.change_journal.proofs.Images.{stable_image}
-use Rattle.change_journal.proofs.Appends.{self_image, told_of, reading, all_read, staged, still, any_outcome, added}
+use Rattle.change_journal.proofs.Appends.{self_image, told_of, reading, all_read, staged, any_outcome, added}
 
 -- after bytes were written at a place and made stable
 abbrev pub after_stable : ℕ → List ℕ → Option Content → Option Content

@@ -1,8 +1,8 @@
 -- How a journal is read, and what a change of its bytes does to that.
-use Rattle.std.proofs.Common.{◌≡◌, ℕ, zero, suc, ◌+◌, ◌<◌, ◌≤◌, ◌==◌, Bool, true, false, cond, nat_le, List, [], ◌∷◌, ◌++◌, length, take, drop, get_or, Option, None, Some, Result, Ok, Err, refl, sym, ap, ◌∙◌, subst, inl, inr, arith, eqb-true, append-nil, append_assoc, length-append, length-take-le, take-append-drop}
+use Rattle.std.proofs.Common.{◌≡◌, ℕ, zero, suc, ◌+◌, ◌<◌, ◌≤◌, ◌==◌, Bool, true, false, cond, nat_le, List, [], ◌∷◌, ◌++◌, length, take, drop, get_or, Option, None, Some, Result, Ok, Err, refl, sym, ap, ◌∙◌, subst, arith, eqb-true, append_assoc, length-append, length-take-le, take-append-drop}
 use Rattle.std.specs.Prelude.{option_map}
 use Rattle.std.proofs.lemmas.Bool.Decides.{nat_tests}
-use Rattle.std.proofs.lemmas.List.{take-append-le, take_at, take_all, drop_more, length-take}
+use Rattle.std.proofs.lemmas.List.{take-append-le, take_at, drop_more}
 use Rattle.change_journal.specs.Spelled.{Group, group_text, group_of}
 use Rattle.change_journal.specs.Entries.{Reading, number_of, sized_group, entry_behind, with_group, with_groups, read_entry, read_from, read_journal, only_groups, entries, size_of, IsSized}
 use Rattle.change_journal.proofs.Spellings.{text_is}

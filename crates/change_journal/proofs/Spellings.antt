@@ -1,15 +1,14 @@
 -- Groups and their texts are one to one.
 use Rattle.std.proofs.lemmas.List.{take_rest}
-use Rattle.std.proofs.Common.{append-nil, take, drop, get_or, ◌-◌, ◌≡◌, ℕ, ◌+◌, ◌<◌, ◌≤◌, ◌==◌, Bool, true, false, cond, ◌&&◌, ◌||◌, nat_le, List, [], ◌∷◌, ◌++◌, length, map, Option, None, Some, Result, Ok, Err, refl, sym, ap, ◌∙◌, subst, arith}
-use Rattle.std.specs.Prelude.{option_map, flat_map, IsTrue, find}
+use Rattle.std.proofs.Common.{append-nil, take, drop, get_or, ◌-◌, ◌≡◌, ℕ, ◌+◌, ◌<◌, ◌≤◌, ◌==◌, Bool, true, false, cond, ◌&&◌, nat_le, List, [], ◌∷◌, ◌++◌, length, map, Option, None, Some, Result, Ok, Err, refl, sym, ap, ◌∙◌, subst, arith}
+use Rattle.std.specs.Prelude.{option_map, flat_map, IsTrue}
 use Rattle.std.specs.Result.{result_ok}
-use Rattle.std.specs.List.{join_with_byte, list_all, list_any, AllByRecursion, onto_first}
+use Rattle.std.specs.List.{join_with_byte, list_all, AllByRecursion, onto_first}
 use Rattle.std.proofs.lemmas.Bool.{and_parts, or_parts}
 use Rattle.std.proofs.lemmas.Bool.Decides.{nat_tests}
 use Rattle.std.proofs.lemmas.List.Splits.{join_with_byte-slice_split}
-use Rattle.ss_text.specs.Texts.{Text, Row, text_eq}
+use Rattle.ss_text.specs.Texts.{Text, Row}
 use Rattle.tab_lines.specs.Parts.{has, parts_at}
-use Rattle.tab_lines.specs.Lines.{has_feed}
 use Rattle.tab_lines.specs.Spelling.{escaped, spell, unspell}
 use Rattle.tab_lines.proofs.PartLemmas.{parts_first, one_part}
 use Rattle.tab_lines.proofs.SpellingLemmas.{unspell-spell, spell-unspell}

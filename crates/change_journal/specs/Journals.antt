@@ -3,7 +3,7 @@ use Rattle.std.specs.Prelude.{◌≡◌, ◌⊎◌, ℕ, ◌+◌, ◌^◌, ◌||
 use Rattle.disk.specs.Disk.{Content, IsImage, MayLeave, BrokeOff}
 use Rattle.change_journal.specs.States.{JournalState}
 use Rattle.change_journal.specs.Spelled.{Group, group_text}
-use Rattle.change_journal.specs.Entries.{Reading, read_journal, entries, IsSized}
+use Rattle.change_journal.specs.Entries.{read_journal, entries, IsSized}
 use Rattle.change_journal.specs.declared.fault.JournalFault.{JournalFault}
 use Rattle.change_journal.specs.declared.fault.JournalFault.TheVariants as fault
 

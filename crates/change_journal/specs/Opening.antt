@@ -1,10 +1,10 @@
 -- How a journal is read, entry by entry.
-use Rattle.std.specs.Prelude.{◌≡◌, ℕ, ◌+◌, ◌<◌, ◌≤◌, ◌==◌, false, List, [], ◌∷◌, ◌++◌, length, take, drop, Option, None, Some, option_map, Result, Ok, Err, IsTrue, ⊤, if◌then◌else◌}
+use Rattle.std.specs.Prelude.{◌≡◌, ℕ, ◌+◌, ◌<◌, ◌≤◌, ◌==◌, false, List, [], ◌∷◌, ◌++◌, length, take, drop, Option, Some, Result, Ok, Err, IsTrue, ⊤, if◌then◌else◌}
 use Rattle.std.specs.List.{AllByRecursion}
 use Rattle.schema_model.specs.Changes.{is_well_formed}
 use Rattle.disk.specs.Disk.{Content}
 use Rattle.change_journal.specs.States.{WindowState}
-use Rattle.change_journal.specs.Spelled.{Group, group_of}
+use Rattle.change_journal.specs.Spelled.{Group}
 use Rattle.change_journal.specs.Entries.{Reading, number_of, with_group, with_groups, read_from, read_journal}
 use Rattle.change_journal.specs.declared.mark.Mark.{Mark}
 use Rattle.change_journal.specs.declared.mark.Mark.TheVariants as mark

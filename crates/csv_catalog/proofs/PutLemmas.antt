@@ -1,5 +1,5 @@
 -- Rows and relations, put one after the other.
-use Rattle.std.proofs.Common.{◌≡◌, ◌<◌, ◌≤◌, ◌+◌, ◌∷◌, ◌++◌, ◌∙◌, [], ℕ, List, true, refl, sym, ap, subst, zero, suc, length, map, slice_index_or, Result, Ok, Err, OnOk, arith, append_assoc}
+use Rattle.std.proofs.Common.{◌≡◌, ◌<◌, ◌≤◌, ◌+◌, ◌∷◌, ◌++◌, ◌∙◌, [], ℕ, List, true, refl, sym, ap, subst, zero, suc, length, map, slice_index_or, arith, append_assoc}
 use Rattle.std.specs.List.{AllByRecursion, list_all}
 use Rattle.std.specs.List.Sorted.{IsStrictlySortedBy}
 use Rattle.std.specs.declared.cmp.Ordering.TheVariants.{Less}
@@ -21,10 +21,6 @@ use Rattle.schema_model.specs.Limits.{most_rows, most_relations}
 -- a catalogue that is settled over some list is so over its own
 pub settled_as : (c : CatalogueState) (d : CatalogueValue) → c ≡ settled d → c ≡ settled c.databases
 settled_as c d e = e ∙ ap settled (sym (ap (λ (x : CatalogueState). x.databases) e))
-
-pub settled_if : {A E : Type 0} (r : Result A E) (new : CatalogueState) (c d : CatalogueValue) → c ≡ d → OnOk r (new ≡ settled c) → OnOk r (new ≡ settled d)
-settled_if (Ok a) new c d e h = h ∙ ap settled e
-settled_if (Err x) new c d e h = tt
 
 pub counted_databases : (ds : List DatabaseState) (c : CatalogueValue) → map plain_database ds ≡ c → length ds ≡ length c
 counted_databases ds c are = sym (length-map ds plain_database) ∙ ap length are

@@ -1,13 +1,12 @@
 -- One step more of a disk in memory.
-use Rattle.std.proofs.Common.{◌≡◌, ◌⊎◌, ℕ, ◌+◌, ◌≤◌, Bool, true, false, List, [], ◌∷◌, ◌++◌, length, take, drop, Option, None, Some, inl, inr, refl, sym, ap, ◌∙◌, subst, arith, length-append}
-use Rattle.std.proofs.lemmas.Bool.{cases_lt, cases_Bool}
+use Rattle.std.proofs.Common.{◌≡◌, ◌⊎◌, ℕ, ◌+◌, ◌≤◌, List, [], ◌∷◌, ◌++◌, length, take, Some, inl, inr, refl, sym, ap, ◌∙◌, subst, arith, length-append}
+use Rattle.std.proofs.lemmas.Bool.{cases_lt}
 use Rattle.std.proofs.lemmas.List.{take_all, take-append-le}
-use Rattle.outside.specs.Calls.{faults_of}
-use Rattle.disk.specs.Disk.{Content, IsImage, MayLeave, MayBreakOff, BrokeOff, stable, with_written, with_synced}
+use Rattle.disk.specs.Disk.{Content, IsImage, MayBreakOff, BrokeOff, stable}
 use Rattle.disk.specs.Moments.{Elapses}
 use Rattle.disk.specs.MemDisks.{MemDiskState, after_step, after_steps, content_at, content_of, HasLeft, state_of}
 use Rattle.disk.specs.declared.step.Step.{Step}
-use Rattle.disk.specs.declared.step.Step.TheVariants.{Wrote, Tore, Synced}
+use Rattle.disk.specs.declared.step.Step.TheVariants.{Tore}
 
 pub one_more : (held : Content) (steps : List Step) (step : Step) → after_steps held (steps ++ step ∷ []) ≡ after_step (after_steps held steps) step
 one_more held [] step = refl

@@ -1,8 +1,8 @@
 -- What holds of a disk in memory at each moment.
-use Rattle.std.proofs.Common.{◌≡◌, ℕ, ◌+◌, ◌≤◌, max, List, [], ◌∷◌, ◌++◌, length, take, drop, Option, None, Some, refl, sym, ap, subst, arith, length-append, length-take, length-drop}
+use Rattle.std.proofs.Common.{◌≡◌, ℕ, ◌+◌, ◌≤◌, List, [], ◌∷◌, ◌++◌, length, take, drop, Some, sym, subst, arith, length-append, length-take, length-drop}
 use Rattle.std.proofs.lemmas.List.{take_all}
-use Rattle.disk.specs.Disk.{Content, IsImage, MayLeave, stable, overwritten, with_written, with_synced}
-use Rattle.disk.specs.MemDisks.{MemDiskState, after_step, after_steps, content_at, content_of, HasLeft}
+use Rattle.disk.specs.Disk.{Content, IsImage, stable, overwritten}
+use Rattle.disk.specs.MemDisks.{MemDiskState, after_step, after_steps, content_of, HasLeft}
 use Rattle.disk.specs.declared.step.Step.{Step}
 use Rattle.disk.specs.declared.step.Step.TheVariants.{Wrote, Tore, Synced}
 

@@ -1,5 +1,5 @@
 -- A disk in memory, as contracts see it.
-use Rattle.std.specs.Prelude.{◌≡◌, ℕ, ◌+◌, ◌≤◌, List, [], ◌∷◌, length, take, Some}
+use Rattle.std.specs.Prelude.{ℕ, ◌+◌, ◌≤◌, List, [], ◌∷◌, length, take, Some}
 use Rattle.outside.specs.Calls.{Calls, faults_of}
 use Rattle.disk.specs.Disk.{Content, DiskState, IsImage, stable, with_written, with_synced}
 use Rattle.disk.specs.declared.step.Step.{Step}

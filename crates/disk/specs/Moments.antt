@@ -1,5 +1,5 @@
 -- What a crash may have left at any moment since an earlier one.
-use Rattle.std.specs.Prelude.{◌≡◌, ◌⊎◌, ℕ, ◌≤◌, List, Option}
+use Rattle.std.specs.Prelude.{◌⊎◌, ℕ, ◌≤◌, List}
 use Rattle.disk.specs.Disk.{DiskState, MayLeave}
 
 -- Time goes on by one call: a crash at a moment within it leaves what one might have left before, or what one may leave now,

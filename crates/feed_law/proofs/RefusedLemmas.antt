@@ -1,7 +1,6 @@
 -- The lines of feeds end no run with a refusal.
 use Rattle.std.proofs.Common.{◌≡◌, ℕ, false, List, [], ◌∷◌, ◌++◌}
 use Rattle.outside.specs.Effects.{Effect}
-use Rattle.course.specs.declared.status.Verdict.TheVariants as verdict
 use Rattle.course.specs.Answering.{Continues, ending, follow}
 use Rattle.course.specs.Course.{verdict_status, is_refused_status}
 use Rattle.view_stages.specs.Open.{OpenValue}

@@ -8,10 +8,7 @@ use Rattle.std.specs.FinMap.{IsAntisymmetric}
 use Rattle.ss_text.specs.Texts.{Text, Row, text_cmp}
 use Rattle.ss_text.specs.Label.{is_table_label, is_column_label}
 use Rattle.ss_text.proofs.KeyLemmas.{text_order}
-use Rattle.flow_law.specs.declared.shape.Shape.{Shape}
-use Rattle.flow_law.specs.declared.refused.IllegalLabel.{IllegalLabel}
-use Rattle.flow_law.specs.declared.refused.Clash.{Clash}
-use Rattle.flow_law.specs.Facts.{Fact, Pair, pair_cmp, column_of, pairs_of, illegal, conflict, first_refusal, refusal_by}
+use Rattle.flow_law.specs.Facts.{Fact, Pair, pair_cmp, column_of, pairs_of}
 use Rattle.flow_law.proofs.Entries.{first_equal, second_equal}
 
 pub pair_total : IsTotalOrder pair_cmp

@@ -57,14 +57,15 @@ has_table_is : (ts : TablesValue) (label : Text) → has_table ts label ≡ is_s
 has_table_is ts label = sym (found_any text_order ts label)
 
 -- a table found under its label is in order
-found_in_order : (ts : TablesValue) (label : Text) (t : TableValue) → AreTables ts → table_of ts label ≡ Some t → IsTable t
+pub found_in_order : (ts : TablesValue) (label : Text) (t : TableValue) → AreTables ts → table_of ts label ≡ Some t → IsTable t
 found_in_order ts label t h e =
     let place = place_there text_order label_in label ts (has_table_is ts label ∙ ap is_some e) in
     let found : Some (tables_at place.0 ts).1 ≡ Some t = sym (table_found ts label place.0 h place.1) ∙ e in
     let same : (tables_at place.0 ts).1 ≡ t = cc in
     subst IsTable same (table_at_in_order ts place.0 h place.1.within)
 
-changed_in_order : (ts : TablesValue) (label : Text) (t : TableValue) (f : TableValue → TableValue) → AreTables ts → table_of ts label ≡ Some t → IsTable (f t) → AreTables (at_table label f ts)
+-- and tables of which one is changed, and is in order then
+pub changed_in_order : (ts : TablesValue) (label : Text) (t : TableValue) (f : TableValue → TableValue) → AreTables ts → table_of ts label ≡ Some t → IsTable (f t) → AreTables (at_table label f ts)
 changed_in_order ts label t f h e made =
     let place = place_there text_order label_in label ts (has_table_is ts label ∙ ap is_some e) in
     let found : Some (tables_at place.0 ts).1 ≡ Some t = sym (table_found ts label place.0 h place.1) ∙ e in

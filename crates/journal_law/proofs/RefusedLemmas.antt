@@ -2,7 +2,6 @@
 use Rattle.std.proofs.Common.{◌≡◌, ℕ, true, false, List, Some, refl, ap}
 use Rattle.outside.specs.Tree.{Tree}
 use Rattle.outside.specs.Effects.{World, Contents}
-use Rattle.course.specs.declared.status.Verdict.TheVariants as verdict
 use Rattle.course.specs.Answering.{course}
 use Rattle.course.specs.declared.exit.Status.{Status}
 use Rattle.course.specs.Course.{Finished, by_lines, verdict_status, is_refused_status}

@@ -10,7 +10,7 @@ use Rattle.view_def.specs.declared.typed.Term.{Term}
 use Rattle.view_def.specs.Conditions.{condition_of}
 use Rattle.view_def.specs.Query.{Query}
 use Rattle.plan_law.specs.Columns.{sides_of}
-use Rattle.plan_law.specs.Links.{Source, Link, link, places_from, column_link, equality_link, key_of, is_own}
+use Rattle.plan_law.specs.Links.{Source, Link, places_from, column_link, equality_link, key_of, is_own}
 use Rattle.plan_form.specs.declared.source.Source.{Source as Held}
 use Rattle.plan_form.specs.declared.base.Equal.{Equal}
 use Rattle.plan_form.specs.Sources.{seen_link}

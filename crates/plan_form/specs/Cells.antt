@@ -1,8 +1,6 @@
 -- Where a text is found in a row, and terms that say so.
 use Rattle.std.specs.Prelude.{slice_get, Option, Some, None}
 use Rattle.ss_text.specs.Texts.{Text, Row}
-use Rattle.view_def.specs.declared.typed.Place.TheVariants as place
-use Rattle.view_def.specs.declared.typed.Term.TheVariants as term
 use Rattle.plan_law.specs.Links.{Source}
 use Rattle.plan_law.specs.Links as link
 use Rattle.plan_form.specs.declared.cell.Cell.{Cell}

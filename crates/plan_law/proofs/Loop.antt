@@ -1,5 +1,5 @@
 -- A walk by a loop, and rows read by places.
-use Rattle.std.proofs.Common.{◌≡◌, ◌<◌, ℕ, suc, List, [], ◌∷◌, ◌++◌, length, drop, get_or, refl, ap, sym, ◌∙◌, subst, append-nil, append_assoc, drop-cons}
+use Rattle.std.proofs.Common.{◌≡◌, ◌<◌, ℕ, suc, List, [], ◌∷◌, ◌++◌, length, drop, get_or, refl, ap, sym, ◌∙◌, append-nil, append_assoc, drop-cons}
 use Rattle.std.specs.Prelude.{zip}
 use Rattle.std.specs.Option.{option_and_then}
 use Rattle.ss_text.specs.Texts.{Row}

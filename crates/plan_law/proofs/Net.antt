@@ -1,9 +1,8 @@
 -- Moves of which no row moves both ways are the fewest.
-use Rattle.std.proofs.Common.{◌≡◌, inl, inr, subst, ℕ, ◌+◌, ◌≤◌, suc, List, [], ◌∷◌, length, Bool, true, false, ◌&&◌, ◌||◌, cond, refl, arith, ap, sym, ◌∙◌}
+use Rattle.std.proofs.Common.{◌≡◌, inl, inr, subst, ℕ, ◌+◌, ◌≤◌, suc, List, [], ◌∷◌, length, Bool, true, false, ◌&&◌, cond, refl, arith}
 use Rattle.std.specs.List.{list_any, AllByRecursion}
 use Rattle.ss_text.specs.Texts.{Row, row_eq}
 use Rattle.schema_delta.specs.Net.{SameNet, IsNet}
-use Rattle.operator_law.proofs.Counts.{row_eq-Decides}
 use Rattle.operator_law.proofs.SignedRows.{come-up, go-up, come-down, go-down}
 use Rattle.plan_law.proofs.Columns.{Has}
 use Rattle.operator_law.specs.declared.delta.Signed.{Signed}

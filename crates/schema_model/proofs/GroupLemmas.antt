@@ -1,6 +1,6 @@
 -- Changes of rows that are made one after another.
 use Rattle.std.proofs.Common.{◌≡◌, ◌<◌, ◌≤◌, ◌+◌, ◌∷◌, ◌++◌, ◌∙◌, ◌&&◌, ◌||◌, reverse, [], ℕ, zero, suc, Bool, true, false, List, Option, Some, None, refl, sym, ap, subst, arith, cond, map, length, slice_index_or, slice_set, IsSome, is_some, drop}
-use Rattle.std.specs.Prelude.{if◌then◌else◌, find, IsTrue, option_and_then}
+use Rattle.std.specs.Prelude.{if◌then◌else◌, find, IsTrue}
 use Rattle.std.specs.List.{list_all, list_any, AllByRecursion}
 use Rattle.std.specs.Option.{option_or}
 use Rattle.std.proofs.lemmas.Bool.{false≢true}
@@ -8,14 +8,14 @@ use Rattle.std.proofs.lemmas.List.{length-map, reverse-append}
 use Rattle.ss_text.specs.Texts.{Text, Row, text_eq}
 use Rattle.ss_text.specs.Keys.{IsPlaceOf}
 use Rattle.ss_text.specs.Places.{at_place, changed_where}
-use Rattle.schema_model.specs.Catalogue.{RelationValue, DatabaseValue, CatalogueValue, relation_value, database_value, relation_name, database_name, relation_names, database_at, relation_of, relation_in, database_of, row_count, with_row, with_relation_at}
+use Rattle.schema_model.specs.Catalogue.{RelationValue, DatabaseValue, CatalogueValue, database_value, relation_name, database_name, database_at, relation_of, row_count, with_row, with_relation_at}
 use Rattle.schema_model.specs.Changes.{after, after_all, at_relation, at_relation_in, less_row, is_well_formed}
 use Rattle.schema_model.specs.Refusals.{fault, group_fault}
-use Rattle.schema_model.specs.Sound.{IsSound, IsDatabase}
+use Rattle.schema_model.specs.Sound.{IsSound}
 use Rattle.schema_model.specs.ListedRows.{IsNext}
 use Rattle.schema_model.specs.States.{RelationState, DatabaseState, no_relation_state, plain_relation, plain_database, plain_databases, relation_state_at}
 use Rattle.schema_model.specs.Edits.{relation_edited, FitsDatabase, FitsWaiting, FitsOwn, waiting_left, waits_in, own_left, own_in, rows_after}
-use Rattle.schema_model.specs.Groups.{is_of_row, named, all_named, all_waits, waits_at, all_own, own_at, KeepsOwn, AreOwn, row_edited, rows_edited, IsRowEdit}
+use Rattle.schema_model.specs.Groups.{is_of_row, named, all_named, all_waits, waits_at, all_own, own_at, KeepsOwn, AreOwn, rows_edited, IsRowEdit}
 use Rattle.schema_model.specs.declared.change.Change.{Change}
 use Rattle.schema_model.specs.declared.change.Change.TheVariants.{Insert, Delete, AddAttribute, DropAttribute, RenameAttribute, CreateRelation, DropRelation, RenameRelation, CreateDatabase, DropDatabase, RenameDatabase}
 use Rattle.schema_model.specs.declared.refusal.Refusal.{Refusal}

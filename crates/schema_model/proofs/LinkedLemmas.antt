@@ -1,10 +1,9 @@
 -- Linked rows are rows behind places.
-use Rattle.std.proofs.Common.{◌≡◌, ◌∙◌, ◌∷◌, ◌++◌, ◌||◌, ◌==◌, [], ℕ, suc, zero, List, Bool, true, false, Some, refl, sym, ap, map, length, cond, nat_eq, inl, inr, IsSome, is_some, filter, count_by, drop, arith}
+use Rattle.std.proofs.Common.{◌≡◌, ◌∙◌, ◌∷◌, ◌++◌, ◌||◌, ◌==◌, [], ℕ, suc, List, Bool, true, false, Some, refl, sym, ap, length, cond, nat_eq, inl, inr, IsSome, is_some, filter, count_by, drop, arith}
 use Rattle.std.specs.Prelude.{remove}
 use Rattle.std.specs.List.{list_any, AllByRecursion, IsDistinct, position_or_len}
 use Rattle.std.proofs.lemmas.Bool.{eq-eqb, ne_eqb}
 use Rattle.std.proofs.lemmas.Bool.Decides.{eqb_tells}
-use Rattle.std.proofs.lemmas.List.{map_push}
 use Rattle.std.proofs.lemmas.List.Sums.{length-filter}
 use Rattle.ss_text.specs.Texts.{Row, row_eq}
 use Rattle.ss_text.proofs.KeyLemmas.{row_order, equal_itself, equal_is}

@@ -5,7 +5,7 @@ use Rattle.std.specs.List.{list_any, position, position_or_len}
 use Rattle.std.specs.Option.{option_map_or}
 use Rattle.std.proofs.lemmas.Bool.{false≢true}
 use Rattle.std.proofs.lemmas.List.{length-map}
-use Rattle.ss_text.specs.Texts.{Text, Row, text_cmp, text_eq, row_eq, is_in}
+use Rattle.ss_text.specs.Texts.{Text, Row, text_cmp, text_eq, is_in}
 use Rattle.ss_text.specs.Keys.{IsPlaceOf, IsPlaceFor}
 use Rattle.ss_text.specs.Places.{at_place}
 use Rattle.ss_text.proofs.KeyLemmas.{text_order, placed_for, removed_at, found_at, changed_at}
@@ -18,7 +18,7 @@ use Rattle.std.proofs.lemmas.Bool.Decides.{nat_tests}
 use Rattle.schema_model.specs.declared.change.Change.TheVariants.{Insert, Delete, AddAttribute, DropAttribute, RenameAttribute, CreateRelation, DropRelation, CreateDatabase, DropDatabase}
 use Rattle.schema_model.proofs.NamedLists.{found_any, missed_any}
 use Rattle.schema_model.proofs.RelationsKept.{length_set, none_repeated}
-use Rattle.schema_model.proofs.ChangeLemmas.{changed_there, changed_alike, place_within, position_there}
+use Rattle.schema_model.proofs.ChangeLemmas.{changed_there, changed_alike, position_there}
 use Rattle.schema_model.specs.States.{RelationState, DatabaseState, no_relation_state, plain_relation, plain_database, plain_databases, relation_state_at, database_state_at}
 use Rattle.schema_model.specs.Edits.{Makes, Fits, FitsRelation, edited, relation_edited, database_edited}
 use Rattle.schema_model.specs.declared.edit.RelationEdit.{RelationEdit}

@@ -1,13 +1,20 @@
 -- Lists that are seen as others, edited.
 use Rattle.std.proofs.Common.{◌≡◌, ◌<◌, ◌∙◌, ◌∷◌, [], ℕ, zero, suc, List, refl, arith, ap, map, length, slice_index_or, slice_set}
-use Rattle.std.specs.Prelude.{insert, remove, Result, Ok, Err, OnErr}
+use Rattle.std.specs.Prelude.{insert, remove, Result, Ok, Err, OnOk, OnErr}
 use Rattle.std.specs.List.{AllByRecursion, AllZip}
 use Rattle.ss_text.specs.Places.{at_place}
+use Rattle.schema_model.specs.Catalogue.{CatalogueValue}
+use Rattle.schema_model.specs.States.{CatalogueState, settled}
 
 -- what holds holds where a call gave up
 pub holds_on_err : {T E Q : Type 0} (r : Result T E) → Q → OnErr r Q
 holds_on_err (Ok x) q = tt
 holds_on_err (Err e) q = q
+
+-- what a call that did not give up left settled over one list is settled over an equal one
+pub settled_if : {A E : Type 0} (r : Result A E) (new : CatalogueState) (c d : CatalogueValue) → c ≡ d → OnOk r (new ≡ settled c) → OnOk r (new ≡ settled d)
+settled_if (Ok a) new c d e h = h ∙ ap settled e
+settled_if (Err x) new c d e h = tt
 
 module _ {A B : Type 0} (seen : A → B) where
   pub set_seen : (g : B → B) (xs : List A) (i : ℕ) (new d : A) → i < length xs → seen new ≡ g (seen (slice_index_or xs i d)) → map seen (slice_set xs i new) ≡ at_place i g (map seen xs)

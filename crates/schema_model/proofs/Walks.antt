@@ -1,7 +1,6 @@
 -- Walks over placed rows.
-use Rattle.std.proofs.Common.{◌≡◌, ℕ, zero, suc, ◌+◌, ◌<◌, List, [], ◌∷◌, ◌++◌, Bool, true, false, cond, refl, arith, ap, sym, ◌∙◌, map, length, IsTrue, ◌==◌, Option, Some, None, ◌||◌, append_assoc}
-use Rattle.std.specs.Prelude.{IfSome}
-use Rattle.std.specs.List.{list_any, AllByRecursion, IsDistinct}
+use Rattle.std.proofs.Common.{◌≡◌, ℕ, ◌+◌, ◌<◌, List, [], ◌∷◌, ◌++◌, true, false, cond, refl, arith, ap, sym, ◌∙◌, length, ◌==◌, Option, Some, None, ◌||◌, append_assoc}
+use Rattle.std.specs.List.{AllByRecursion}
 use Rattle.std.proofs.lemmas.Bool.Decides.{Decides-eqb}
 use Rattle.std.proofs.lemmas.Map.Keys.{IsDistinct-head, IsDistinct-tail}
 use Rattle.ss_text.specs.Texts.{Row}

@@ -1,5 +1,5 @@
 -- An edit is a change whose places are found and whose memory is taken: what it makes, and what it asks.
-use Rattle.std.specs.Prelude.{ℕ, ◌≡◌, ◌<◌, ◌≤◌, ◌+◌, ◌-◌, ⊤, Bool, true, IsTrue, List, [], ◌∷◌, length, map, drop, insert, remove, slice_index_or}
+use Rattle.std.specs.Prelude.{ℕ, ◌≡◌, ◌<◌, ◌≤◌, ◌+◌, ◌-◌, ⊤, Bool, true, IsTrue, List, [], length, map, drop, insert, remove, slice_index_or}
 use Rattle.std.specs.Option.{option_map_or}
 use Rattle.ss_text.specs.Texts.{Text, Row}
 use Rattle.ss_text.specs.Places.{at_place}

@@ -4,7 +4,7 @@ use Rattle.ss_lexer.specs.Lexemes.{Piece}
 use Rattle.ss_parser.specs.declared.fault.ParseStop.{ParseStop}
 use Rattle.ss_parser.specs.declared.fault.ParseStop.TheVariants.{Unexpected, TooDeep, NoMemory}
 use Rattle.ss_parser.specs.Phrases.{Phrase, ◌>>=◌}
-use Rattle.ss_parser.specs.Parses.{Parses, ParsesAll}
+use Rattle.ss_parser.specs.Parses.{Parses}
 
 -- where a part stops, the whole stops
 pub stops_with : {X Y A B : Type 0} (view : X → A) (view' : Y → B) (p : Phrase Piece A) (q : Phrase Piece B) (old mid new : List Piece) → ((deep : Bool) → p.stops deep mid new → q.stops deep old new) → (e : ParseStop) → Parses view p mid new (Err e) → Parses view' q old new (Err e)

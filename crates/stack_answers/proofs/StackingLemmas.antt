@@ -3,7 +3,6 @@ use Rattle.std.proofs.Common.{◌≡◌, ◌≢◌, ℕ, true, List, refl}
 use Rattle.std.specs.Prelude.{Result, Ok, Err}
 use Rattle.outside.specs.Effects.{Effect, World}
 use Rattle.course.specs.declared.status.Verdict.{Verdict}
-use Rattle.course.specs.declared.status.Verdict.TheVariants as verdict
 use Rattle.course.specs.declared.status.Halt.{Halt}
 use Rattle.course.specs.declared.status.Halt.TheVariants as halt
 use Rattle.course.specs.Answering.{Continues, AnsweredSome}

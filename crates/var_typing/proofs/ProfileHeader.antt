@@ -1,5 +1,5 @@
 -- Columns that pass typing: distinct constants, and at most one variable.
-use Rattle.std.proofs.Common.{◌≡◌, ◌<◌, ◌≤◌, ◌+◌, ◌∷◌, ◌++◌, [], ℕ, zero, suc, Bool, true, false, not, List, Option, Some, None, refl, sym, ap, ◌∙◌, subst, arith, length, is_some, cond, append-nil, length-append}
+use Rattle.std.proofs.Common.{◌≡◌, ◌<◌, ◌≤◌, ◌+◌, ◌∷◌, ◌++◌, [], ℕ, zero, suc, Bool, true, false, List, Option, Some, None, refl, sym, ap, ◌∙◌, subst, arith, length, is_some, cond, append-nil, length-append}
 use Rattle.std.specs.Prelude.{bytes_eq, position, option_and_then, slice_get, ◌&&◌, ◌||◌}
 use Rattle.std.specs.List.{list_all, list_any, find, IsDistinct}
 use Rattle.std.specs.Option.{ForSome}

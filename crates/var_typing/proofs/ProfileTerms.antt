@@ -7,7 +7,7 @@ use Rattle.std.proofs.lemmas.List.Concat.{flat_map-append}
 use Rattle.std.proofs.lemmas.List.Folds.{list_any-append}
 use Rattle.std.proofs.lemmas.Bool.{or_from}
 use Rattle.ss_text.specs.Texts.{Text}
-use Rattle.view_def.specs.Conditions.{none, more}
+use Rattle.view_def.specs.Conditions.{none}
 use Rattle.view_def.specs.Profile.{is_term_over, cell_folds, range_folds, term_folds}
 use Rattle.view_def.specs.RawConditions as raw_conditions
 use Rattle.view_def.specs.RawConditions.{Raw, Raws, AnyRaw, AllRaw, NotRaw, CompareRaw}

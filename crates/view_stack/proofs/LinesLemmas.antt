@@ -1,6 +1,6 @@
 -- A database that says what tables say, says it after lines that fit them.
 use Rattle.std.proofs.Common.{◌≡◌, ◌∙◌, Bool, true, false, cond, ◌&&◌, ◌||◌, not, List, [], ◌∷◌, ◌++◌, Option, Some, None, map, refl, sym, ap, subst}
-use Rattle.std.specs.Prelude.{remove, unwrap_or, option_map, option_and_then, is_some}
+use Rattle.std.specs.Prelude.{remove, unwrap_or, option_map, option_and_then}
 use Rattle.std.specs.List.{position_or_len}
 use Rattle.std.specs.Option.{option_map_or}
 use Rattle.ss_text.specs.Texts.{Text, Row, text_eq, row_eq, text_cmp, is_in}
@@ -10,14 +10,15 @@ use Rattle.std.specs.declared.cmp.Ordering.TheVariants.{Less, Equal, Greater}
 use Rattle.std.specs.Ordering.{is_eq}
 use Rattle.ss_text.proofs.PairLemmas.{turned}
 use Rattle.ss_text.proofs.KeyLemmas.{text_order, place_there, place_missing}
-use Rattle.ss_text.proofs.PairLemmas.{lookup_changed, found_any}
-use Rattle.flow_law.specs.Tables.{TableValue, TablesValue, empty_table, table_of, tables_at, label_in, cell_of}
-use Rattle.flow_law.specs.InOrder.{IsTable, AreTables}
+use Rattle.ss_text.proofs.PairLemmas.{lookup_changed}
+use Rattle.flow_law.specs.Tables.{TableValue, TablesValue, empty_table, table_of, label_in, cell_of}
+use Rattle.flow_law.specs.InOrder.{AreTables}
 use Rattle.flow_law.specs.Lines.{label_of, without_row, with_row, without_column, with_column, with_cell, table_after, at_table, without_table, with_table, after_line, after_lines, has_row, has_column, has_table, fits_table, fits_label, fits_line, fit_lines}
 use Rattle.flow_law.specs.declared.line.TableLine.{TableLine}
 use Rattle.flow_law.specs.declared.line.TableLine.TheVariants.{TableMinus, TablePlus, RowMinus, ColumnMinus, ColumnPlus, RowPlus, Cell}
 use Rattle.flow_law.proofs.TableLemmas.{line_in_order}
-use Rattle.flow_law.proofs.LabelLemmas.{table_found, table_removed, table_removed_in_order, table_placed, table_placed_in_order, table_changed, table_changed_in_order, table_at_in_order}
+use Rattle.flow_law.proofs.ScriptLaw.{changed_in_order}
+use Rattle.flow_law.proofs.LabelLemmas.{table_removed, table_removed_in_order, table_placed, table_placed_in_order}
 use Rattle.schema_model.specs.Catalogue.{RelationValue, DatabaseValue, CatalogueValue, relation_value, database_value, attributes_of, database_of, relation_in}
 use Rattle.schema_model.specs.Catalogue.{with_row as put_row}
 use Rattle.schema_model.specs.Changes.{less_row, with_attribute, less_attribute, placed, without, with_relations, at_database, after, after_all, at_relation, at_relation_in}
@@ -30,20 +31,6 @@ use Rattle.view_stack.proofs.SaysLemmas.{Distinct, Says, in_upper, row_went, col
 use Rattle.view_stack.proofs.MovedLemmas.{AreSaid, whole, said_changed, said_without, said_placed, cells_after, cells_said, row_said, HasColumns, relation_at}
 
 -- ---- tables stay in order
-pub table_found_in_order : (ts : TablesValue) (label : Text) (t : TableValue) → AreTables ts → table_of ts label ≡ Some t → IsTable t
-table_found_in_order ts label t h e =
-    let place = place_there text_order label_in label ts (sym (found_any text_order ts label) ∙ ap is_some e) in
-    let found : Some (tables_at place.0 ts).1 ≡ Some t = sym (table_found ts label place.0 h place.1) ∙ e in
-    let same : (tables_at place.0 ts).1 ≡ t = cc in
-    subst IsTable same (table_at_in_order ts place.0 h place.1.within)
-
-changed_in_order : (ts : TablesValue) (label : Text) (t : TableValue) (f : TableValue → TableValue) → AreTables ts → table_of ts label ≡ Some t → IsTable (f t) → AreTables (at_table label f ts)
-changed_in_order ts label t f h e made =
-    let place = place_there text_order label_in label ts (sym (found_any text_order ts label) ∙ ap is_some e) in
-    let found : Some (tables_at place.0 ts).1 ≡ Some t = sym (table_found ts label place.0 h place.1) ∙ e in
-    let same : t ≡ (tables_at place.0 ts).1 = cc in
-    subst AreTables (sym (table_changed ts label f place.0 h place.1)) (table_changed_in_order ts f place.0 h (subst (λ (u : TableValue). IsTable (f u)) same made))
-
 -- the table of a line that fits
 pub record Found (ts : TablesValue) (line : TableLine) : Type 0 where
   pub table : TableValue

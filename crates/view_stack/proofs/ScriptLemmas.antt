@@ -19,13 +19,13 @@ use Rattle.flow_law.specs.declared.line.TableLine.{TableLine}
 use Rattle.flow_law.specs.declared.line.TableLine.TheVariants.{TableMinus, TablePlus, RowMinus, ColumnMinus, ColumnPlus, RowPlus, Cell}
 use Rattle.flow_law.proofs.TableLemmas.{empty_in_order, line_in_order}
 use Rattle.flow_law.proofs.StepLemmas.{has_key, key_is_there, row_minus_keys, row_minus_cells, column_minus_columns, column_minus_keys, column_minus_cells, column_plus_columns, column_plus_keys, column_plus_cells, row_plus_keys, row_plus_cells, cell_cells, cell_no_column, cell_no_key}
-use Rattle.flow_law.proofs.ScriptLaw.{lines_passed, script_fits}
+use Rattle.flow_law.proofs.ScriptLaw.{lines_passed, script_fits, found_in_order}
 use Rattle.change_script.specs.Fits.{TableFits}
 use Rattle.flow_law.specs.declared.shape.Shape.{Shape}
 use Rattle.valuation_meaning.proofs.OrderLemmas.{same_bytes, bytes_same, same_rows, rows_same}
 use Rattle.view_stack.specs.Lifted.{row_of, goes_on, table_at}
 use Rattle.view_stack.proofs.SaysLemmas.{and_first, and_second, not_true, or_right, or_false_left, or_false_right}
-use Rattle.view_stack.proofs.LinesLemmas.{Agrees, Reads, AreBlocks, IsDynamic, table_found_in_order}
+use Rattle.view_stack.proofs.LinesLemmas.{Agrees, Reads, AreBlocks, IsDynamic}
 use Rattle.view_stack.proofs.LimitLemmas.{IsLegal}
 
 -- ---- lists
@@ -408,11 +408,11 @@ module _ (before new : TablesValue) (old_order : AreTables before) (new_order : 
   block_reads label ts (Some t) None e f now fits = (λ off. tt, tt)
   block_reads label ts None (Some t) e f now fits = (
     λ off. tt,
-    between_reads label empty_table t before (ap (λ (o : Option TableValue). unwrap_or o empty_table) e) (with_table label ts) (new_found ts label now) empty_in_order (table_found_in_order new label t new_order f)
+    between_reads label empty_table t before (ap (λ (o : Option TableValue). unwrap_or o empty_table) e) (with_table label ts) (new_found ts label now) empty_in_order (found_in_order new label t new_order f)
         (and_second (fits_line ts (TablePlus label)) (fit_lines (with_table label ts) (lines_between label empty_table t)) fits),
   )
   block_reads label ts (Some t) (Some u) e f now fits =
-      between_reads label t u before (ap (λ (o : Option TableValue). unwrap_or o empty_table) e) ts now (table_found_in_order before label t old_order e) (table_found_in_order new label u new_order f) fits
+      between_reads label t u before (ap (λ (o : Option TableValue). unwrap_or o empty_table) e) ts now (found_in_order before label t old_order e) (found_in_order new label u new_order f) fits
 
   labels_read : (labels : List Text) (ts : TablesValue) → IsStrictlySortedBy text_cmp labels → ((l : Text) → is_in l labels ≡ true → table_of ts l ≡ table_of before l) → fit_lines ts (flat_map block labels) ≡ true → Reads before ts None (flat_map block labels)
   unfolding IsStrictlySortedBy

@@ -1,6 +1,6 @@
 -- What the tables of slots come to as a database: its limits, and what it takes to put them into it.
 use Rattle.std.proofs.Common.{Global, ◌≡◌, ◌<◌, ◌≤◌, ◌+◌, ◌∷◌, ◌++◌, ◌∙◌, [], ℕ, Bool, true, false, ◌||◌, List, Option, None, Some, refl, sym, ap, subst, length, map, take, drop, get_or, arith, length-append, append_assoc}
-use Rattle.std.specs.Prelude.{Vec, Result, Ok, Err, OnOk, IfNone, nat_lt}
+use Rattle.std.specs.Prelude.{Vec, Result, OnOk, IfNone, nat_lt}
 use Rattle.std.specs.List.{AllByRecursion, list_any, list_all}
 use Rattle.std.specs.List.Sorted.{IsStrictlySortedBy}
 use Rattle.std.proofs.lemmas.Bool.{lt-ltb, le-ltb, ltb-true, ltb-false}
@@ -25,6 +25,7 @@ use Rattle.schema_model.specs.Catalogue.{RelationValue, CatalogueValue, relation
 use Rattle.schema_model.specs.Limits.{most_relations, most_attributes, most_rows}
 use Rattle.schema_model.specs.States.{CatalogueState, settled}
 use Rattle.schema_model.specs.Sound.{AreNames, IsRelation}
+use Rattle.schema_model.proofs.Seen.{settled_if}
 use Rattle.schema_model.specs.declared.refusal.Which.{Which}
 use Rattle.schema_model.specs.declared.refusal.Which.TheVariants.{Relations, Attributes, Rows}
 use Rattle.view_stack.specs.Limits.{first_limit, is_wide, row_total}
@@ -214,10 +215,6 @@ pub slot_count : (ss : List Slot) (i : ℕ) (s : Slot) (n m : ℕ) → i < lengt
 slot_count ss i s n m lt is so_far added = let more = ap length (tables_more ss i s lt is) ∙ length-append (tables_in (take i ss)) (tables_in (s ∷ [])) in omega (arith, so_far, added, more)
 
 -- ---- the relation of a table
-on_ok : {A E : Type 0} (r : Result A E) (d : CatalogueState) (front back : CatalogueValue) → front ≡ back → OnOk r (d ≡ settled front) → OnOk r (d ≡ settled back)
-on_ok (Ok a) d front back e h = h ∙ ap settled e
-on_ok (Err x) d front back e h = tt
-
 module _ (c : CatalogueValue) (rel : ℕ) (shape : Shape) (label : Text) (t : TableValue) (h : CanTake c rel (relation_for shape (label, t)))
     (name : Text) (attributes columns : Row) (rows : List (Row × Row)) (d : CatalogueState) (named : name ≡ label) (made : attributes ≡ spliced shape.spot shape.constants columns) (own : columns ≡ t.columns) (are : rows ≡ t.rows)
     (added : d ≡ settled (relations_put (relation_value name attributes [] ∷ []) c)) where
@@ -231,7 +228,7 @@ module _ (c : CatalogueValue) (rel : ℕ) (shape : Shape) (label : Text) (t : Ta
       (subst (λ (rs : List (Row × Row)). CanTakeRows (relations_put (relation_value label (header shape t) [] ∷ []) c) rel (row_records shape.spot rs)) (sym are) (relation_takes c rel (relation_for shape (label, t)) h))
 
   pub table_put : {A E : Type 0} (r : Result A E) (e : CatalogueState) → OnOk r (e ≡ settled (rows_put rel (row_records shape.spot rows) d.databases)) → OnOk r (e ≡ settled (relations_put (relation_for shape (label, t) ∷ []) c))
-  table_put r e filled = on_ok r e _ _ ((λ i. rows_put rel (row_records shape.spot (are i)) (begun i)) ∙ relation_filled c rel (relation_for shape (label, t)) h) filled
+  table_put r e filled = settled_if r e _ _ ((λ i. rows_put rel (row_records shape.spot (are i)) (begun i)) ∙ relation_filled c rel (relation_for shape (label, t)) h) filled
 
 pub one_name : (name db : Text) → name ≡ db → is_table_label db ≡ true → AreNames ([] ++ name ∷ [])
 unfolding IsStrictlySortedBy

@@ -1,4 +1,4 @@
-use Rattle.std.proofs.Common.{◌≡◌, ◌+◌, ◌-◌, ◌≤◌, min, ℕ, List, length, take, drop, Some, sym, ap, ◌∙◌, subst, arith}
+use Rattle.std.proofs.Common.{◌≡◌, ◌+◌, ◌-◌, ◌≤◌, min, ℕ, length, take, drop, sym, ap, ◌∙◌, subst, arith}
 use Rattle.change_journal.specs.States.{WindowState}
 use Rattle.change_journal.specs.Spelled.{group_of}
 use Rattle.change_journal.specs.Entries.{with_group}

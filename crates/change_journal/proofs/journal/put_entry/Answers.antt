@@ -1,6 +1,5 @@
-use Rattle.std.proofs.Common.{◌+◌, ◌++◌, [], ◌∷◌, List, length, Option, inl, sym, subst, arith}
-use Rattle.disk.specs.Disk.{Content, MayLeave}
-use Rattle.change_journal.specs.Spelled.{Group}
+use Rattle.std.proofs.Common.{◌+◌, length, inl, sym, subst, arith}
+use Rattle.disk.specs.Disk.{MayLeave}
 use Rattle.change_journal.specs.Journals.{IsOpenAt, AllHave, Has, IsBeforeOrAfter, MayHaveWritten}
 use Rattle.change_journal.proofs.Moments.{weaker, goes_on}
 use Rattle.change_journal.proofs.Outcomes.{on_ok, open_within, still_open, added_open, first_outcome, second_outcome, still_all, added_all}

@@ -1,4 +1,3 @@
-use Rattle.std.proofs.Common.{sym, ◌∙◌}
 use Rattle.change_journal.proofs.GroupLemmas.{line_read, line_refused, last_read, last_refused}
 use Rattle.change_journal.proofs.reading.read_group.Goals as goal
 

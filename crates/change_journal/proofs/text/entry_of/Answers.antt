@@ -1,4 +1,4 @@
-use Rattle.std.proofs.Common.{◌≡◌, ◌++◌, [], ◌∷◌, ℕ, List, length, refl, ap, ◌∙◌, arith}
+use Rattle.std.proofs.Common.{◌≡◌, ◌++◌, [], ◌∷◌, ℕ, List, refl, ap, ◌∙◌}
 use Rattle.change_journal.proofs.text.entry_of.Goals as goal
 
 pub returns-clause-entry : goal.returns-clause-entry

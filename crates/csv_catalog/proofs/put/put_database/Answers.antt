@@ -1,4 +1,5 @@
-use Rattle.csv_catalog.proofs.PutLemmas.{relations_then, counted_databases, settled_if}
+use Rattle.schema_model.proofs.Seen.{settled_if}
+use Rattle.csv_catalog.proofs.PutLemmas.{relations_then, counted_databases}
 use Rattle.csv_catalog.proofs.put.put_database.Goals as goal
 
 pub returns : goal.returns

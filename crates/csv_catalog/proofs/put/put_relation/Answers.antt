@@ -1,4 +1,5 @@
-use Rattle.csv_catalog.proofs.PutLemmas.{takes_rows, rows_then, counted_relations, settled_as, settled_if}
+use Rattle.schema_model.proofs.Seen.{settled_if}
+use Rattle.csv_catalog.proofs.PutLemmas.{takes_rows, rows_then, counted_relations, settled_as}
 use Rattle.csv_catalog.proofs.put.put_relation.Goals as goal
 
 pub put_rows-requires-clause-takes : goal.put_rows-requires-clause-takes

@@ -1,4 +1,4 @@
-use Rattle.std.proofs.Common.{◌≡◌, ◌∷◌, ◌∙◌, [], List, reverse, sym, ap, subst, arith}
+use Rattle.std.proofs.Common.{◌≡◌, ◌∙◌, [], List, reverse, sym, ap, subst, arith}
 use Rattle.schema_model.specs.Catalogue.{row_count}
 use Rattle.schema_model.specs.Sound.{IsSound}
 use Rattle.schema_model.specs.States.{plain_databases}

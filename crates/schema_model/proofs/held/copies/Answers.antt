@@ -1,4 +1,4 @@
-use Rattle.std.proofs.Common.{◌≡◌, ◌∙◌, true, sym}
+use Rattle.std.proofs.Common.{◌≡◌, ◌∙◌, true}
 use Rattle.schema_model.specs.Placed.{is_place}
 use Rattle.schema_model.specs.RowsKept.{placed_in}
 use Rattle.schema_model.proofs.Walks.{walks_on, walk_shortens, goes_there}

@@ -1,4 +1,4 @@
-use Rattle.std.proofs.Common.{◌≡◌, ◌+◌, ◌∷◌, [], ℕ, List, length, rules, arith, sym, ap, ◌∙◌, subst}
+use Rattle.std.proofs.Common.{◌≡◌, ◌+◌, ◌∷◌, [], ℕ, length, rules, arith, sym, ap, ◌∙◌, subst}
 use Rattle.change_journal.specs.Journals.{IsOpenAt, Has, HasFront, IsBeforeOrAfter, IsEntryOf}
 use Rattle.change_journal.specs.Spelled.{group_of}
 use Rattle.change_journal.proofs.Spellings.{group_read}

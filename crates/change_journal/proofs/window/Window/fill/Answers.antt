@@ -1,4 +1,4 @@
-use Rattle.std.proofs.Common.{◌≡◌, ◌+◌, ◌++◌, ℕ, List, length, take, drop, sym, ap, ◌∙◌}
+use Rattle.std.proofs.Common.{◌+◌, ◌++◌, length, take, drop, sym, ap, ◌∙◌}
 use Rattle.change_journal.specs.States.{WindowState}
 use Rattle.change_journal.proofs.OpeningLemmas.{read_on}
 use Rattle.change_journal.proofs.window.Window.fill.Goals as goal

@@ -1,6 +1,6 @@
-use Rattle.std.proofs.Common.{◌≡◌, ◌++◌, [], ◌∷◌, List, length, sym, ap, ◌∙◌, Some, arith}
+use Rattle.std.proofs.Common.{◌++◌, [], ◌∷◌, length, sym, ap, ◌∙◌, Some, arith}
 use Rattle.disk.specs.Disk.{Content, with_synced}
-use Rattle.disk.specs.MemDisks.{MemDiskState, after_steps, content_of}
+use Rattle.disk.specs.MemDisks.{MemDiskState, content_of}
 use Rattle.disk.specs.declared.step.Step.TheVariants.{Synced}
 use Rattle.disk.proofs.StepLemmas.{pushed, elapses_step}
 use Rattle.disk.proofs.mem_disk.MemDiskDisk.sync.Goals as goal

@@ -1,4 +1,4 @@
-use Rattle.std.proofs.Common.{◌≡◌, ◌+◌, ℕ, length, refl, sym, ap, ◌∙◌, Some, List, [], ◌∷◌, ◌++◌, arith}
+use Rattle.std.proofs.Common.{◌≡◌, ◌+◌, ℕ, length, sym, ap, ◌∙◌, Some, List, [], ◌∷◌, ◌++◌, arith}
 use Rattle.disk.specs.Disk.{Content, stable, with_written, overwritten}
 use Rattle.disk.specs.MemDisks.{MemDiskState, after_step, after_steps, content_of}
 use Rattle.disk.specs.declared.range.Range.{Range}

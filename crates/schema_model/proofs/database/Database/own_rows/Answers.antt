@@ -1,5 +1,4 @@
 use Rattle.std.proofs.Common.{Bool, true, ◌∙◌, sym, ap, subst, List}
-use Rattle.ss_text.specs.Texts.{Row}
 use Rattle.schema_model.specs.Catalogue.{RelationValue, database_value}
 use Rattle.schema_model.specs.Sound.{IsDatabase}
 use Rattle.schema_model.specs.States.{RelationState, plain_relation}

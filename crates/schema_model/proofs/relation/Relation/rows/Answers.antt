@@ -1,7 +1,7 @@
 use Rattle.std.proofs.Common.{◌≡◌, true}
 use Rattle.std.proofs.lemmas.List.{map_push}
 use Rattle.schema_model.specs.Placed.{is_place}
-use Rattle.schema_model.proofs.Walks.{starts, starts_there, walks_on, walk_shortens, goes_there}
+use Rattle.schema_model.proofs.Walks.{walks_on, walk_shortens, goes_there}
 use Rattle.schema_model.proofs.relation.Relation.rows.Goals as goal
 
 pub loop-next-smaller : goal.loop-next-smaller
