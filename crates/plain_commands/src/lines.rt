@@ -33,7 +33,7 @@ use view_folder::sync_at_once;
 /// of the tables that the folder holds, the tables after the lines, the labels that lines named, and how many lines
 /// were applied.
 #[derive(Drop)]
-pub struct Applying {
+pub(crate) struct Applying {
     view_db: Text,
     shape: Shape,
     before: Vec<Text>,

@@ -18,14 +18,14 @@ use view_folder::{TablesFault, read_tables};
 
 /// A view folder: its tables, or the end of a run whose refusal was printed.
 #[derive(Drop)]
-pub enum OpenedFolder {
+pub(crate) enum OpenedFolder {
     Open(Applying),
     Refused,
 }
 
 /// Reads the tables of the folder of a view's database, or prints why they are none of a view of this form.
 #[tactic(auto, using(outside::proofs::Following::following, crate::proofs::OpeningLemmas::opened, crate::proofs::OpeningLemmas::unread, crate::proofs::OpeningLemmas::unread_whole, crate::proofs::OpeningLemmas::refused_so, crate::proofs::OpeningLemmas::refusal_off, outside::proofs::BlameLemmas::sink_no_read))]
-pub fn open_folder<F: Folders, K: Sink>(
+pub(crate) fn open_folder<F: Folders, K: Sink>(
     alloc: Global,
     store: &mut F,
     output: &mut K,

@@ -36,10 +36,7 @@ fn joined<L: Ledger>(
         steps.new ≤ steps.old + pairs_right equal join.now.right change.now.0 + pairs_left equal join.now.left change.now.1 }
     ensures rises { steps.old ≤ steps.new }
 {
-    match join.prepare(alloc, &(), change, steps) {
-        Ok(delta) => Ok(delta),
-        Err(fault) => Err(fault),
-    }
+    join.prepare(alloc, &(), change, steps)
 }
 
 // One join of the walk: its sides' moves are noted, and what it moves in net is answered.

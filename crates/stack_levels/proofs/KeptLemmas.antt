@@ -1,5 +1,5 @@
 -- Levels whose tables are kept, and levels that were just opened or synced.
-use Rattle.std.proofs.Common.{◌≡◌, ◌∷◌, suc, List, [], Option, None, Some, map, length, refl, sym, ap, subst, arith}
+use Rattle.std.proofs.Common.{◌≡◌, ◌<◌, ◌∙◌, ◌∷◌, suc, List, [], Option, None, Some, map, length, get_or, refl, sym, ap, subst, arith}
 use Rattle.std.specs.Prelude.{option_map}
 use Rattle.std.specs.Option.{option_or}
 use Rattle.ss_text.specs.Texts.{Text, Row}
@@ -15,7 +15,8 @@ use Rattle.view_stack.specs.Stands.{stands, given_by}
 use Rattle.view_stack.specs.Stacks.{AreStacked, AreIdle, IsStack}
 use Rattle.view_stack.proofs.StandsLemmas.{stands_itself}
 use Rattle.view_session.specs.Session.{SessionState, dismissed}
-use Rattle.view_session.specs.Verdicts.{verdict_of, waiting_by}
+use Rattle.view_session.specs.Verdicts.{verdict_of}
+use Rattle.view_session.proofs.WaitLemmas.{none_proposed, dropped as session_dropped}
 use Rattle.view_stages.specs.Stages.{refusal_of}
 use Rattle.stack_levels.specs.declared.refusal.LevelRefusal.{LevelRefusal}
 use Rattle.stack_levels.specs.Levels.{refused_at, one_up, limit_above, database_by, tables_over, opening_refusal}
@@ -88,11 +89,11 @@ values_opened c (q ∷ qs) = ap (λ (vs : List LevelValue). level_value (level_o
 pub fresh_then : (c : CatalogueValue) (q : Query) (qs : List Query) → AreFresh (levels_opened c (q ∷ qs)) c (q ∷ qs)
 fresh_then c q qs = record { catalogue = refl; names = refl; values = values_opened c (q ∷ qs) }
 
--- ---- a level that drops what it proposes
-none_proposed : (held proposed : Option (List Change)) → waiting_by held proposed ≡ Idle → None ≡ proposed
-none_proposed None None idle = refl
-none_proposed None (Some gs) idle = absurd (cc)
-none_proposed (Some hs) proposed idle = absurd (cc)
+-- ---- a level that proposes nothing
+-- as the lowest of levels in which nothing waits
+pub lowest_unproposed : (ls : List LevelState) (l : LevelState) → AreIdle (map level_waiting ls) → 0 < length ls → l ≡ get_or ls 0 l → l.session.proposed ≡ None
+lowest_unproposed [] l idle some is = absurd (omega (arith, some))
+lowest_unproposed (x ∷ ls) l idle some is = none_proposed l.session.held l.session.proposed (ap level_waiting is ∙ idle.0)
 
 abbrev pub level_of : List Text → SessionState → LevelState
 level_of synced s = record { session = s; synced = synced }
@@ -101,7 +102,7 @@ abbrev pub level_dismissed : LevelState → LevelState
 level_dismissed l = level_of l.synced (dismissed l.session)
 
 pub dropped : (l : LevelState) (gs : List Change) → level_waiting l ≡ Idle → level_dismissed (level_proposing l gs) ≡ l
-dropped l gs idle = ap (λ (p : Option (List Change)). level_of l.synced (record l.session { proposed = p })) (none_proposed l.session.held l.session.proposed idle)
+dropped l gs idle = ap (level_of l.synced) (session_dropped l.session gs idle)
 
 -- ---- levels that were just synced
 standing_synced : (ls : List LevelState) → map level_standing (map level_synced ls) ≡ map level_standing ls

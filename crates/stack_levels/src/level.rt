@@ -11,8 +11,9 @@ ghost use Rattle.stack_levels.specs.States.{level_value, level_tables, level_lab
 ghost use Rattle.stack_levels.specs.Opening.{level_opened};
 
 use crate::TableLabels;
+use change_draft::Draft;
 use flow_law::EvalFault;
-use schema_model::Catalogue;
+use schema_model::{Catalogue, Change};
 use ss_text::{NoMemory, Steps, Text};
 use std::alloc::Global;
 use std::marker::Model;
@@ -138,6 +139,15 @@ impl Level {
         ensures { IfOk result (λ labels. labels ≡ level_labels self.now) }
     {
         TableLabels::of(alloc, self.session.tables())
+    }
+
+    // Takes all memory that a draft over its catalogue needs to find the row of a delete. The level and the draft stay.
+    pub(crate) fn link(&mut self, draft: &mut Draft, change: &Change) -> Result<(), NoMemory>
+        requires { self.old.session.proposed ≡ None }
+        ensures level { self.new ≡ self.old }
+        ensures draft { draft.new ≡ draft.old }
+    {
+        self.session.link(draft, change)
     }
 
     // Notes that its files, which are those of these labels, are synced.

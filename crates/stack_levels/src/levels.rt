@@ -9,6 +9,7 @@ ghost use Rattle.stack_levels.specs.Opening.{AreFresh};
 ghost use Rattle.stack_levels.specs.Taking.{HaveTaken, HaveApplied, AreRefused};
 
 use crate::{Level, LevelsRefused, TableLabels};
+use change_draft::Draft;
 use change_script::Script;
 use schema_model::Change;
 use ss_text::{NoMemory, Seed, Steps, Text};
@@ -85,6 +86,16 @@ impl Levels {
             Some(level) => level.session().catalogue().seed(),
             None => Seed::fixed(),
         }
+    }
+
+    /// Takes all memory that a draft over the lowest level's catalogue needs to find the row of a delete without a walk of all
+    /// rows. A delete is judged after this call. The levels and the draft stay.
+    pub fn link(&mut self, draft: &mut Draft, change: &Change) -> Result<(), NoMemory>
+        requires { AreLevels self.old }
+        ensures levels { self.new ≡ self.old }
+        ensures draft { draft.new ≡ draft.old }
+    {
+        self.levels[0].link(draft, change)
     }
 
     /// Makes changes of the lowest level's catalogue, with all that they come to at the levels above, and answers each level's

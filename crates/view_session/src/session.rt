@@ -30,11 +30,12 @@ use crate::upkeep::Upkeep;
 use crate::waits::Waits;
 use crate::{HoldRefused, Refused};
 use apply_law::GroupRefused;
+use change_draft::Draft;
 use change_script::Script;
 use flow_law::{EvalFault, Shape};
 use kept_tables::KeptTables;
 use schema_model::{Catalogue, Change, Pair};
-use ss_text::{Steps, Text};
+use ss_text::{NoMemory, Steps, Text};
 use std::alloc::Global;
 use std::marker::Model;
 use std::mem;
@@ -458,6 +459,16 @@ impl Session {
         ensures kept { IsKept self.now.catalogue result.now }
     {
         &self.upkeep
+    }
+
+    /// Takes all memory that a draft over its catalogue needs to find the row of a delete without a walk of all rows, where
+    /// nothing is proposed. A delete is judged after this call. The session and the draft stay.
+    pub fn link(&mut self, draft: &mut Draft, change: &Change) -> Result<(), NoMemory>
+        requires { self.old.proposed ≡ None }
+        ensures session { self.new ≡ self.old }
+        ensures draft { draft.new ≡ draft.old }
+    {
+        draft.link(&mut self.catalogue, change)
     }
 
     /// Forgets what was named.

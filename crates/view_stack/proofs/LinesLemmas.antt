@@ -17,7 +17,7 @@ use Rattle.flow_law.specs.Lines.{label_of, without_row, with_row, without_column
 use Rattle.flow_law.specs.declared.line.TableLine.{TableLine}
 use Rattle.flow_law.specs.declared.line.TableLine.TheVariants.{TableMinus, TablePlus, RowMinus, ColumnMinus, ColumnPlus, RowPlus, Cell}
 use Rattle.flow_law.proofs.TableLemmas.{line_in_order}
-use Rattle.flow_law.proofs.ScriptLaw.{changed_in_order}
+use Rattle.flow_law.proofs.ScriptLaw.{found_in_order, changed_in_order}
 use Rattle.flow_law.proofs.LabelLemmas.{table_removed, table_removed_in_order, table_placed, table_placed_in_order}
 use Rattle.schema_model.specs.Catalogue.{RelationValue, DatabaseValue, CatalogueValue, relation_value, database_value, attributes_of, database_of, relation_in}
 use Rattle.schema_model.specs.Catalogue.{with_row as put_row}
@@ -47,7 +47,7 @@ found_table ts line h = by_case (table_of ts (label_of line)) refl
 row_line_in_order : (ts : TablesValue) (line : TableLine) → AreTables ts → fits_label ts line ≡ true → AreTables (at_table (label_of line) (table_after line) ts)
 row_line_in_order ts line h fits =
     let f = found_table ts line fits in
-    changed_in_order ts (label_of line) f.table (table_after line) h f.found (line_in_order line f.table (table_found_in_order ts (label_of line) f.table h f.found) f.fits)
+    changed_in_order ts (label_of line) f.table (table_after line) h f.found (line_in_order line f.table (found_in_order ts (label_of line) f.table h f.found) f.fits)
 
 pub after_in_order : (ts : TablesValue) (line : TableLine) → AreTables ts → fits_line ts line ≡ true → AreTables (after_line ts line)
 after_in_order ts (TableMinus label) h fits =

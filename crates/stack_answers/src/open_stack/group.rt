@@ -87,6 +87,7 @@ impl OpenStack {
         let Some(draft) = &mut self.draft else {
             unreachable!()
         };
+        self.levels.link(draft, change)?;
         match hold_in(draft, self.levels.lowest().catalogue(), change) {
             Ok(()) => Ok(()),
             Err(refused) => Err(refused),
