@@ -1,5 +1,5 @@
 -- Levels whose tables are kept, and levels that were just opened or synced.
-use Rattle.std.proofs.Common.{◌≡◌, ◌<◌, ◌∙◌, ◌∷◌, suc, List, [], Option, None, Some, map, length, get_or, refl, sym, ap, subst, arith}
+use Rattle.std.proofs.Common.{◌≡◌, ◌∷◌, suc, List, [], Option, None, Some, map, length, refl, sym, ap, subst, arith}
 use Rattle.std.specs.Prelude.{option_map}
 use Rattle.std.specs.Option.{option_or}
 use Rattle.ss_text.specs.Texts.{Text, Row}
@@ -16,7 +16,7 @@ use Rattle.view_stack.specs.Stacks.{AreStacked, AreIdle, IsStack}
 use Rattle.view_stack.proofs.StandsLemmas.{stands_itself}
 use Rattle.view_session.specs.Session.{SessionState, dismissed}
 use Rattle.view_session.specs.Verdicts.{verdict_of}
-use Rattle.view_session.proofs.WaitLemmas.{none_proposed, dropped as session_dropped}
+use Rattle.view_session.proofs.WaitLemmas.{dropped as session_dropped}
 use Rattle.view_stages.specs.Stages.{refusal_of}
 use Rattle.stack_levels.specs.declared.refusal.LevelRefusal.{LevelRefusal}
 use Rattle.stack_levels.specs.Levels.{refused_at, one_up, limit_above, database_by, tables_over, opening_refusal}
@@ -89,12 +89,7 @@ values_opened c (q ∷ qs) = ap (λ (vs : List LevelValue). level_value (level_o
 pub fresh_then : (c : CatalogueValue) (q : Query) (qs : List Query) → AreFresh (levels_opened c (q ∷ qs)) c (q ∷ qs)
 fresh_then c q qs = record { catalogue = refl; names = refl; values = values_opened c (q ∷ qs) }
 
--- ---- a level that proposes nothing
--- as the lowest of levels in which nothing waits
-pub lowest_unproposed : (ls : List LevelState) (l : LevelState) → AreIdle (map level_waiting ls) → 0 < length ls → l ≡ get_or ls 0 l → l.session.proposed ≡ None
-lowest_unproposed [] l idle some is = absurd (omega (arith, some))
-lowest_unproposed (x ∷ ls) l idle some is = none_proposed l.session.held l.session.proposed (ap level_waiting is ∙ idle.0)
-
+-- ---- a level that drops what it proposes
 abbrev pub level_of : List Text → SessionState → LevelState
 level_of synced s = record { session = s; synced = synced }
 
