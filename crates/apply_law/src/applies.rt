@@ -10,7 +10,7 @@ ghost use Rattle.schema_model.specs.declared.change.Change.{Change as ChangeValu
 ghost use Rattle.flow_law.specs.InOrder.{AreTables};
 ghost use Rattle.flow_law.specs.Tables.{TablesValue};
 ghost use Rattle.change_script.specs.Fits.{IsForm, TablesFit};
-ghost use Rattle.valuation_meaning.specs.Orders.{DifferInOrder};
+ghost use Rattle.view_meaning.specs.Orders.{DifferInOrder};
 ghost use Rattle.apply_law.specs.Standing.{Waiting, Idle, Proposes, IsProposal, Standing, tables_of, verdict_after, made};
 ghost use Rattle.apply_law.specs.Verdicts.{Makes, IsScriptTo, IsGroupRefused};
 

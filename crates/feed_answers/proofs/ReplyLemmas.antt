@@ -10,7 +10,7 @@ use Rattle.flow_law.specs.Script.{script}
 use Rattle.flow_law.specs.Tables.{TablesValue}
 use Rattle.flow_law.specs.declared.refused.IllegalLabel.{IllegalLabel}
 use Rattle.flow_law.specs.declared.refused.Clash.{Clash}
-use Rattle.valuation_meaning.specs.Meaning.{facts, meaning, shape_of}
+use Rattle.view_meaning.specs.Meaning.{facts, meaning, shape_of}
 use Rattle.apply_law.specs.Standing.{Idle}
 use Rattle.apply_law.specs.Verdicts.{Makes, IsIllegal, Clashes, tables_in}
 use Rattle.view_session.specs.Session.{SessionState, working}

@@ -15,7 +15,7 @@ use Rattle.flow_law.specs.Facts.{illegal, conflict, first_refusal, refusal_by}
 use Rattle.flow_law.specs.Tables.{TablesValue}
 use Rattle.flow_law.specs.declared.refused.IllegalLabel.{IllegalLabel}
 use Rattle.flow_law.specs.declared.refused.Clash.{Clash}
-use Rattle.valuation_meaning.specs.Meaning.{facts, meaning, shape_of}
+use Rattle.view_meaning.specs.Meaning.{facts, meaning, shape_of}
 use Rattle.view_def.specs.Query.{Query}
 use Rattle.apply_law.specs.Standing.{Standing}
 use Rattle.apply_law.specs.Verdicts.{Verdict, Makes, IsIllegal, Clashes, tables_in}

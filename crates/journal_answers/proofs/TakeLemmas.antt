@@ -8,7 +8,7 @@ use Rattle.schema_model.specs.declared.change.Change.{Change}
 use Rattle.flow_law.specs.declared.line.TableLine.{TableLine}
 use Rattle.flow_law.specs.declared.refused.EvalFault.{EvalFault}
 use Rattle.flow_law.specs.Faults.{IsFault}
-use Rattle.valuation_meaning.specs.Refusal.{refusal}
+use Rattle.view_meaning.specs.Refusal.{refusal}
 use Rattle.course.specs.declared.status.LineStop.{LineStop}
 use Rattle.course.specs.Keeping.{Entry, LeavesNow}
 use Rattle.change_journal.specs.Spelled.{Group, said_by_row}

@@ -11,7 +11,7 @@ use Rattle.source_law.proofs.FileLemmas.{label_of_file}
 use Rattle.view_def.specs.Query.{Query}
 use Rattle.flow_law.specs.declared.shape.Shape.{Shape}
 use Rattle.flow_law.specs.Tables.{TablesValue, table_of}
-use Rattle.valuation_meaning.specs.Meaning.{shape_of}
+use Rattle.view_meaning.specs.Meaning.{shape_of}
 use Rattle.view_folder.specs.Files.{view_folder, file_name}
 use Rattle.view_folder.specs.TableFiles.{table_text}
 use Rattle.view_folder.specs.Sync.{tables_first, label_synced, later_sync}

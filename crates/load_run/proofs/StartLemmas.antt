@@ -8,9 +8,9 @@ use lib.Utf8.{encode}
 use Rattle.std.specs.List.Sorted.{IsStrictlySortedBy}
 use Rattle.ss_text.specs.Texts.{Text, text_cmp}
 use Rattle.schema_model.specs.Sound.{AreNames, IsHeader}
-use Rattle.valuation_meaning.specs.Meaning.{facts}
-use Rattle.valuation_meaning.specs.Valuations.{valuations, counts}
-use Rattle.valuation_meaning.specs.Refusal.{refusal}
+use Rattle.view_meaning.specs.Meaning.{facts}
+use Rattle.view_meaning.specs.Valuations.{valuations, counts}
+use Rattle.view_meaning.specs.Refusal.{refusal}
 use Rattle.flow_law.specs.Facts.{refusal_by, illegal, conflict}
 use Rattle.load_run.specs.Start.{catalogue, query, header}
 

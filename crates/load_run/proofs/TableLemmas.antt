@@ -13,10 +13,10 @@ use Rattle.view_def.specs.declared.typed.Term.{Term}
 use Rattle.flow_law.specs.Facts.{Fact, facts_of, column_of}
 use Rattle.flow_law.specs.Tables.{TableValue, table_of}
 use Rattle.flow_law.specs.FactTables.{tables, fact_table, value_for}
-use Rattle.valuation_meaning.specs.Elements.{Valuation}
-use Rattle.valuation_meaning.specs.Terms.{Reading, value_of}
-use Rattle.valuation_meaning.specs.Valuations.{valuations}
-use Rattle.valuation_meaning.specs.Meaning.{facts, fact_of, values_of, shape_of, meaning}
+use Rattle.view_meaning.specs.Elements.{Valuation}
+use Rattle.view_meaning.specs.Terms.{Reading, value_of}
+use Rattle.view_meaning.specs.Valuations.{valuations}
+use Rattle.view_meaning.specs.Meaning.{facts, fact_of, values_of, shape_of, meaning}
 use Rattle.view_folder.specs.TableFiles.{FitsShape, FitShape}
 use Rattle.view_folder.proofs.LaterLemmas.{fits_of}
 use Rattle.view_session.specs.Session.{SessionState, tables_of}

@@ -5,8 +5,8 @@ use Rattle.schema_model.specs.Changes.{after}
 use Rattle.schema_model.specs.Refusals.{fault}
 use Rattle.flow_law.specs.declared.shape.Shape.{Shape}
 use Rattle.flow_law.specs.Tables.{TableValue, table_of}
-use Rattle.valuation_meaning.specs.Meaning.{shape_of}
-use Rattle.valuation_meaning.specs.Refusal.{refusal}
+use Rattle.view_meaning.specs.Meaning.{shape_of}
+use Rattle.view_meaning.specs.Refusal.{refusal}
 use Rattle.view_folder.specs.TableFiles.{table_text}
 use Rattle.view_session.specs.Session.{SessionState, opened, moved, lines_to, tables_of}
 use Rattle.load_run.specs.Start.{catalogue, query}

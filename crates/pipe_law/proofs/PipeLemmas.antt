@@ -21,7 +21,7 @@ use Rattle.flow_law.specs.Lines.{label_of}
 use Rattle.flow_law.specs.Tables.{TablesValue, table_of}
 use Rattle.flow_law.proofs.ScriptLaw.{lines_passed}
 use Rattle.change_script.specs.Applied.{applied}
-use Rattle.valuation_meaning.specs.Meaning.{shape_of, meaning}
+use Rattle.view_meaning.specs.Meaning.{shape_of, meaning}
 use Rattle.view_folder.specs.Files.{bytes_in, file_name, view_folder}
 use Rattle.change_script.specs.Fits.{IsForm}
 use Rattle.view_folder.specs.Held.{held}

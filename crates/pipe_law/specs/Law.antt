@@ -15,7 +15,7 @@ use Rattle.flow_law.specs.InOrder.{AreTables}
 use Rattle.flow_law.specs.Tables.{TableValue, TablesValue}
 use Rattle.change_script.specs.Applied.{applied}
 use Rattle.change_script.specs.Fits.{IsForm, TablesFit}
-use Rattle.valuation_meaning.specs.Meaning.{shape_of, meaning}
+use Rattle.view_meaning.specs.Meaning.{shape_of, meaning}
 use Rattle.view_folder.specs.Files.{view_folder}
 use Rattle.view_folder.specs.Held.{held}
 use Rattle.view_folder.specs.Sync.{Holds}

@@ -13,7 +13,7 @@ use Rattle.course.specs.Answering.{course}
 use Rattle.flow_law.specs.Lines.{label_of}
 use Rattle.flow_law.specs.declared.shape.Shape.{Shape}
 use Rattle.flow_law.specs.Tables.{TablesValue, labels_of}
-use Rattle.valuation_meaning.specs.Meaning.{shape_of}
+use Rattle.view_meaning.specs.Meaning.{shape_of}
 use Rattle.view_folder.specs.declared.held.TablesFault.{TablesFault}
 use Rattle.view_folder.specs.Held.{held}
 use Rattle.plain_commands.specs.Applying.{ApplyState, just_read, by_folder, step, finish}

@@ -10,7 +10,7 @@ use Rattle.view_folder.specs.declared.comparison.Comparison.{Comparison}
 use Rattle.view_folder.specs.declared.comparison.Comparison.TheVariants as compared
 use Rattle.flow_law.specs.declared.shape.Shape.{Shape}
 use Rattle.flow_law.specs.Tables.{TablesValue}
-use Rattle.valuation_meaning.specs.Meaning.{shape_of}
+use Rattle.view_meaning.specs.Meaning.{shape_of}
 use Rattle.view_folder.specs.declared.held.TablesFault.{TablesFault}
 use Rattle.view_folder.specs.Held.{held}
 use Rattle.plain_commands.specs.Applying as applying

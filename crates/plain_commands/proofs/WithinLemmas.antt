@@ -6,7 +6,7 @@ use Rattle.outside.specs.Tree.{Tree, files_of}
 use Rattle.outside.specs.Effects.{Effect}
 use Rattle.schema_model.specs.Catalogue.{CatalogueValue}
 use Rattle.flow_law.specs.Tables.{TablesValue}
-use Rattle.valuation_meaning.specs.Meaning.{shape_of}
+use Rattle.view_meaning.specs.Meaning.{shape_of}
 use Rattle.view_folder.specs.Files.{view_folder}
 use Rattle.view_folder.specs.Comparison.{comparison}
 use Rattle.view_folder.specs.declared.comparison.Comparison.{Comparison}

@@ -11,7 +11,7 @@ use Rattle.flow_law.specs.declared.line.TableLine.{TableLine}
 use Rattle.flow_law.specs.Lines.{label_of}
 use Rattle.flow_law.specs.Tables.{TablesValue, labels_of, table_of}
 use Rattle.change_script.specs.Applied.{applied}
-use Rattle.valuation_meaning.specs.Meaning.{shape_of}
+use Rattle.view_meaning.specs.Meaning.{shape_of}
 use Rattle.view_folder.specs.Held.{held}
 use Rattle.view_folder.specs.Sync.{HoldsNamed}
 use Rattle.ss_print.specs.Printing.{refuses, lines_text, applied_rows}

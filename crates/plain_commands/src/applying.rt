@@ -5,7 +5,7 @@ ghost use Rattle.outside.specs.Blame.{Blames};
 ghost use Rattle.outside.specs.Tree.{Tree};
 ghost use Rattle.course.specs.Answering.{BlamesRun, is_too_long};
 ghost use Rattle.view_def.specs.Query.{query_of};
-ghost use Rattle.valuation_meaning.specs.Meaning.{shape_of};
+ghost use Rattle.view_meaning.specs.Meaning.{shape_of};
 ghost use Rattle.plain_commands.specs.Applying.{step, finish, opening};
 ghost use Rattle.view_stages.specs.Stages.{DefinitionOrRefusal};
 ghost use Rattle.view_stages.specs.Opening.{IsDefinition, definition_bytes};
@@ -23,7 +23,7 @@ use ss_print::refuse;
 use ss_text::{Steps, Text};
 use std::alloc::Global;
 use std::sync::ledger::Ledger;
-use valuation_meaning::shape_of;
+use view_meaning::shape_of;
 use view_stages::{Definition, Understood, read_definition};
 
 /// The tables of a view's folder, or the end of the run.

@@ -11,9 +11,10 @@ use schema_model::Catalogue;
 use ss_print::{clash_fields, illegal_fields};
 use ss_text::{NoMemory, Row, Text};
 use std::alloc::Global;
-use valuation_meaning::{ViewFacts, ordered_facts, shape_of};
+use valuation_meaning::{ViewFacts, ordered_facts};
 use view_def::View;
 use view_folder::{File, TableTexts};
+use view_meaning::shape_of;
 
 /// What a view gives over a catalogue: the files of its tables, or a refusal with these fields.
 #[derive(Drop)]

@@ -12,7 +12,7 @@ use Rattle.view_def.specs.declared.typed.Term.TheVariants as term
 use Rattle.view_def.specs.declared.typed.Range.{Range}
 use Rattle.view_def.specs.declared.typed.Range.TheVariants as range
 use Rattle.view_def.specs.Query.{Query}
-use Rattle.valuation_meaning.specs.Operands.{resolved}
+use Rattle.view_meaning.specs.Operands.{resolved}
 use Rattle.plan_law.specs.Columns.{term_eq, text_under, found, read, wanted, fold_of, header, may_equal}
 use Rattle.plan_law.specs.Links.{Source, Link, in_either, source_of, source_text, link_holds, places_from}
 use Rattle.plan_law.specs.Links as link

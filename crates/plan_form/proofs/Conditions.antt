@@ -7,7 +7,7 @@ use Rattle.view_def.specs.declared.typed.Term.{Term}
 use Rattle.view_def.specs.declared.typed.Cond.{Cond}
 use Rattle.view_def.specs.Conditions.{Condition, Conditions, AnyOf, AllOf, NotOf, Compares, none, more, condition_of, conditions_of}
 use Rattle.view_def.specs.Terms.{terms_of, terms_of_each}
-use Rattle.valuation_meaning.specs.Terms.{Reading, compares_values, are_defined, is_true, some_is_true, each_is_true}
+use Rattle.view_meaning.specs.Terms.{Reading, compares_values, are_defined, is_true, some_is_true, each_is_true}
 use Rattle.plan_form.specs.declared.cell.Cell.{Cell}
 use Rattle.plan_form.specs.Tests.{cell_term, placed, each_placed}
 

@@ -6,9 +6,9 @@ use Rattle.view_def.specs.Query.{Query}
 use Rattle.view_def.specs.Terms.{terms_of_filter}
 use Rattle.flow_law.specs.Facts.{Fact}
 use Rattle.flow_law.specs.FactRows.{fact_row}
-use Rattle.valuation_meaning.specs.Terms.{are_defined}
-use Rattle.valuation_meaning.specs.Valuations.{meets, counts}
-use Rattle.valuation_meaning.specs.Meaning.{given, term_of, fact_of}
+use Rattle.view_meaning.specs.Terms.{are_defined}
+use Rattle.view_meaning.specs.Valuations.{meets, counts}
+use Rattle.view_meaning.specs.Meaning.{given, term_of, fact_of}
 use Rattle.plan_law.specs.Columns.{read}
 use Rattle.plan_law.specs.PlanRows.{plan_header}
 use Rattle.plan_form.specs.declared.cell.Cell.{Cell}

@@ -6,7 +6,7 @@ use Rattle.view_def.specs.declared.typed.Term.{Term}
 use Rattle.view_def.specs.declared.typed.Term.TheVariants as term
 use Rattle.view_def.specs.declared.typed.Range.{Range}
 use Rattle.view_def.specs.declared.typed.Range.TheVariants as range
-use Rattle.valuation_meaning.specs.Meaning.{term_of}
+use Rattle.view_meaning.specs.Meaning.{term_of}
 use Rattle.plan_law.specs.Columns.{fold_header}
 
 -- the cell of a tuple variable's row under an attribute

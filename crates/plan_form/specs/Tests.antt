@@ -6,8 +6,8 @@ use Rattle.view_def.specs.declared.typed.Term.{Term}
 use Rattle.view_def.specs.declared.typed.Term.TheVariants as term
 use Rattle.view_def.specs.declared.typed.Range.{Range}
 use Rattle.view_def.specs.Conditions.{Condition, Conditions, AnyOf, AllOf, NotOf, Compares, none, more, conditions_of}
-use Rattle.valuation_meaning.specs.Terms.{Reading}
-use Rattle.valuation_meaning.specs.Operands.{resolved}
+use Rattle.view_meaning.specs.Terms.{Reading}
+use Rattle.view_meaning.specs.Operands.{resolved}
 use Rattle.plan_law.specs.Links.{source_of}
 use Rattle.plan_form.specs.declared.cell.Cell.{Cell}
 use Rattle.plan_form.specs.declared.cell.Cell.TheVariants as cell

@@ -1,6 +1,6 @@
 //! Copies of what a view is made of.
 ghost use Rattle.std.specs.Prelude.{◌≡◌, IfOk};
-ghost use Rattle.valuation_meaning.specs.Meaning.{term_of};
+ghost use Rattle.view_meaning.specs.Meaning.{term_of};
 
 use ss_text::NoMemory;
 use view_def::{Place, Range, Term};

@@ -14,8 +14,8 @@ use crate::base::Equal;
 use crate::source::{Source, find};
 use ss_text::NoMemory;
 use std::alloc::Global;
-use valuation_meaning::members;
 use view_def::{Cond, Op, Term, View};
+use view_meaning::members;
 
 // Adds a link between two texts, where both are found.
 fn push_link(

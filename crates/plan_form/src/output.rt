@@ -3,9 +3,9 @@ ghost use Rattle.std.specs.Prelude.{◌≡◌, ◌&&◌, ◌∷◌, ◌++◌, ma
 ghost use Rattle.view_def.specs.Query.{Query, query_of};
 ghost use Rattle.view_def.specs.Terms.{terms_of_filter};
 ghost use Rattle.flow_law.specs.FactRows.{cell_texts, fact_row};
-ghost use Rattle.valuation_meaning.specs.Terms.{are_defined};
-ghost use Rattle.valuation_meaning.specs.Valuations.{meets};
-ghost use Rattle.valuation_meaning.specs.Meaning.{given, term_of};
+ghost use Rattle.view_meaning.specs.Terms.{are_defined};
+ghost use Rattle.view_meaning.specs.Valuations.{meets};
+ghost use Rattle.view_meaning.specs.Meaning.{given, term_of};
 ghost use Rattle.plan_law.specs.PlanRows.{plan_header};
 ghost use Rattle.plan_form.specs.Cells.{text_in};
 ghost use Rattle.plan_form.specs.Tests.{at_row, cell_term, cell_for, condition_in};

@@ -1,7 +1,7 @@
 //! Where the text of a term is found in two rows.
 ghost use Rattle.std.specs.Prelude.{◌≡◌, option_map, option_copied, position, IfOk};
 ghost use Rattle.view_def.specs.declared.typed.Term.TheVariants as term_is;
-ghost use Rattle.valuation_meaning.specs.Operands.{variable_of, resolved};
+ghost use Rattle.view_meaning.specs.Operands.{variable_of, resolved};
 ghost use Rattle.plan_law.specs.Columns.{place_eq, term_eq};
 ghost use Rattle.plan_law.specs.Links.{in_either, source_of};
 ghost use Rattle.plan_form.specs.Sources.{seen};

@@ -1,15 +1,15 @@
 //! Conditions over the cells of a row.
 ghost use Rattle.std.specs.Prelude.{◌≡◌, map, option_map, option_copied, IfOk};
 ghost use Rattle.view_def.specs.Conditions.{AnyOf, AllOf, condition_of, conditions_of};
-ghost use Rattle.valuation_meaning.specs.Truth.{truth, truth_of_some, truth_of_each};
+ghost use Rattle.view_meaning.specs.Truth.{truth, truth_of_some, truth_of_each};
 ghost use Rattle.plan_form.specs.Tests.{at_row, cell_term, cell_for, condition_in, placed, each_placed};
 
 use crate::cell::{Cell, left_cell, text_in};
 use crate::source::find;
 use ss_text::{NoMemory, Row, Text};
 use std::alloc::Global;
-use valuation_meaning::compares;
 use view_def::{Cond, Op, Range, Term};
+use view_meaning::compares;
 
 /// A condition over the cells of a row. `Any` of nothing is false, and `All` of nothing is true.
 #[derive(Debug, Drop)]

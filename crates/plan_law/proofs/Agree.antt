@@ -8,15 +8,15 @@ use Rattle.plan_law.specs.Kinds.{Term, Range}
 use Rattle.plan_law.specs.Kinds.term
 use Rattle.plan_law.specs.Kinds.range
 use Rattle.view_def.specs.Query.{Query}
-use Rattle.valuation_meaning.specs.Elements.{Valuation, cell_at, elements}
-use Rattle.valuation_meaning.specs.Terms.{Reading, value_of}
-use Rattle.valuation_meaning.specs.Valuations.{assignments}
+use Rattle.view_meaning.specs.Elements.{Valuation, cell_at, elements}
+use Rattle.view_meaning.specs.Terms.{Reading, value_of}
+use Rattle.view_meaning.specs.Valuations.{assignments}
 use Rattle.plan_law.specs.Columns.{Column, Combo, tested_terms, found, read, may_be, is_consistent}
 use Rattle.plan_law.proofs.Weights.{weigh-cond}
 use Rattle.plan_law.proofs.Columns.{Has, all_has, all_from, column_reads, is_text, is_text-to, is_text-from, text_same, under_has}
 use Rattle.plan_law.proofs.Held.{IsColumn, Owns, Fits, value_more}
 use Rattle.plan_law.proofs.Known.{term_reads}
-use Rattle.valuation_meaning.specs.Operands.{variable_of}
+use Rattle.view_meaning.specs.Operands.{variable_of}
 use Rattle.operator_law.specs.Bags.{weigh}
 use Rattle.operator_law.proofs.Weights.{weigh-same, weigh-flat_map}
 

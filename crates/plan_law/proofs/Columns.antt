@@ -10,7 +10,7 @@ use Rattle.plan_law.specs.Kinds.place
 use Rattle.plan_law.specs.Kinds.term
 use Rattle.view_def.specs.Query.{Query}
 use Rattle.plan_law.specs.Columns.{Column, Combo, place_eq, term_eq, text_under, found, read, may_be, is_consistent}
-use Rattle.valuation_meaning.specs.Operands.{resolved}
+use Rattle.view_meaning.specs.Operands.{resolved}
 
 abbrev pub Has : {X : Type 0} → List X → X → Type 0
 Has [] y = ⊥

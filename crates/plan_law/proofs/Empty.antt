@@ -6,7 +6,7 @@ use Rattle.plan_law.specs.Kinds.{Term, Range}
 use Rattle.plan_law.specs.Kinds.range
 use Rattle.view_def.specs.Query.{Query}
 use Rattle.view_def.specs.Profile.{IsViewOfProfile}
-use Rattle.valuation_meaning.specs.Meaning.{facts}
+use Rattle.view_meaning.specs.Meaning.{facts}
 use Rattle.schema_delta.specs.declared.spec.FlatSpec.{FlatSpec}
 use Rattle.schema_delta.specs.Flat.{flat}
 use Rattle.plan_law.specs.Columns.{header}

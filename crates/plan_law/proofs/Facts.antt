@@ -10,11 +10,11 @@ use Rattle.plan_law.specs.Kinds.range
 use Rattle.view_def.specs.Conditions.{Condition, Conditions, AnyOf, AllOf, NotOf, Compares, none, more}
 use Rattle.view_def.specs.Query.{Query}
 use Rattle.flow_law.specs.Facts.{Fact}
-use Rattle.valuation_meaning.specs.Elements.{A_text, Valuation, cell_at, elements}
-use Rattle.valuation_meaning.specs.Terms.{Reading, value_of, are_defined, is_true, some_is_true, each_is_true, compares_values}
-use Rattle.valuation_meaning.specs.Valuations.{assignments, valuations, counts, meets}
+use Rattle.view_meaning.specs.Elements.{A_text, Valuation, cell_at, elements}
+use Rattle.view_meaning.specs.Terms.{Reading, value_of, are_defined, is_true, some_is_true, each_is_true, compares_values}
+use Rattle.view_meaning.specs.Valuations.{assignments, valuations, counts, meets}
 use Rattle.view_def.specs.Terms.{terms_of, terms_of_each, terms_of_filter, terms_of_view}
-use Rattle.valuation_meaning.specs.Meaning.{given, values_of, term_of, cell_of_reading, fact_of, facts}
+use Rattle.view_meaning.specs.Meaning.{given, values_of, term_of, cell_of_reading, fact_of, facts}
 use Rattle.plan_law.specs.Columns.{alias_cell, tested_terms, read, is_consistent, bases}
 use Rattle.plan_law.proofs.Weights.{cond-none}
 use Rattle.plan_law.proofs.Columns.{Has, has_left, has_right, has_either}

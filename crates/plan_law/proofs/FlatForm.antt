@@ -10,7 +10,7 @@ use Rattle.schema_model.specs.Sound.{IsRelation, IsDatabase, IsSound}
 use Rattle.plan_law.specs.Kinds.{Place, Range}
 use Rattle.plan_law.specs.Kinds.place
 use Rattle.plan_law.specs.Kinds.range
-use Rattle.valuation_meaning.specs.Elements.{cell_under}
+use Rattle.view_meaning.specs.Elements.{cell_under}
 use Rattle.unite_op.specs.NamedThings.{rows_behind}
 use Rattle.fold_op.specs.Cells.{has_all, place_of, places_of, picked}
 use Rattle.fold_op.specs.Flat.{pick_value, entries, fold_value}

@@ -2,7 +2,7 @@
 use Rattle.std.specs.Prelude.{Bool, true, false, List, [], ◌∷◌, ◌++◌, map, filter, flat_map, zip, Option, Some, option_map, option_and_then, option_to_list}
 use Rattle.ss_text.specs.Texts.{Text, Row}
 use Rattle.schema_model.specs.Catalogue.{RelationValue, DatabaseValue, CatalogueValue}
-use Rattle.valuation_meaning.specs.Elements.{cell_under}
+use Rattle.view_meaning.specs.Elements.{cell_under}
 use Rattle.plan_law.specs.Kinds.{Place, Range}
 use Rattle.plan_law.specs.Kinds.range
 use Rattle.schema_delta.specs.Flat.{keeps, names_of}

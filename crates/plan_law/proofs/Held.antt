@@ -10,9 +10,9 @@ use Rattle.plan_law.specs.Kinds.term
 use Rattle.plan_law.specs.Kinds.range
 use Rattle.view_def.specs.Query.{Query}
 use Rattle.view_def.specs.Profile.{is_tuple_variable, is_text_variable, has_text, is_range_over}
-use Rattle.valuation_meaning.specs.Elements.{Element, Valuation, text_of, text_at, cell_of_element, cell_at}
-use Rattle.valuation_meaning.specs.Terms.{value_of}
-use Rattle.valuation_meaning.specs.Meaning.{term_of}
+use Rattle.view_meaning.specs.Elements.{Element, Valuation, text_of, text_at, cell_of_element, cell_at}
+use Rattle.view_meaning.specs.Terms.{value_of}
+use Rattle.view_meaning.specs.Meaning.{term_of}
 use Rattle.plan_law.specs.Columns.{Combo, tested_terms, wanted_in, folded_in, wanted, fold_of}
 use Rattle.plan_law.proofs.Columns.{Has, has_left, has_given, has_from, number_same, numbers_equal}
 

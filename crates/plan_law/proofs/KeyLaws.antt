@@ -13,7 +13,7 @@ use Rattle.plan_law.proofs.Columns.{Has, has_left, has_right, has_either, has_gi
 use Rattle.plan_law.proofs.Agree.{same_test}
 use Rattle.plan_law.proofs.LinkLaws.{both, tested_links}
 use Rattle.plan_law.proofs.KeyPlaces.{link_parts, key_holds, keys_held}
-use Rattle.valuation_meaning.specs.Operands.{resolved}
+use Rattle.view_meaning.specs.Operands.{resolved}
 
 pub has_filtered : {X : Type 0} (p : X → Bool) (xs : List X) (x : X) → Has xs x → p x ≡ true → Has (filter p xs) x
 has_filtered p [] x m e = absurd m

@@ -9,7 +9,7 @@ use Rattle.ss_text.specs.Texts.{Text, Row, text_eq}
 use Rattle.plan_law.specs.Kinds.{Term}
 use Rattle.plan_law.specs.Kinds.term
 use Rattle.view_def.specs.Query.{Query}
-use Rattle.valuation_meaning.specs.Operands.{resolved}
+use Rattle.view_meaning.specs.Operands.{resolved}
 use Rattle.plan_law.specs.Columns.{term_eq, may_equal, equalities}
 use Rattle.plan_law.specs.Links.{Source, Given, Left, Right, in_either, source_of, Link, link, places_from, column_link, equality_link, links, key_between, key_of, keys_of, keys_hold}
 use Rattle.plan_law.proofs.Columns.{Has, has_either, has_from, texts_equal, text_same}

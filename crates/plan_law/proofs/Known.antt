@@ -9,13 +9,13 @@ use Rattle.plan_law.specs.Kinds.term
 use Rattle.plan_law.specs.Kinds.range
 use Rattle.view_def.specs.Query.{Query}
 use Rattle.view_def.specs.Profile.{lists_tuples, is_tuple_variable, is_text_variable, has_text}
-use Rattle.valuation_meaning.specs.Elements.{Valuation, text_at, cell_of_element, cell_at}
-use Rattle.valuation_meaning.specs.Terms.{value_of}
+use Rattle.view_meaning.specs.Elements.{Valuation, text_at, cell_of_element, cell_at}
+use Rattle.view_meaning.specs.Terms.{value_of}
 use Rattle.view_def.specs.Terms.{terms_of_view}
 use Rattle.plan_law.specs.Columns.{Combo, tested_terms, alias_cell, wanted, fold_of, text_under, found, read, is_consistent}
 use Rattle.plan_law.proofs.Columns.{Has, has_left, has_given, and_left, and_right, column_reads, own_reads}
 use Rattle.plan_law.proofs.Held.{Held, Picked, PickedFor, EachHeld, HeldTuple, Stands, IsColumn, Owns, Fits, is_wanted, is_fold}
-use Rattle.valuation_meaning.specs.Operands.{variable_of}
+use Rattle.view_meaning.specs.Operands.{variable_of}
 
 -- the declaration of a variable
 pub text_declared : (ds : List Range) (i : ℕ) → is_text_variable ds i ≡ true → (d : Range) × (slice_get ds i ≡ Some d) × (lists_tuples d ≡ false)

@@ -14,7 +14,7 @@ use Rattle.view_def.specs.Query.{Query}
 use Rattle.plan_law.specs.Columns.{Column, Combo, term_eq, text_under, found, read, may_be, may_equal, equalities, is_tested}
 use Rattle.plan_law.specs.Links.{Source, Left, Right, in_either, source_of, source_text, link, places_from, column_link, equality_link, links, link_holds}
 use Rattle.plan_law.proofs.Sums.{position_cons}
-use Rattle.valuation_meaning.specs.Operands.{resolved}
+use Rattle.view_meaning.specs.Operands.{resolved}
 
 -- the first column of a term, by its place
 under_zip : (h : List Term) (x : Row) (t : Term) → length x ≡ length h → text_under (zip h x) t ≡ option_and_then (slice_get x) (position (term_eq t) h)

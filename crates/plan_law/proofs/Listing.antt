@@ -15,9 +15,9 @@ use Rattle.plan_law.specs.Kinds.term
 use Rattle.plan_law.specs.Kinds.range
 use Rattle.view_def.specs.Query.{Query}
 use Rattle.view_def.specs.Profile.{lists_tuples, is_tuple_variable, is_text_variable, has_text, is_range_over}
-use Rattle.valuation_meaning.specs.Elements.{Element, A_text, Valuation, text_of, cell_at, elements}
-use Rattle.valuation_meaning.specs.Terms.{Reading, value_of}
-use Rattle.valuation_meaning.specs.Valuations.{assignments}
+use Rattle.view_meaning.specs.Elements.{Element, A_text, Valuation, text_of, cell_at, elements}
+use Rattle.view_meaning.specs.Terms.{Reading, value_of}
+use Rattle.view_meaning.specs.Valuations.{assignments}
 use Rattle.plan_law.specs.Columns.{Combo, read, is_consistent, columns, bases_from, bases}
 use Rattle.plan_law.proofs.Weights.{weigh-zero}
 use Rattle.plan_law.proofs.Columns.{Has, has_either, and_left, and_right, consistent_start}

@@ -9,7 +9,7 @@ use Rattle.plan_law.specs.Chain.{Joint, Sides, SideMoves, joint_moves, Walks}
 use Rattle.plan_law.specs.Columns.{read}
 use Rattle.plan_law.specs.Links.{source_of, source_text}
 use Rattle.plan_law.proofs.LinkLaws.{read_source}
-use Rattle.valuation_meaning.specs.Operands.{resolved}
+use Rattle.view_meaning.specs.Operands.{resolved}
 use Rattle.schema_delta.specs.Net.{SameNet}
 use Rattle.operator_law.specs.declared.delta.Signed.{Signed}
 

@@ -11,8 +11,8 @@ use Rattle.plan_law.specs.Kinds.term
 use Rattle.plan_law.specs.Kinds.range
 use Rattle.view_def.specs.Query.{Query}
 use Rattle.view_def.specs.Profile.{IsViewOfProfile}
-use Rattle.valuation_meaning.specs.Valuations.{counts}
-use Rattle.valuation_meaning.specs.Meaning.{fact_of, facts}
+use Rattle.view_meaning.specs.Valuations.{counts}
+use Rattle.view_meaning.specs.Meaning.{fact_of, facts}
 use Rattle.schema_delta.specs.Flat.{flat}
 use Rattle.plan_law.specs.Columns.{Combo, term_eq, header, headers_from, spec_of, columns, bases_from, is_tested, stage, read, equalities, combo_facts}
 use Rattle.plan_law.specs.Links.{Source, Given, Right, in_either, source_of, Link, places_from, column_link, equality_link, links, link_holds, is_left, is_own, own_links, own_holds}
@@ -27,7 +27,7 @@ use Rattle.plan_law.proofs.Widths.{HasWidth, flat_width}
 use Rattle.plan_law.proofs.PlainRows.{zipped, IsUnder, stage_under, all_terms, plain_stages}
 use Rattle.plan_law.proofs.First.{first_of}
 use Rattle.plan_law.proofs.Theorem.{plan_lists}
-use Rattle.valuation_meaning.specs.Operands.{resolved}
+use Rattle.view_meaning.specs.Operands.{resolved}
 use Rattle.operator_law.specs.Bags.{weigh, SameBag}
 
 -- with nothing on the left every link is of the right row alone

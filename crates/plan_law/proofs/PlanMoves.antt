@@ -11,9 +11,9 @@ use Rattle.view_def.specs.Query.{Query}
 use Rattle.view_def.specs.Profile.{IsViewOfProfile}
 use Rattle.flow_law.specs.Facts.{Fact}
 use Rattle.flow_law.specs.FactRows.{fact_row}
-use Rattle.valuation_meaning.specs.Terms.{Reading}
-use Rattle.valuation_meaning.specs.Valuations.{counts}
-use Rattle.valuation_meaning.specs.Meaning.{fact_of, facts}
+use Rattle.view_meaning.specs.Terms.{Reading}
+use Rattle.view_meaning.specs.Valuations.{counts}
+use Rattle.view_meaning.specs.Meaning.{fact_of, facts}
 use Rattle.schema_delta.specs.declared.spec.FlatSpec.{FlatSpec}
 use Rattle.schema_delta.specs.Flat.{flat}
 use Rattle.plan_law.specs.Columns.{header, spec_of, read}

@@ -11,7 +11,7 @@ use Rattle.plan_law.specs.Kinds.range
 use Rattle.view_def.specs.Query.{Query}
 use Rattle.view_def.specs.Terms.{terms_of_view}
 use Rattle.view_def.specs.Profile.{lists_tuples, is_tuple_variable, is_text_variable, has_text, is_range_over, are_ranges_after, is_term_over, is_label_over, is_column_over, range_folds, term_folds, folds_of_view, IsViewOfProfile}
-use Rattle.valuation_meaning.specs.Meaning.{term_of}
+use Rattle.view_meaning.specs.Meaning.{term_of}
 use Rattle.plan_law.specs.Columns.{alias_cell, tested_terms}
 use Rattle.plan_law.proofs.Columns.{Has, has_either, has_from, and_left, and_right, all_has}
 use Rattle.plan_law.proofs.Held.{IsColumn, Fits}

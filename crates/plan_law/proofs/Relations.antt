@@ -7,7 +7,7 @@ use Rattle.schema_model.specs.Catalogue.{RelationValue, DatabaseValue, Catalogue
 use Rattle.schema_model.specs.Sound.{IsRelation, IsDatabase, IsSound}
 use Rattle.plan_law.specs.Kinds.{Place}
 use Rattle.plan_law.specs.Kinds.place
-use Rattle.valuation_meaning.specs.Elements.{Element, Valuation, place_text, database_at, relation_at, ◌>>=◌}
+use Rattle.view_meaning.specs.Elements.{Element, Valuation, place_text, database_at, relation_at, ◌>>=◌}
 use Rattle.schema_delta.specs.Flat.{keeps}
 use Rattle.plan_law.proofs.Weights.{weigh-cond, cond-none}
 use Rattle.plan_law.proofs.Sums.{apart_ascending, weigh-bind, weigh-bind_then, weigh-found}

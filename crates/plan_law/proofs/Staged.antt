@@ -10,15 +10,15 @@ use Rattle.view_def.specs.declared.written.Op.TheVariants.{Eq, Ne, Lt, Le, Gt, G
 use Rattle.plan_law.specs.Kinds.{Term}
 use Rattle.view_def.specs.Conditions.{Condition, Conditions, AnyOf, AllOf, NotOf, Compares, none, more}
 use Rattle.view_def.specs.Query.{Query}
-use Rattle.valuation_meaning.specs.Terms.{Reading, is_true, each_is_true, compares_values}
+use Rattle.view_meaning.specs.Terms.{Reading, is_true, each_is_true, compares_values}
 use Rattle.view_def.specs.Terms.{terms_of_view}
-use Rattle.valuation_meaning.specs.Valuations.{counts, meets}
-use Rattle.valuation_meaning.specs.Terms.{are_defined}
+use Rattle.view_meaning.specs.Valuations.{counts, meets}
+use Rattle.view_meaning.specs.Terms.{are_defined}
 use Rattle.plan_law.specs.Columns.{Combo, read, is_consistent, may_equal, sides_of, equalities, is_tested, stage}
 use Rattle.plan_law.proofs.Columns.{and_left, and_right, all_has, all_from, consistent_start, found_more}
 use Rattle.plan_law.proofs.Steps.{combined}
-use Rattle.valuation_meaning.specs.Early.{listed}
-use Rattle.valuation_meaning.specs.Operands.{resolved}
+use Rattle.view_meaning.specs.Early.{listed}
+use Rattle.view_meaning.specs.Operands.{resolved}
 use Rattle.operator_law.specs.Bags.{weigh}
 use Rattle.operator_law.proofs.Weights.{weigh-same, weigh-filter, weigh-map, weigh-flat_map}
 use Rattle.plan_law.proofs.Weights.{weigh-zero}

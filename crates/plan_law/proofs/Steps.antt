@@ -11,9 +11,9 @@ use Rattle.plan_law.specs.Kinds.term
 use Rattle.plan_law.specs.Kinds.range
 use Rattle.view_def.specs.Query.{Query}
 use Rattle.view_def.specs.Profile.{lists_tuples}
-use Rattle.valuation_meaning.specs.Elements.{Element, A_text, Valuation, place_text, text_of, cell_under, relation_at, elements, ◌>>=◌}
-use Rattle.valuation_meaning.specs.Terms.{Reading, value_of}
-use Rattle.valuation_meaning.specs.Meaning.{term_of}
+use Rattle.view_meaning.specs.Elements.{Element, A_text, Valuation, place_text, text_of, cell_under, relation_at, elements, ◌>>=◌}
+use Rattle.view_meaning.specs.Terms.{Reading, value_of}
+use Rattle.view_meaning.specs.Meaning.{term_of}
 use Rattle.schema_delta.specs.Flat.{keeps, flat}
 use Rattle.plan_law.specs.Columns.{Column, Combo, spec_of, header, columns, read, is_consistent}
 use Rattle.plan_law.proofs.Weights.{weigh-filter_map, weigh-cond, cond-none}

@@ -9,7 +9,7 @@ use Rattle.std.proofs.lemmas.Map.Keys.{IsDistinct-from_sorted, IsDistinct-head, 
 use Rattle.std.proofs.lemmas.Iterator.Adapters.{position_from-zero}
 use Rattle.std.proofs.lemmas.Map.Text.{is_eq-slice_cmp}
 use Rattle.ss_text.specs.Texts.{Text, Row, text_eq, text_cmp}
-use Rattle.valuation_meaning.specs.Elements.{◌>>=◌, cell_under}
+use Rattle.view_meaning.specs.Elements.{◌>>=◌, cell_under}
 use Rattle.plan_law.proofs.Columns.{Has, texts_equal}
 use Rattle.operator_law.specs.Bags.{weigh}
 

@@ -9,9 +9,9 @@ use Rattle.view_def.specs.Terms.{terms_of_view}
 use Rattle.view_def.specs.Query.{Query}
 use Rattle.view_def.specs.Profile.{IsViewOfProfile}
 use Rattle.flow_law.specs.Facts.{Fact}
-use Rattle.valuation_meaning.specs.Terms.{Reading, are_defined}
-use Rattle.valuation_meaning.specs.Valuations.{counts}
-use Rattle.valuation_meaning.specs.Meaning.{fact_of, facts}
+use Rattle.view_meaning.specs.Terms.{Reading, are_defined}
+use Rattle.view_meaning.specs.Valuations.{counts}
+use Rattle.view_meaning.specs.Meaning.{fact_of, facts}
 use Rattle.plan_law.specs.Columns.{Combo, alias_cell, read, is_consistent, stage, bases, combo_facts, terms_over}
 use Rattle.plan_law.specs.Laws.{CombosList}
 use Rattle.std.proofs.Math.Seq.{take-length}

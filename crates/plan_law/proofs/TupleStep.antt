@@ -12,9 +12,9 @@ use Rattle.plan_law.specs.Kinds.term
 use Rattle.plan_law.specs.Kinds.range
 use Rattle.view_def.specs.Query.{Query}
 use Rattle.view_def.specs.Profile.{is_text_variable}
-use Rattle.valuation_meaning.specs.Elements.{Element, A_row, Valuation}
-use Rattle.valuation_meaning.specs.Terms.{Reading}
-use Rattle.valuation_meaning.specs.Meaning.{term_of}
+use Rattle.view_meaning.specs.Elements.{Element, A_row, Valuation}
+use Rattle.view_meaning.specs.Terms.{Reading}
+use Rattle.view_meaning.specs.Meaning.{term_of}
 use Rattle.schema_delta.specs.Flat.{flat}
 use Rattle.plan_law.specs.Columns.{Combo, tested_terms, wanted, fold_of, spec_of, fold_header, header}
 use Rattle.plan_law.proofs.Weights.{weigh-places}

@@ -10,9 +10,9 @@ use Rattle.plan_law.specs.Kinds.{Term, Range}
 use Rattle.plan_law.specs.Kinds.place
 use Rattle.plan_law.specs.Kinds.term
 use Rattle.view_def.specs.Query.{Query}
-use Rattle.valuation_meaning.specs.Elements.{Element, A_row, Valuation, cell_under, cell_of_element, cell_at, text_at}
-use Rattle.valuation_meaning.specs.Terms.{Reading, value_of}
-use Rattle.valuation_meaning.specs.Valuations.{assignments}
+use Rattle.view_meaning.specs.Elements.{Element, A_row, Valuation, cell_under, cell_of_element, cell_at, text_at}
+use Rattle.view_meaning.specs.Terms.{Reading, value_of}
+use Rattle.view_meaning.specs.Valuations.{assignments}
 use Rattle.plan_law.specs.Columns.{Column, Combo, tested_terms, wanted}
 use Rattle.plan_law.proofs.Weights.{cond-none, weigh-zero}
 use Rattle.plan_law.proofs.Columns.{Has, is_text, texts_equal, text_same}

@@ -25,7 +25,7 @@ use Rattle.plan_law.proofs.Held.{IsColumn, Fits, is_wanted, is_fold}
 use Rattle.plan_law.proofs.Known.{text_declared, tuple_declared, alias_tested}
 use Rattle.plan_law.proofs.Steps.{combined}
 use Rattle.plan_law.proofs.Tuples.{cell_term}
-use Rattle.valuation_meaning.specs.Operands.{variable_of}
+use Rattle.view_meaning.specs.Operands.{variable_of}
 
 all_append : {X : Type 0} (P : X → Type 0) (xs ys : List X) → AllByRecursion P xs → AllByRecursion P ys → AllByRecursion P (xs ++ ys)
 all_append P [] ys h g = g

@@ -11,12 +11,12 @@ use Rattle.plan_law.specs.Kinds.range
 use Rattle.view_def.specs.Conditions.{Condition, Compares}
 use Rattle.view_def.specs.Query.{Query}
 use Rattle.flow_law.specs.Facts.{Fact}
-use Rattle.valuation_meaning.specs.Terms.{Reading}
+use Rattle.view_meaning.specs.Terms.{Reading}
 use Rattle.view_def.specs.Terms.{terms_of_view}
-use Rattle.valuation_meaning.specs.Valuations.{counts}
-use Rattle.valuation_meaning.specs.Meaning.{term_of, fact_of}
-use Rattle.valuation_meaning.specs.Early.{members}
-use Rattle.valuation_meaning.specs.Operands.{resolved}
+use Rattle.view_meaning.specs.Valuations.{counts}
+use Rattle.view_meaning.specs.Meaning.{term_of, fact_of}
+use Rattle.view_meaning.specs.Early.{members}
+use Rattle.view_meaning.specs.Operands.{resolved}
 use Rattle.schema_delta.specs.declared.spec.FlatSpec.{FlatSpec}
 use Rattle.schema_delta.specs.Flat.{flat}
 

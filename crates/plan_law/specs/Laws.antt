@@ -3,7 +3,7 @@ use Rattle.std.specs.Prelude.{◌+◌, ◌*◌, ◌≤◌, List, [], length, map
 use Rattle.schema_model.specs.Catalogue.{CatalogueValue}
 use Rattle.schema_model.specs.declared.change.Change.{Change}
 use Rattle.view_def.specs.Query.{Query}
-use Rattle.valuation_meaning.specs.Meaning.{facts}
+use Rattle.view_meaning.specs.Meaning.{facts}
 use Rattle.schema_delta.specs.Flat.{flat}
 use Rattle.plan_law.specs.Columns.{bases, combos, combo_facts}
 use Rattle.plan_law.specs.Chain.{Sides, SideMoves, Commits, walk_pairs}

@@ -6,7 +6,7 @@ use Rattle.plan_law.specs.Kinds.{Term}
 use Rattle.plan_law.specs.Kinds.term
 use Rattle.view_def.specs.Query.{Query}
 use Rattle.plan_law.specs.Columns.{term_eq, may_equal, equalities}
-use Rattle.valuation_meaning.specs.Operands.{resolved}
+use Rattle.view_meaning.specs.Operands.{resolved}
 use Rattle.join_delta.specs.Joined.{matches}
 
 -- where a text is found: given, or at a place of the left row or of the right one

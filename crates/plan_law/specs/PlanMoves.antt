@@ -5,8 +5,8 @@ use Rattle.ss_text.specs.Texts.{Row}
 use Rattle.schema_model.specs.Catalogue.{CatalogueValue}
 use Rattle.view_def.specs.Query.{Query}
 use Rattle.flow_law.specs.FactRows.{fact_row}
-use Rattle.valuation_meaning.specs.Valuations.{counts}
-use Rattle.valuation_meaning.specs.Meaning.{fact_of, facts}
+use Rattle.view_meaning.specs.Valuations.{counts}
+use Rattle.view_meaning.specs.Meaning.{fact_of, facts}
 use Rattle.plan_law.specs.Kinds.{Term, Range}
 use Rattle.plan_law.specs.Kinds.range
 use Rattle.schema_delta.specs.Flat.{flat}

@@ -4,8 +4,8 @@ use Rattle.ss_text.specs.Texts.{Row}
 use Rattle.schema_model.specs.Catalogue.{CatalogueValue}
 use Rattle.view_def.specs.Query.{Query}
 use Rattle.flow_law.specs.Facts.{Fact}
-use Rattle.valuation_meaning.specs.Valuations.{counts}
-use Rattle.valuation_meaning.specs.Meaning.{fact_of}
+use Rattle.view_meaning.specs.Valuations.{counts}
+use Rattle.view_meaning.specs.Meaning.{fact_of}
 use Rattle.plan_law.specs.Kinds.{Term, Range}
 use Rattle.plan_law.specs.Kinds.range
 use Rattle.schema_delta.specs.declared.spec.FlatSpec.{FlatSpec}

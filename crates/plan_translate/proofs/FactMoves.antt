@@ -4,8 +4,8 @@ use Rattle.std.specs.Prelude.{zip, if◌then◌else◌}
 use Rattle.ss_text.specs.Texts.{Row}
 use Rattle.view_def.specs.Query.{Query}
 use Rattle.flow_law.specs.FactRows.{fact_row}
-use Rattle.valuation_meaning.specs.Valuations.{counts}
-use Rattle.valuation_meaning.specs.Meaning.{fact_of}
+use Rattle.view_meaning.specs.Valuations.{counts}
+use Rattle.view_meaning.specs.Meaning.{fact_of}
 use Rattle.operator_law.specs.declared.delta.Signed.{Signed}
 use Rattle.operator_law.specs.Bags.{signed}
 use Rattle.plan_law.specs.Columns.{read}

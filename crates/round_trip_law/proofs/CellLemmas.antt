@@ -6,10 +6,10 @@ use Rattle.ss_text.specs.Texts.{Text, Row, text_eq, is_in}
 use Rattle.ss_text.proofs.KeyLemmas.{text_order, equal_itself}
 use Rattle.ss_text.proofs.PairLemmas.{turned}
 use Rattle.ss_text.proofs.GroupLemmas.{map_agree}
-use Rattle.valuation_meaning.specs.Elements.{cell_under}
-use Rattle.valuation_meaning.specs.Meaning.{given}
-use Rattle.valuation_meaning.specs.Orders.{text_under, row_under}
-use Rattle.valuation_meaning.proofs.OrderLemmas.{cell_here, cell_later}
+use Rattle.view_meaning.specs.Elements.{cell_under}
+use Rattle.view_meaning.specs.Meaning.{given}
+use Rattle.view_meaning.specs.Orders.{text_under, row_under}
+use Rattle.view_meaning.proofs.OrderLemmas.{cell_here, cell_later}
 
 -- a row that fits has a cell under each of its names
 pub cell_there : (ns row : Row) (a : Text) → length row ≡ length ns → is_in a ns ≡ true → cell_under ns a row ≡ Some (text_under ns row a)

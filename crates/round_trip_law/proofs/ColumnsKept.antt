@@ -12,15 +12,15 @@ use Rattle.flow_law.specs.Facts.{Fact, column_of}
 use Rattle.flow_law.specs.FactTables.{value_for, fact_table, tables}
 use Rattle.flow_law.specs.Labelled.{AllBear}
 use Rattle.flow_law.proofs.FactTableLemmas.{constant_tables}
-use Rattle.valuation_meaning.specs.Elements.{cell_under}
-use Rattle.valuation_meaning.specs.Meaning.{given, facts, shape_of, meaning}
-use Rattle.valuation_meaning.specs.Orders.{text_under, row_under}
+use Rattle.view_meaning.specs.Elements.{cell_under}
+use Rattle.view_meaning.specs.Meaning.{given, facts, shape_of, meaning}
+use Rattle.view_meaning.specs.Orders.{text_under, row_under}
 use Rattle.view_stack.specs.Stands.{catalogue_for, given_by}
 use Rattle.flow_law.specs.Records.{spliced, row_records}
 use Rattle.round_trip_law.specs.Forms.{Named, Parts, Source, from_columns, to_columns}
 use Rattle.round_trip_law.specs.Kept.{has_text, says}
 use Rattle.round_trip_law.proofs.CellLemmas.{cell_behind, own_texts, mapped_twice}
-use Rattle.valuation_meaning.proofs.OrderLemmas.{cell_here, cell_later, In, in_all, in_any, in_append, append_in, in_map, map_in, in_kept, kept_in, flat_in, in_flat}
+use Rattle.view_meaning.proofs.OrderLemmas.{cell_here, cell_later, In, in_all, in_any, in_append, append_in, in_map, map_in, in_kept, kept_in, flat_in, in_flat}
 use Rattle.round_trip_law.proofs.Entries.{Entry, AreFull, column_fact, said}
 use Rattle.round_trip_law.proofs.Members.{all_by, list_all_by, in_ascending, ascending_in, same_by}
 use Rattle.round_trip_law.proofs.SourceLemmas.{Fitting, column_entry, column_entries, columns_said}

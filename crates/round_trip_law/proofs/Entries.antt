@@ -13,11 +13,11 @@ use Rattle.view_def.specs.declared.typed.Term.TheVariants as term
 use Rattle.view_def.specs.Query.{Query}
 use Rattle.view_def.specs.Terms.{terms_of_filter}
 use Rattle.flow_law.specs.Facts.{Fact}
-use Rattle.valuation_meaning.specs.Elements.{Valuation, elements}
-use Rattle.valuation_meaning.specs.Meaning.{given, values_of, fact_of, facts}
-use Rattle.valuation_meaning.specs.Terms.{Reading, value_of, are_defined}
-use Rattle.valuation_meaning.specs.Valuations.{assignments, counts, meets, valuations}
-use Rattle.valuation_meaning.proofs.CountLemmas.{counts_parts}
+use Rattle.view_meaning.specs.Elements.{Valuation, elements}
+use Rattle.view_meaning.specs.Meaning.{given, values_of, fact_of, facts}
+use Rattle.view_meaning.specs.Terms.{Reading, value_of, are_defined}
+use Rattle.view_meaning.specs.Valuations.{assignments, counts, meets, valuations}
+use Rattle.view_meaning.proofs.CountLemmas.{counts_parts}
 use Rattle.round_trip_law.specs.Forms.{Named, Parts, Source, to_values, to_columns, to_tables}
 
 pub record Entry : Type 0 where

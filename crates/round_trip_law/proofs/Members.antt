@@ -7,7 +7,7 @@ use Rattle.ss_text.specs.Ascending.{ascending}
 use Rattle.ss_text.proofs.KeyLemmas.{IsKeyOrder, equal_itself, equal_is}
 use Rattle.ss_text.proofs.PairLemmas.{any_ascending}
 use Rattle.ss_text.proofs.SetLemmas.{SameElements}
-use Rattle.valuation_meaning.proofs.OrderLemmas.{In, in_any, any_in, in_map, map_in, flat_in, in_flat, in_kept, kept_in, both_true}
+use Rattle.view_meaning.proofs.OrderLemmas.{In, in_any, any_in, in_map, map_in, flat_in, in_flat, in_kept, kept_in, both_true}
 use Rattle.view_stack.proofs.ScriptLemmas.{all_append}
 
 -- lists of which each has the elements of the other

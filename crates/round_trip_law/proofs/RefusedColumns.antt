@@ -13,12 +13,12 @@ use Rattle.flow_law.specs.declared.refused.IllegalLabel.{IllegalLabel}
 use Rattle.flow_law.specs.declared.refused.Clash.{Clash}
 use Rattle.flow_law.specs.declared.refused.EvalFault.TheVariants as eval
 use Rattle.flow_law.specs.Facts.{Fact, Pair, pair_cmp, pairs_of, illegal, illegal_table, illegal_column, conflict, first_refusal, refusal_by}
-use Rattle.valuation_meaning.specs.Meaning.{facts, shape_of}
-use Rattle.valuation_meaning.specs.Refusal.{refusal}
+use Rattle.view_meaning.specs.Meaning.{facts, shape_of}
+use Rattle.view_meaning.specs.Refusal.{refusal}
 use Rattle.round_trip_law.specs.Forms.{Named, Parts, Source, to_columns}
 use Rattle.round_trip_law.specs.Kept.{is_refused}
 use Rattle.round_trip_law.proofs.Entries.{Entry, column_fact}
-use Rattle.valuation_meaning.proofs.OrderLemmas.{In, in_any}
+use Rattle.view_meaning.proofs.OrderLemmas.{In, in_any}
 use Rattle.round_trip_law.proofs.RefusedLemmas.{least_passes, any_mapped}
 use Rattle.round_trip_law.proofs.ValuesAt.{some_clash, conflict_is}
 

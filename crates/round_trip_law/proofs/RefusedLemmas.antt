@@ -14,11 +14,11 @@ use Rattle.flow_law.specs.declared.shape.Shape.{Shape}
 use Rattle.flow_law.specs.declared.refused.IllegalLabel.{IllegalLabel}
 use Rattle.flow_law.specs.declared.refused.EvalFault.TheVariants as eval
 use Rattle.flow_law.specs.Facts.{Fact, Pair, Spot, pair_cmp, spot_cmp, clash_of, values_at, facts_of, column_of, illegal, illegal_table, illegal_column, conflict, first_refusal, refusal_by}
-use Rattle.valuation_meaning.specs.Elements.{Valuation}
-use Rattle.valuation_meaning.specs.Meaning.{fact_of, facts, shape_of}
-use Rattle.valuation_meaning.specs.Refusal.{refusal}
-use Rattle.valuation_meaning.specs.Terms.{value_of}
-use Rattle.valuation_meaning.specs.Valuations.{valuations}
+use Rattle.view_meaning.specs.Elements.{Valuation}
+use Rattle.view_meaning.specs.Meaning.{fact_of, facts, shape_of}
+use Rattle.view_meaning.specs.Refusal.{refusal}
+use Rattle.view_meaning.specs.Terms.{value_of}
+use Rattle.view_meaning.specs.Valuations.{valuations}
 use Rattle.round_trip_law.specs.Forms.{to_values}
 use Rattle.round_trip_law.specs.Kept.{is_refused}
 use Rattle.round_trip_law.specs.Law.{ValuesAreMade}

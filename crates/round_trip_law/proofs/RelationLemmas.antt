@@ -8,8 +8,8 @@ use Rattle.schema_model.specs.Catalogue.{RelationValue, DatabaseValue, Catalogue
 use Rattle.schema_model.specs.Sound.{IsRelation, IsDatabase, IsSound}
 use Rattle.view_def.specs.Query.{Query}
 use Rattle.flow_law.specs.Facts.{Fact}
-use Rattle.valuation_meaning.specs.Meaning.{facts}
-use Rattle.valuation_meaning.specs.Orders.{text_under, row_under}
+use Rattle.view_meaning.specs.Meaning.{facts}
+use Rattle.view_meaning.specs.Orders.{text_under, row_under}
 use Rattle.round_trip_law.specs.Forms.{Named, Parts, header, from_values}
 use Rattle.round_trip_law.specs.Law.{HasParts}
 use Rattle.round_trip_law.proofs.Entries.{Entry, AreFull, entry_row, Makes, facts_are}

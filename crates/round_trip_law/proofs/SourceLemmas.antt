@@ -15,10 +15,10 @@ use Rattle.view_def.specs.declared.typed.Range.{Range}
 use Rattle.view_def.specs.declared.typed.Range.TheVariants as range
 use Rattle.view_def.specs.declared.typed.Term.TheVariants as term
 use Rattle.view_def.specs.Terms.{terms_of_each}
-use Rattle.valuation_meaning.specs.Elements.{Element, A_text, A_row, Valuation, text_of, cell_under, cell_of_element, cell_at, database_at, relation_at, ◌>>=◌, all_rows, elements}
-use Rattle.valuation_meaning.specs.Orders.{text_under, row_under}
-use Rattle.valuation_meaning.specs.Terms.{Reading, value_of, are_defined, each_is_true}
-use Rattle.valuation_meaning.specs.Valuations.{assignments}
+use Rattle.view_meaning.specs.Elements.{Element, A_text, A_row, Valuation, text_of, cell_under, cell_of_element, cell_at, database_at, relation_at, ◌>>=◌, all_rows, elements}
+use Rattle.view_meaning.specs.Orders.{text_under, row_under}
+use Rattle.view_meaning.specs.Terms.{Reading, value_of, are_defined, each_is_true}
+use Rattle.view_meaning.specs.Valuations.{assignments}
 use Rattle.view_stack.proofs.SaysLemmas.{and_first, and_second, or_right}
 use Rattle.round_trip_law.specs.Forms.{Named, Parts, cell, no_key_nor_empty, from_values, from_columns, from_tables}
 use Rattle.round_trip_law.specs.Kept.{says}

@@ -9,14 +9,14 @@ use Rattle.ss_text.proofs.KeyLemmas.{text_order, row_order, equal_itself}
 use Rattle.ss_text.proofs.SetLemmas.{SameElements}
 use Rattle.schema_model.specs.Catalogue.{RelationValue, CatalogueValue, database_value, database_of}
 use Rattle.flow_law.specs.Facts.{Fact, facts_of}
-use Rattle.valuation_meaning.specs.Meaning.{facts}
-use Rattle.valuation_meaning.specs.Orders.{text_under, row_under}
+use Rattle.view_meaning.specs.Meaning.{facts}
+use Rattle.view_meaning.specs.Orders.{text_under, row_under}
 use Rattle.view_stack.specs.Stands.{given_by}
 use Rattle.round_trip_law.specs.Forms.{Parts, header, Source, from_tables, to_tables}
 use Rattle.round_trip_law.proofs.CellLemmas.{own_texts, text_next, IsApart, apart}
 use Rattle.round_trip_law.proofs.Entries.{Entry, AreFull, table_fact, said}
 use Rattle.round_trip_law.proofs.Members.{all_by, list_all_by, ascending_in, regrouped}
-use Rattle.valuation_meaning.proofs.OrderLemmas.{In, in_all, in_any, in_append, map_in, kept_in}
+use Rattle.view_meaning.proofs.OrderLemmas.{In, in_all, in_any, in_append, map_in, kept_in}
 use Rattle.round_trip_law.proofs.SourceLemmas.{HasRest, table_entry, table_entries, tables_said}
 use Rattle.round_trip_law.proofs.TargetLemmas.{rest, table_of_name, names_of, tables_made, names_ascend}
 

@@ -8,8 +8,8 @@ use Rattle.ss_text.specs.Label.{is_table_label}
 use Rattle.ss_text.proofs.KeyLemmas.{row_order}
 use Rattle.ss_text.proofs.SetLemmas.{same_map, ascending_of_same}
 use Rattle.schema_model.specs.Catalogue.{RelationValue, CatalogueValue, relation_value, database_value}
-use Rattle.valuation_meaning.specs.Meaning.{facts}
-use Rattle.valuation_meaning.specs.Orders.{text_under, rows_under}
+use Rattle.view_meaning.specs.Meaning.{facts}
+use Rattle.view_meaning.specs.Orders.{text_under, rows_under}
 use Rattle.view_stack.specs.Stands.{given_by}
 use Rattle.round_trip_law.specs.Forms.{Named, Parts, header, from_values, from_tables, to_values, to_tables}
 use Rattle.round_trip_law.specs.Kept.{there_and_back, is_refused, alone}

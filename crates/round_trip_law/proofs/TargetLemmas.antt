@@ -11,7 +11,7 @@ use Rattle.flow_law.specs.FactTables.{fact_table, tables}
 use Rattle.flow_law.specs.Labelled.{AllBear}
 use Rattle.flow_law.specs.Tables.{TableValue}
 use Rattle.flow_law.proofs.FactTableLemmas.{constant_tables, variable_tables}
-use Rattle.valuation_meaning.specs.Meaning.{facts, shape_of, meaning}
+use Rattle.view_meaning.specs.Meaning.{facts, shape_of, meaning}
 use Rattle.view_stack.specs.Stands.{relation_for, catalogue_for, given_by}
 use Rattle.flow_law.specs.Records.{row_records}
 use Rattle.round_trip_law.specs.Forms.{Named, Parts, header, Source, to_values, to_tables}

@@ -17,11 +17,11 @@ use Rattle.flow_law.specs.Facts.{Fact, Pair, illegal, illegal_table, illegal_col
 use Rattle.flow_law.specs.FactTables.{tables}
 use Rattle.flow_law.proofs.RefusedLemmas.{pair_total, pair_same}
 use Rattle.flow_law.proofs.SameFacts.{tables_same, conflict_same}
-use Rattle.valuation_meaning.specs.Elements.{Valuation}
-use Rattle.valuation_meaning.specs.Meaning.{given, facts, shape_of, meaning}
-use Rattle.valuation_meaning.specs.Refusal.{refusal}
-use Rattle.valuation_meaning.specs.Terms.{value_of}
-use Rattle.valuation_meaning.specs.Valuations.{assignments}
+use Rattle.view_meaning.specs.Elements.{Valuation}
+use Rattle.view_meaning.specs.Meaning.{given, facts, shape_of, meaning}
+use Rattle.view_meaning.specs.Refusal.{refusal}
+use Rattle.view_meaning.specs.Terms.{value_of}
+use Rattle.view_meaning.specs.Valuations.{assignments}
 use Rattle.view_stack.specs.Stands.{given_by}
 use Rattle.round_trip_law.specs.Forms.{Named, Parts, header, Source, cell, from_values, from_columns, from_tables, to_values, to_columns, to_tables}
 use Rattle.round_trip_law.specs.Kept.{alone}
@@ -29,7 +29,7 @@ use Rattle.round_trip_law.specs.Law.{IsThroughValues, AreThroughValues, ThroughV
 use Rattle.round_trip_law.proofs.CellLemmas.{own_texts, text_next, text_last, IsApart, apart}
 use Rattle.round_trip_law.proofs.Entries.{Entry, AreFull, entry_row, value_fact, column_fact, table_fact, counted, entry_of, said, AreNamed, Makes, makes_values, makes_columns, makes_tables, facts_are}
 use Rattle.round_trip_law.proofs.Members.{all_by, list_all_by, in_ascending, ascending_in, same_by}
-use Rattle.valuation_meaning.proofs.OrderLemmas.{in_all, in_any, map_in}
+use Rattle.view_meaning.proofs.OrderLemmas.{in_all, in_any, map_in}
 use Rattle.round_trip_law.proofs.SourceLemmas.{among, row_entry, values_said, values_named, columns_named, tables_named}
 use Rattle.round_trip_law.proofs.TargetLemmas.{values_made}
 

@@ -19,7 +19,7 @@ use Rattle.round_trip_law.specs.Forms.{Named}
 use Rattle.round_trip_law.specs.Kept.{has_text}
 use Rattle.round_trip_law.proofs.Entries.{Entry, column_fact}
 use Rattle.round_trip_law.proofs.Members.{in_ascending, ascending_in}
-use Rattle.valuation_meaning.proofs.OrderLemmas.{In, in_any, any_in, in_map, map_in, in_kept, kept_in, both_true}
+use Rattle.view_meaning.proofs.OrderLemmas.{In, in_any, any_in, in_map, map_in, in_kept, kept_in, both_true}
 
 -- ---- texts that are not empty
 some_long : (t : Text) → not (length t == 0) ≡ has_text t

@@ -9,8 +9,8 @@ use Rattle.ss_text.proofs.GroupLemmas.{map_agree}
 use Rattle.schema_model.specs.Catalogue.{RelationValue, CatalogueValue, relation_value, database_value}
 use Rattle.schema_model.specs.Sound.{IsRelation}
 use Rattle.flow_law.specs.FactTables.{value_for}
-use Rattle.valuation_meaning.specs.Meaning.{facts, shape_of}
-use Rattle.valuation_meaning.specs.Orders.{text_under}
+use Rattle.view_meaning.specs.Meaning.{facts, shape_of}
+use Rattle.view_meaning.specs.Orders.{text_under}
 use Rattle.view_stack.specs.Stands.{catalogue_for, given_by}
 use Rattle.round_trip_law.specs.Forms.{Named, Parts, from_values, from_columns, to_values, to_columns}
 use Rattle.round_trip_law.specs.Kept.{there_and_back, is_refused, says, kept_names, kept_keys, text_for, some_clash_under, wide}
@@ -18,7 +18,7 @@ use Rattle.round_trip_law.specs.Law.{HasKeys, IsThroughValues, ValuesKeepTexts}
 use Rattle.round_trip_law.proofs.ColumnsKept.{facts_made, row_made, columns_made}
 use Rattle.round_trip_law.proofs.Entries.{Entry, AreFull, column_fact, facts_are, makes_columns}
 use Rattle.round_trip_law.proofs.Members.{all_by}
-use Rattle.valuation_meaning.proofs.OrderLemmas.{map_in, flat_in}
+use Rattle.view_meaning.proofs.OrderLemmas.{map_in, flat_in}
 use Rattle.round_trip_law.proofs.RefusedColumns.{columns_refused}
 use Rattle.round_trip_law.proofs.SourceLemmas.{column_entry, column_entries, columns_said, columns_named}
 use Rattle.round_trip_law.proofs.RelationLemmas.{relation_fits}

@@ -8,14 +8,14 @@ use Rattle.ss_text.proofs.KeyLemmas.{text_order, row_order, equal_itself, equal_
 use Rattle.ss_text.proofs.SetLemmas.{SameElements, ascending_of_same, least_of_same, same_ascending}
 use Rattle.schema_model.specs.Catalogue.{RelationValue}
 use Rattle.flow_law.specs.FactTables.{value_for}
-use Rattle.valuation_meaning.specs.Orders.{text_under, row_under}
+use Rattle.view_meaning.specs.Orders.{text_under, row_under}
 use Rattle.view_stack.proofs.SaysLemmas.{and_first}
 use Rattle.round_trip_law.specs.Forms.{Named, Parts}
 use Rattle.round_trip_law.specs.Kept.{has_text, says, kept_names, kept_keys, text_for, clash_under, some_clash_under}
 use Rattle.round_trip_law.proofs.ColumnsKept.{facts_made, names_made, keys_made}
 use Rattle.round_trip_law.proofs.Entries.{Entry}
 use Rattle.round_trip_law.proofs.Members.{in_ascending, ascending_in, same_by}
-use Rattle.valuation_meaning.proofs.OrderLemmas.{In, in_any, any_in, in_map, map_in, in_kept, kept_in, flat_in, in_flat, both_true}
+use Rattle.view_meaning.proofs.OrderLemmas.{In, in_any, any_in, in_map, map_in, in_kept, kept_in, flat_in, in_flat, both_true}
 use Rattle.round_trip_law.proofs.RefusedColumns.{some_illegal}
 use Rattle.round_trip_law.proofs.RefusedLemmas.{any_mapped}
 use Rattle.round_trip_law.proofs.SourceLemmas.{column_entry, column_entries}

@@ -7,9 +7,9 @@ use Rattle.ss_text.specs.Label.{is_table_label, is_column_label}
 use Rattle.schema_model.specs.Catalogue.{CatalogueValue, relation_value, database_value}
 use Rattle.flow_law.specs.Facts.{illegal, conflict, refusal_by}
 use Rattle.flow_law.specs.FactTables.{tables}
-use Rattle.valuation_meaning.specs.Valuations.{valuations, counts}
-use Rattle.valuation_meaning.specs.Meaning.{meaning, facts}
-use Rattle.valuation_meaning.specs.Refusal.{refusal}
+use Rattle.view_meaning.specs.Valuations.{valuations, counts}
+use Rattle.view_meaning.specs.Meaning.{meaning, facts}
+use Rattle.view_meaning.specs.Refusal.{refusal}
 use Rattle.view_stack.specs.Stands.{given_by}
 use Rattle.round_trip_law.specs.Forms.{Named, Parts, from_values, from_columns, from_tables, to_values, to_columns, to_tables}
 use Rattle.round_trip_law.specs.Kept.{is_refused, alone}

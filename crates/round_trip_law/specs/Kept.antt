@@ -5,8 +5,8 @@ use Rattle.ss_text.specs.Texts.{Text, Row, text_cmp, row_cmp, text_eq, row_eq, i
 use Rattle.ss_text.specs.Ascending.{ascending, least}
 use Rattle.schema_model.specs.Catalogue.{RelationValue, CatalogueValue, relation_value, database_value}
 use Rattle.view_def.specs.Query.{Query}
-use Rattle.valuation_meaning.specs.Orders.{text_under, row_under}
-use Rattle.valuation_meaning.specs.Refusal.{refusal}
+use Rattle.view_meaning.specs.Orders.{text_under, row_under}
+use Rattle.view_meaning.specs.Refusal.{refusal}
 use Rattle.view_stack.specs.Stands.{given_by}
 use Rattle.round_trip_law.specs.Forms.{Named, Parts, header}
 

@@ -7,9 +7,9 @@ use Rattle.schema_model.specs.Catalogue.{RelationValue, CatalogueValue, relation
 use Rattle.schema_model.specs.Sound.{IsSound}
 use Rattle.view_def.specs.Profile.{IsViewOfProfile}
 use Rattle.view_def.specs.Query.{Query}
-use Rattle.valuation_meaning.specs.Meaning.{meaning}
-use Rattle.valuation_meaning.specs.Orders.{text_under, rows_under}
-use Rattle.valuation_meaning.specs.Refusal.{refusal}
+use Rattle.view_meaning.specs.Meaning.{meaning}
+use Rattle.view_meaning.specs.Orders.{text_under, rows_under}
+use Rattle.view_meaning.specs.Refusal.{refusal}
 use Rattle.view_stack.specs.Stands.{given_by}
 use Rattle.round_trip_law.specs.Forms.{Named, Parts, header, Source, from_values, from_columns, from_tables, to_values, to_columns, to_tables}
 use Rattle.round_trip_law.specs.Kept.{there_and_back, is_refused, alone, with_values, some_clash, kept_names, some_clash_under, wide}

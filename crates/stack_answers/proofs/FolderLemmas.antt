@@ -15,7 +15,7 @@ use Rattle.schema_model.specs.Catalogue.{CatalogueValue}
 use Rattle.flow_law.specs.declared.shape.Shape.{Shape}
 use Rattle.flow_law.specs.Tables.{TableValue, TablesValue, labels_of, table_of}
 use Rattle.flow_law.specs.InOrder.{AreTables}
-use Rattle.valuation_meaning.specs.Meaning.{meaning, shape_of}
+use Rattle.view_meaning.specs.Meaning.{meaning, shape_of}
 use Rattle.view_session.proofs.UpkeepLemmas.{meaning_in_order}
 use Rattle.view_folder.specs.Files.{is_named, is_csv_name, file_name, other_names}
 use Rattle.view_folder.specs.TableFiles.{table_file, table_files, table_text}

@@ -8,8 +8,8 @@ use Rattle.outside.specs.Tree.{Tree}
 use Rattle.flow_law.specs.Facts.{illegal, conflict, refusal_by}
 use Rattle.flow_law.specs.FactTables.{tables}
 use Rattle.flow_law.specs.Script.{script}
-use Rattle.valuation_meaning.specs.Valuations.{valuations, counts}
-use Rattle.valuation_meaning.specs.Meaning.{meaning, facts}
+use Rattle.view_meaning.specs.Valuations.{valuations, counts}
+use Rattle.view_meaning.specs.Meaning.{meaning, facts}
 use Rattle.csv_catalog.specs.FileFaults.{repeated_after}
 use Rattle.course.specs.declared.status.Verdict.TheVariants as verdict
 use Rattle.ss_print.specs.Printing.{refuses, says}

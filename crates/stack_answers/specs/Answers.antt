@@ -13,7 +13,7 @@ use Rattle.schema_model.specs.declared.change.ChangeFault.TheVariants.{FieldCoun
 use Rattle.schema_model.specs.declared.refusal.Refusal.{Refusal}
 use Rattle.csv_catalog.specs.Saved.{saved}
 use Rattle.flow_law.specs.Tables.{TablesValue}
-use Rattle.valuation_meaning.specs.Meaning.{shape_of}
+use Rattle.view_meaning.specs.Meaning.{shape_of}
 use Rattle.view_folder.specs.Files.{view_folder}
 use Rattle.view_folder.specs.Sync.{later_sync}
 use Rattle.course.specs.declared.status.Verdict.TheVariants as verdict

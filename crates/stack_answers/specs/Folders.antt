@@ -4,7 +4,7 @@ use Rattle.ss_text.specs.Texts.{Text}
 use Rattle.outside.specs.Tree.{Tree, files_of}
 use Rattle.outside.specs.Effects.{Effect}
 use Rattle.flow_law.specs.Tables.{TablesValue, labels_of}
-use Rattle.valuation_meaning.specs.Meaning.{shape_of}
+use Rattle.view_meaning.specs.Meaning.{shape_of}
 use Rattle.view_folder.specs.Files.{is_csv_name, view_folder}
 use Rattle.view_folder.specs.Sync.{has_table, later_sync}
 use Rattle.stack_levels.specs.States.{LevelState, level_tables}

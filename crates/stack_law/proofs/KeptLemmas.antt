@@ -24,7 +24,7 @@ use Rattle.flow_law.specs.Lines.{label_of}
 use Rattle.flow_law.specs.Script.{script}
 use Rattle.flow_law.specs.Tables.{table_of, labels_of}
 use Rattle.flow_law.proofs.ScriptLaw.{unnamed_table_stays}
-use Rattle.valuation_meaning.specs.Meaning.{meaning, shape_of}
+use Rattle.view_meaning.specs.Meaning.{meaning, shape_of}
 use Rattle.view_folder.specs.declared.file.File.{File}
 use Rattle.view_folder.specs.Files.{view_folder, Apart}
 use Rattle.view_folder.specs.TableFiles.{table_files}

@@ -14,7 +14,7 @@ use Rattle.view_def.specs.Query.{Query}
 use Rattle.view_def.specs.Profile.{IsViewOfProfile}
 use Rattle.flow_law.specs.declared.line.TableLine.{TableLine}
 use Rattle.change_script.proofs.AppliedLaw.{script_applies}
-use Rattle.valuation_meaning.specs.Meaning.{meaning, shape_of}
+use Rattle.view_meaning.specs.Meaning.{meaning, shape_of}
 use Rattle.view_folder.specs.Files.{view_folder, Apart}
 use Rattle.view_session.proofs.UpkeepLemmas.{meaning_in_order}
 use Rattle.source_law.proofs.NamedLemmas.{same_text}

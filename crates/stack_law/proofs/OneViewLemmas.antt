@@ -26,7 +26,7 @@ use Rattle.change_script.specs.Printed.{printed}
 use Rattle.flow_law.specs.Script.{script}
 use Rattle.flow_law.specs.Lines.{label_of}
 use Rattle.flow_law.specs.declared.line.TableLine.{TableLine}
-use Rattle.valuation_meaning.specs.Meaning.{meaning, shape_of}
+use Rattle.view_meaning.specs.Meaning.{meaning, shape_of}
 use Rattle.view_folder.specs.Files.{view_folder}
 use Rattle.view_folder.specs.Sync.{later_sync, opening_sync, opening_count}
 use Rattle.view_session.specs.Named.{Names, named_relations, named_databases, with_change, with_changes}

@@ -9,7 +9,7 @@ use Rattle.outside.specs.Effects.{Effect, Stored, Contents, performed, Partly}
 use Rattle.schema_model.specs.Catalogue.{CatalogueValue}
 use Rattle.schema_model.specs.declared.change.Change.{Change}
 use Rattle.csv_catalog.specs.FileFaults.{first_repeated}
-use Rattle.valuation_meaning.specs.Meaning.{meaning, shape_of}
+use Rattle.view_meaning.specs.Meaning.{meaning, shape_of}
 use Rattle.view_def.specs.Query.{Query}
 use Rattle.view_folder.specs.Files.{view_folder, Apart}
 use Rattle.view_folder.specs.Sync.{opening_sync, later_sync}

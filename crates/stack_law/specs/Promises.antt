@@ -12,7 +12,7 @@ use Rattle.csv_catalog.specs.FileFaults.{first_repeated}
 use Rattle.view_def.specs.Query.{Query}
 use Rattle.flow_law.specs.Script.{script}
 use Rattle.change_script.specs.Applied.{applied}
-use Rattle.valuation_meaning.specs.Meaning.{meaning, shape_of}
+use Rattle.view_meaning.specs.Meaning.{meaning, shape_of}
 use Rattle.view_folder.specs.Files.{view_folder}
 use Rattle.view_folder.specs.Sync.{Holds}
 use Rattle.source_law.specs.Counted.{tree_after}

@@ -7,7 +7,7 @@ use Rattle.schema_model.specs.Catalogue.{CatalogueValue}
 use Rattle.schema_model.specs.declared.change.Change.{Change}
 use Rattle.view_def.specs.Query.{Query}
 use Rattle.flow_law.specs.Tables.{TablesValue, labels_of}
-use Rattle.valuation_meaning.specs.Meaning.{meaning, shape_of}
+use Rattle.view_meaning.specs.Meaning.{meaning, shape_of}
 use Rattle.apply_law.specs.Standing.{Standing, Waiting, Idle}
 use Rattle.apply_law.specs.Verdicts.{Makes, tables_in}
 use Rattle.view_stack.specs.Limits.{first_limit}

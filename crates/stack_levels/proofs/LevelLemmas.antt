@@ -12,7 +12,7 @@ use Rattle.flow_law.specs.Tables.{TablesValue}
 use Rattle.flow_law.specs.declared.line.TableLine.{TableLine}
 use Rattle.flow_law.specs.declared.refused.Clash.{Clash}
 use Rattle.flow_law.specs.declared.refused.IllegalLabel.{IllegalLabel}
-use Rattle.valuation_meaning.specs.Meaning.{facts, meaning, shape_of}
+use Rattle.view_meaning.specs.Meaning.{facts, meaning, shape_of}
 use Rattle.apply_law.specs.Verdicts.{Verdict, Makes, IsIllegal, Clashes, tables_in, IsScriptTo}
 use Rattle.view_stack.specs.Limits.{lifted_limit}
 use Rattle.view_stack.specs.Stands.{catalogue_for, given_by}

@@ -8,7 +8,7 @@ use Rattle.schema_model.specs.declared.refusal.Which.{Which}
 use Rattle.view_def.specs.Query.{Query, query_of}
 use Rattle.flow_law.specs.Tables.{TablesValue}
 use Rattle.flow_law.specs.declared.shape.Shape.{Shape}
-use Rattle.valuation_meaning.specs.Meaning.{shape_of}
+use Rattle.view_meaning.specs.Meaning.{shape_of}
 use Rattle.apply_law.specs.Verdicts.{Verdict, Makes, tables_in}
 use Rattle.view_session.specs.Verdicts.{verdict_of}
 use Rattle.view_stack.specs.Limits.{first_limit}

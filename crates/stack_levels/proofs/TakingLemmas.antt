@@ -14,7 +14,7 @@ use Rattle.flow_law.specs.Lines.{label_of}
 use Rattle.flow_law.specs.Script.{script}
 use Rattle.flow_law.specs.Tables.{TablesValue}
 use Rattle.flow_law.specs.declared.line.TableLine.{TableLine}
-use Rattle.valuation_meaning.specs.Meaning.{meaning}
+use Rattle.view_meaning.specs.Meaning.{meaning}
 use Rattle.apply_law.specs.Verdicts.{Makes, tables_in}
 use Rattle.apply_law.specs.declared.refused.GroupRefused.{GroupRefused}
 use Rattle.apply_law.specs.declared.refused.GroupRefused.TheVariants as group

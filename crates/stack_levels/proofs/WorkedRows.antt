@@ -19,8 +19,8 @@ use Rattle.flow_law.specs.declared.line.TableLine.TheVariants.{ColumnPlus, RowPl
 use Rattle.flow_law.specs.Facts.{illegal, conflict, refusal_by}
 use Rattle.flow_law.specs.FactTables.{tables}
 use Rattle.flow_law.specs.Script.{script}
-use Rattle.valuation_meaning.specs.Valuations.{valuations, counts}
-use Rattle.valuation_meaning.specs.Meaning.{meaning, facts}
+use Rattle.view_meaning.specs.Valuations.{valuations, counts}
+use Rattle.view_meaning.specs.Meaning.{meaning, facts}
 use Rattle.view_stages.specs.Stages.{refusal_of}
 use Rattle.stack_levels.specs.Levels.{refused_at, lines_over, opening_refusal, changing_refusal}
 

@@ -8,7 +8,7 @@ use Rattle.view_def.specs.Query.{Query}
 use Rattle.flow_law.specs.Script.{script}
 use Rattle.flow_law.specs.Tables.{TablesValue}
 use Rattle.flow_law.specs.declared.line.TableLine.{TableLine}
-use Rattle.valuation_meaning.specs.Meaning.{meaning, shape_of}
+use Rattle.view_meaning.specs.Meaning.{meaning, shape_of}
 use Rattle.view_stack.specs.Stands.{database_for, given_by}
 use Rattle.view_stack.specs.Limits.{first_limit, lifted_limit}
 use Rattle.csv_catalog.specs.declared.fault.LoadFault.TheVariants as load

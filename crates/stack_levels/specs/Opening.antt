@@ -3,7 +3,7 @@ use Rattle.std.specs.Prelude.{◌≡◌, ◌≤◌, ℕ, List, [], ◌∷◌, ma
 use Rattle.schema_model.specs.Catalogue.{CatalogueValue}
 use Rattle.view_def.specs.Query.{Query, query_of}
 use Rattle.flow_law.specs.Tables.{labels_of}
-use Rattle.valuation_meaning.specs.Meaning.{meaning}
+use Rattle.view_meaning.specs.Meaning.{meaning}
 use Rattle.view_session.specs.Named.{no_names}
 use Rattle.view_session.specs.Session.{opened}
 use Rattle.view_stages.specs.declared.accepted.Definition.{Definition}

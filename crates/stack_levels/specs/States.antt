@@ -5,7 +5,7 @@ use Rattle.schema_model.specs.Catalogue.{CatalogueValue}
 use Rattle.schema_model.specs.declared.change.Change.{Change}
 use Rattle.view_def.specs.Query.{Query}
 use Rattle.flow_law.specs.Tables.{TablesValue, labels_of}
-use Rattle.valuation_meaning.specs.Meaning.{meaning}
+use Rattle.view_meaning.specs.Meaning.{meaning}
 use Rattle.apply_law.specs.Standing.{Standing, Waiting}
 use Rattle.apply_law.specs.Verdicts.{Makes}
 use Rattle.view_session.specs.Named.{Names, no_names}

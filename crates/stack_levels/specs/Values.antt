@@ -7,7 +7,7 @@ use Rattle.view_def.specs.Query.{Query}
 use Rattle.flow_law.specs.Lines.{label_of}
 use Rattle.flow_law.specs.Tables.{TablesValue, labels_of}
 use Rattle.flow_law.specs.declared.line.TableLine.{TableLine}
-use Rattle.valuation_meaning.specs.Meaning.{meaning}
+use Rattle.view_meaning.specs.Meaning.{meaning}
 use Rattle.view_stack.specs.Stands.{given_by}
 
 -- a level: its view, the labels that were named since the last sync, and those of its tables at that sync

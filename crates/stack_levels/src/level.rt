@@ -4,7 +4,7 @@ ghost use Rattle.ss_text.specs.Label.{is_table_label};
 ghost use Rattle.ss_text.specs.Texts.{is_in};
 ghost use Rattle.view_def.specs.Query.{query_of};
 ghost use Rattle.flow_law.specs.Faults.{IsFault};
-ghost use Rattle.valuation_meaning.specs.Refusal.{refusal};
+ghost use Rattle.view_meaning.specs.Refusal.{refusal};
 ghost use Rattle.view_stages.specs.Records.{HasRecords};
 ghost use Rattle.stack_levels.specs.Values.{count_of};
 ghost use Rattle.stack_levels.specs.States.{level_value, level_tables, level_labels, level_synced};

@@ -4,7 +4,7 @@ ghost use Rattle.schema_model.specs.Catalogue.{CatalogueValue};
 ghost use Rattle.schema_model.specs.declared.refusal.Which.{Which as WhichValue};
 ghost use Rattle.view_def.specs.Query.{Query, query_of};
 ghost use Rattle.flow_law.specs.Faults.{IsFault};
-ghost use Rattle.valuation_meaning.specs.Refusal.{refusal};
+ghost use Rattle.view_meaning.specs.Refusal.{refusal};
 ghost use Rattle.view_stack.specs.Limits.{first_limit, IsLiftFault};
 ghost use Rattle.view_stages.specs.Stages.{refusal_of};
 ghost use Rattle.view_stack.specs.Stands.{given_by};

@@ -31,7 +31,7 @@ use Rattle.flow_law.specs.declared.shape.Shape.{Shape}
 use Rattle.flow_law.specs.Tables.{TablesValue, table_of, labels_of}
 use Rattle.flow_law.specs.Lines.{label_of}
 use Rattle.flow_law.proofs.ScriptLaw.{script_makes, script_fits, unnamed_table_stays}
-use Rattle.valuation_meaning.specs.Meaning.{meaning, shape_of}
+use Rattle.view_meaning.specs.Meaning.{meaning, shape_of}
 use Rattle.view_folder.specs.declared.file.File.{File}
 use Rattle.view_folder.specs.Files.{view_folder, file_name, other_names, Apart}
 use Rattle.view_folder.specs.TableFiles.{table_files, table_text}

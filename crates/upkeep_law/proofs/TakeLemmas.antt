@@ -26,10 +26,10 @@ use Rattle.change_script.specs.Applied.{applied}
 use Rattle.change_script.specs.Fits.{TablesFit}
 use Rattle.change_script.proofs.FitLemmas.{FactFits, tables_fit}
 use Rattle.change_script.proofs.AppliedLaw.{script_applies}
-use Rattle.valuation_meaning.specs.Terms.{Reading, value_of}
-use Rattle.valuation_meaning.specs.Elements.{Valuation}
-use Rattle.valuation_meaning.specs.Valuations.{valuations}
-use Rattle.valuation_meaning.specs.Meaning.{facts, fact_of, cell_of_reading, constant_label, shape_of, meaning, given}
+use Rattle.view_meaning.specs.Terms.{Reading, value_of}
+use Rattle.view_meaning.specs.Elements.{Valuation}
+use Rattle.view_meaning.specs.Valuations.{valuations}
+use Rattle.view_meaning.specs.Meaning.{facts, fact_of, cell_of_reading, constant_label, shape_of, meaning, given}
 use Rattle.view_session.specs.Session.{tables_of, lines_to}
 use Rattle.view_session.proofs.UpkeepLemmas.{meaning_in_order}
 use Rattle.load_run.proofs.TableLemmas.{all_mapped}

@@ -11,7 +11,7 @@ use Rattle.schema_model.specs.Catalogue.{CatalogueValue}
 use Rattle.source_law.specs.Synced.{Synced, unsaved}
 use Rattle.source_law.proofs.SavingLemmas.{sources_hold}
 use Rattle.view_def.specs.Query.{Query}
-use Rattle.valuation_meaning.specs.Meaning.{meaning, shape_of}
+use Rattle.view_meaning.specs.Meaning.{meaning, shape_of}
 use Rattle.view_folder.specs.Files.{view_folder}
 use Rattle.view_folder.specs.TableFiles.{table_files}
 use Rattle.view_folder.specs.Sync.{Holds}

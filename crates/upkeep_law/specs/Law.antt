@@ -8,7 +8,7 @@ use Rattle.outside.specs.Effects.{World, contents, performed}
 use Rattle.schema_model.specs.Catalogue.{CatalogueValue}
 use Rattle.view_def.specs.Profile.{IsViewOfProfile}
 use Rattle.view_def.specs.Query.{Query}
-use Rattle.valuation_meaning.specs.Meaning.{meaning}
+use Rattle.view_meaning.specs.Meaning.{meaning}
 use Rattle.source_law.specs.Synced.{unsaved}
 use Rattle.view_session.specs.Session.{SessionState, tables_of, lines_to}
 use Rattle.course.specs.declared.exit.Status.{Status}

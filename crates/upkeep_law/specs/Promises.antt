@@ -14,7 +14,7 @@ use Rattle.flow_law.specs.declared.line.TableLine.{TableLine}
 use Rattle.flow_law.specs.Tables.{TablesValue}
 use Rattle.flow_law.specs.declared.shape.Shape.{Shape}
 use Rattle.change_script.specs.Applied.{applied}
-use Rattle.valuation_meaning.specs.Meaning.{shape_of}
+use Rattle.view_meaning.specs.Meaning.{shape_of}
 use Rattle.view_session.specs.Session.{tables_of}
 use Rattle.source_law.specs.Counted.{tree_after}
 use Rattle.source_law.specs.Synced.{Synced, unsaved, synced, SourcesHold}

@@ -10,12 +10,12 @@ use Rattle.view_def.specs.declared.typed.Place.{Place}
 use Rattle.view_def.specs.declared.typed.Range.{Range}
 use Rattle.view_def.specs.declared.typed.Range.TheVariants as range
 use Rattle.view_def.specs.Query.{Query}
-use Rattle.valuation_meaning.specs.Elements.{Element, A_text, Valuation, text_of, text_at, cell_at, elements}
-use Rattle.valuation_meaning.specs.Terms.{value_of}
-use Rattle.valuation_meaning.specs.Valuations.{assignments, counts}
-use Rattle.valuation_meaning.specs.Meaning.{fact_of}
+use Rattle.view_meaning.specs.Elements.{Element, A_text, Valuation, text_of, text_at, cell_at, elements}
+use Rattle.view_meaning.specs.Terms.{value_of}
+use Rattle.view_meaning.specs.Valuations.{assignments, counts}
+use Rattle.view_meaning.specs.Meaning.{fact_of}
 use Rattle.valuation_meaning.specs.Listing.{facts_after}
-use Rattle.valuation_meaning.specs.Early.{AliasesAgree, Ends}
+use Rattle.view_meaning.specs.Early.{AliasesAgree, Ends}
 use Rattle.valuation_meaning.proofs.BoundLemmas.{kept_at, cell_stays, last_text}
 
 module _ (c : CatalogueValue) (q : Query) where

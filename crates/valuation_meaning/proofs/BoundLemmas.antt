@@ -10,9 +10,9 @@ use Rattle.view_def.specs.declared.typed.Term.{Term}
 use Rattle.view_def.specs.declared.typed.Term.TheVariants as term
 use Rattle.view_def.specs.Conditions.{Condition, Conditions, AnyOf, AllOf, NotOf, Compares, none, more}
 use Rattle.view_def.specs.Terms.{terms_of, terms_of_each}
-use Rattle.valuation_meaning.specs.Elements.{Element, Valuation, text_of, text_at, place_text, cell_at}
-use Rattle.valuation_meaning.specs.Terms.{value_of, are_defined, is_true, some_is_true, each_is_true}
-use Rattle.valuation_meaning.specs.Early.{is_bound_place, is_bound, are_bound}
+use Rattle.view_meaning.specs.Elements.{Element, Valuation, text_of, text_at, place_text, cell_at}
+use Rattle.view_meaning.specs.Terms.{value_of, are_defined, is_true, some_is_true, each_is_true}
+use Rattle.view_meaning.specs.Early.{is_bound_place, is_bound, are_bound}
 
 pub kept_at : {A : Type 0} (v w : List A) (k : ℕ) → k < length v → slice_get (v ++ w) k ≡ slice_get v k
 kept_at [] w k lt = absurd (omega arith)

@@ -1,26 +1,25 @@
 -- What a view needs, and what the first elements of a valuation lack of it.
 use Rattle.std.proofs.Common.{◌≡◌, ◌<◌, ℕ, zero, suc, Bool, true, false, ◌&&◌, List, [], ◌∷◌, ◌++◌, Option, Some, None, length, map, refl, sym, ap, ◌∙◌}
-use Rattle.std.specs.Prelude.{Vec, is_some, slice_get, option_map, unwrap_or, get_or}
-use Rattle.std.specs.Global.{Global}
+use Rattle.std.specs.Prelude.{is_some, slice_get, option_map, unwrap_or, get_or}
 use Rattle.std.proofs.lemmas.List.Folds.{list_all-append}
 use Rattle.std.proofs.lemmas.Option.{slice_get_read, slice_get-map}
 use Rattle.view_def.specs.declared.typed.Term.{Term}
 use Rattle.view_def.specs.declared.written.Op.{Op}
 use Rattle.view_def.specs.declared.typed.Cond.{Cond, Cond-F, fold-roll-Cond}
 use Rattle.view_def.specs.declared.typed.Cond.TheVariants as cond_is
-use Rattle.view_def.specs.declared.typed.Cond.TheVariants.{rolls-All, rolls-Compare}
-use Rattle.view_def.specs.Conditions.{condition_of, conditions_of, layer, Condition, Conditions, AnyOf, AllOf, NotOf, Compares, none, more}
+use Rattle.view_def.specs.declared.typed.Cond.TheVariants.{rolls-Compare}
+use Rattle.view_def.specs.Conditions.{condition_of, layer, Condition, Conditions, AnyOf, AllOf, NotOf, Compares, none, more}
 use Rattle.view_def.specs.Query.{Query}
 use Rattle.view_def.specs.Terms.{terms_of, terms_of_each, terms_of_view}
-use Rattle.valuation_meaning.specs.Elements.{Valuation}
-use Rattle.valuation_meaning.specs.Terms.{Reading, value_of, are_defined, is_true, each_is_true}
-use Rattle.valuation_meaning.specs.Truth.{known_if}
-use Rattle.valuation_meaning.specs.Valuations.{counts}
+use Rattle.view_meaning.specs.Elements.{Valuation}
+use Rattle.view_meaning.specs.Terms.{Reading, value_of, are_defined, is_true, each_is_true}
+use Rattle.view_meaning.specs.Truth.{known_if}
+use Rattle.view_meaning.specs.Valuations.{counts}
 use denote.Ref.{Bor}
 use Rattle.valuation_meaning.specs.EarlyTests.{terms_now}
-use Rattle.valuation_meaning.specs.Early.{is_bound, are_bound, listed, members_of, members, holds, NeedsMember, NeedsTerm, Ends}
+use Rattle.view_meaning.specs.Early.{is_bound, are_bound, listed, members_of, members, holds, NeedsMember, NeedsTerm, Ends}
 use Rattle.valuation_meaning.proofs.BoundLemmas.{value_kept, defined_kept, truth_kept}
-use Rattle.valuation_meaning.proofs.CountLemmas.{not_by_filter}
+use Rattle.view_meaning.proofs.CountLemmas.{not_by_filter}
 
 -- ---- what ends a branch
 module _ (q : Query) (v : Valuation) where
@@ -87,10 +86,6 @@ module _ (q : Query) where
   needs_term i t at r h = rw (undefined r (terms_of_view q) i t at h) refl
 
 -- ---- as the code reads them
-pub listed_of : (ms : List Condition) → listed (conditions_of ms) ≡ ms
-listed_of [] = refl
-listed_of (m ∷ ms) = ap (λ l. m ∷ l) (listed_of ms)
-
 pub needs_item : (q : Query) (xs : List Cond) (i : ℕ) (x : Cond) → map condition_of xs ≡ members q.condition → i < length xs → x ≡ get_or xs i x → NeedsMember q (condition_of x)
 needs_item q xs i x all lt is =
     needs_member q i (condition_of x) (ap (λ l. slice_get l i) (sym all) ∙ slice_get-map condition_of xs i ∙ ap (option_map condition_of) (slice_get_read xs (length xs) i x refl lt is))
@@ -104,8 +99,5 @@ unknown true b h = h
 unknown false b h = refl
 
 -- the layers of a condition that the code opens
-pub all_is : (ms : Vec Cond Global) → condition_of (cond_is.All ms) ≡ AllOf (conditions_of (map condition_of ms.items))
-all_is ms = ap condition_of (sym (rolls-All ms)) ∙ fold-roll-Cond Condition layer (Cond-F.All ms)
-
 pub compare_is : (s : Term) (op : Op) (t : Term) → condition_of (cond_is.Compare s op t) ≡ Compares s op t
 compare_is s op t = ap condition_of (sym (rolls-Compare s op t)) ∙ fold-roll-Cond Condition layer (Cond-F.Compare s op t)

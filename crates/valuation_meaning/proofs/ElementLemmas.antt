@@ -10,7 +10,7 @@ use Rattle.ss_text.specs.Texts.{Text, Row, text_eq}
 use Rattle.schema_model.specs.Catalogue.{RelationValue, DatabaseValue}
 use Rattle.schema_model.specs.States.{RelationState, DatabaseState, plain_relation, plain_databases}
 use Rattle.valuation_meaning.specs.Indexed.{rows_now}
-use Rattle.valuation_meaning.specs.Elements.{Element, A_text, A_row, cell_under}
+use Rattle.view_meaning.specs.Elements.{Element, A_text, A_row, cell_under}
 
 -- the names are those of the plain lists
 pub database_names : (ds : List DatabaseState) → map (λ (d : DatabaseState). A_text d.name) ds ≡ map (λ (d : DatabaseValue). A_text d.name) (plain_databases ds)

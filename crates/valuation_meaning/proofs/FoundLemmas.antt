@@ -12,12 +12,12 @@ use Rattle.flow_law.specs.Facts.{Fact}
 use Rattle.valuation_meaning.specs.declared.index.Lists.{Lists}
 use Rattle.valuation_meaning.specs.declared.index.Lists.TheVariants as lists
 use Rattle.valuation_meaning.specs.declared.lookups.Lookup.{Lookup}
-use Rattle.valuation_meaning.specs.Elements.{Element, Valuation, A_text, A_row, cell_of_element, cell_under, place_text, relation_at, elements}
-use Rattle.valuation_meaning.specs.Terms.{value_of}
+use Rattle.view_meaning.specs.Elements.{Element, Valuation, A_text, A_row, cell_of_element, cell_under, place_text, relation_at, elements}
+use Rattle.view_meaning.specs.Terms.{value_of}
 use Rattle.valuation_meaning.specs.Listing.{facts_after, AreEnough}
-use Rattle.valuation_meaning.specs.Early.{AliasesAgree}
+use Rattle.view_meaning.specs.Early.{AliasesAgree}
 use Rattle.valuation_meaning.specs.Indexed.{cells_of, is_cell, places_of}
-use Rattle.valuation_meaning.specs.Operands.{operand_term}
+use Rattle.valuation_meaning.specs.Resolved.{operand_term}
 use Rattle.valuation_meaning.specs.Found.{found_at, found_in}
 use Rattle.valuation_meaning.specs.Columns.{range_by, range_of, part_by, compared, is_sought}
 use Rattle.valuation_meaning.specs.Lookups.{IsLookup, looked_up}

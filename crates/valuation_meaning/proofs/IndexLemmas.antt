@@ -6,7 +6,7 @@ use Rattle.std.specs.Prelude.{slice_get, option_map, get_or, slice_set}
 use Rattle.std.proofs.lemmas.List.{length-map, length-set}
 use Rattle.std.proofs.lemmas.Option.{slice_get-map, slice_get_within, get_or_from_slice_get}
 use Rattle.schema_model.specs.Catalogue.{RelationValue}
-use Rattle.valuation_meaning.specs.Elements.{cell_under}
+use Rattle.view_meaning.specs.Elements.{cell_under}
 use Rattle.indexmap.specs.IndexMap.{insert_entry}
 use Rattle.ss_text.specs.Texts.{Text, Row, text_eq}
 use Rattle.ss_text.proofs.KeyLemmas.{text_order, equal_is, equal_itself}

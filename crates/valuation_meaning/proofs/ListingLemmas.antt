@@ -17,17 +17,18 @@ use Rattle.schema_model.specs.States.{RelationState, plain_relation}
 use denote.Ref.{Bor}
 use Rattle.std.specs.List.{range_with_len}
 use Rattle.std.proofs.lemmas.List.FromFn.{map-range_with_len_more}
-use Rattle.valuation_meaning.specs.Early.{AliasesAgree}
+use Rattle.view_meaning.specs.Early.{AliasesAgree}
 use Rattle.valuation_meaning.proofs.AliasLemmas.{no_alias}
-use Rattle.valuation_meaning.specs.Elements.{Element, A_text, A_row, Valuation, cell_at, relation_at, all_rows, elements}
+use Rattle.view_meaning.specs.Elements.{Element, A_text, A_row, Valuation, cell_at, relation_at, all_rows, elements}
 use Rattle.view_def.specs.declared.typed.Term.{Term}
-use Rattle.valuation_meaning.specs.Terms.{Reading, value_of}
-use Rattle.valuation_meaning.specs.Valuations.{assignments, counts, valuations}
-use Rattle.valuation_meaning.specs.Meaning.{cell_of_reading, fact_of, facts}
+use Rattle.view_meaning.specs.Terms.{Reading, value_of}
+use Rattle.view_meaning.specs.Valuations.{assignments, counts, valuations}
+use Rattle.view_meaning.specs.Meaning.{cell_of_reading, fact_of, facts}
+use Rattle.fact_tables.specs.Counted.{EachAsOften}
 use Rattle.valuation_meaning.specs.Listed.{has_cells}
 use Rattle.valuation_meaning.specs.Listing.{facts_after, AreEnough}
 use Rattle.ss_text.proofs.GroupWalk.{one_left}
-use Rattle.valuation_meaning.proofs.CountLemmas.{none_if, some_if}
+use Rattle.view_meaning.proofs.CountLemmas.{none_if, some_if}
 
 spread : {A B C : Type 0} (f : B → C) (test : B → Bool) (g : A → List B) (xs : List A) → map f (filter test (flat_map g xs)) ≡ flat_map (λ (x : A). map f (filter test (g x))) xs
 spread f test g [] = refl
@@ -119,3 +120,7 @@ facts_of_row c q v begun r n e old listed new is row before added =
 pub facts_after_all : (c : CatalogueValue) (q : Query) → facts_after c q [] (drop 0 q.decls) ≡ facts c q
 unfolding facts_after facts valuations
 facts_after_all c q = refl
+
+-- what is each as often as in a list of the view's facts is so as in them
+pub as_often : (c : CatalogueValue) (q : Query) (fs : List Fact) → fs ≡ facts c q → (gs : List Fact) → EachAsOften fs gs → EachAsOften (facts c q) gs
+as_often c q fs same gs h = rw (← same) h

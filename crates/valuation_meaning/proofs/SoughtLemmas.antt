@@ -15,11 +15,11 @@ use Rattle.view_def.specs.Query.{Query}
 use Rattle.valuation_meaning.specs.declared.index.Lists.{Lists}
 use Rattle.valuation_meaning.specs.declared.index.Lists.TheVariants as lists
 use Rattle.valuation_meaning.specs.declared.equality.Column.{Column}
-use Rattle.valuation_meaning.specs.Elements.{Element, Valuation, text_of, text_at, cell_at}
-use Rattle.valuation_meaning.specs.Terms.{value_of, compares_values}
-use Rattle.valuation_meaning.specs.Valuations.{counts}
-use Rattle.valuation_meaning.specs.Early.{is_bound_place, is_bound, NeedsMember, AliasesAgree}
-use Rattle.valuation_meaning.specs.Operands.{variable_of, resolved}
+use Rattle.view_meaning.specs.Elements.{Element, Valuation, text_of, text_at, cell_at}
+use Rattle.view_meaning.specs.Terms.{value_of, compares_values}
+use Rattle.view_meaning.specs.Valuations.{counts}
+use Rattle.view_meaning.specs.Early.{is_bound_place, is_bound, NeedsMember, AliasesAgree}
+use Rattle.view_meaning.specs.Operands.{variable_of, resolved}
 use Rattle.valuation_meaning.specs.Columns.{term_by, compared_term, part_by, compared, is_sought, NeedsEqual}
 use Rattle.valuation_meaning.proofs.BoundLemmas.{last_at, nothing_behind, place_kept, value_kept}
 

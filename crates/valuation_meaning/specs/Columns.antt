@@ -11,9 +11,9 @@ use Rattle.view_def.specs.Query.{Query}
 use Rattle.valuation_meaning.specs.declared.index.Lists.{Lists}
 use Rattle.valuation_meaning.specs.declared.index.Lists.TheVariants as lists
 use Rattle.valuation_meaning.specs.declared.equality.Column.{Column}
-use Rattle.valuation_meaning.specs.Elements.{Element, Valuation, text_of, cell_of_element, place_text}
-use Rattle.valuation_meaning.specs.Terms.{value_of}
-use Rattle.valuation_meaning.specs.Early.{Ends}
+use Rattle.view_meaning.specs.Elements.{Element, Valuation, text_of, cell_of_element, place_text}
+use Rattle.view_meaning.specs.Terms.{value_of}
+use Rattle.view_meaning.specs.Early.{Ends}
 use Rattle.valuation_meaning.specs.Indexed.{is_cell}
 
 -- the declaration of a column

@@ -7,7 +7,7 @@ use Rattle.view_def.specs.Query.{Query}
 use Rattle.view_def.specs.Terms.{terms_of}
 use Rattle.valuation_meaning.specs.declared.early.EarlyMember.{EarlyMember}
 use Rattle.valuation_meaning.specs.declared.early.EarlyTerm.{EarlyTerm}
-use Rattle.valuation_meaning.specs.Early.{is_bound, are_bound, NeedsMember, NeedsTerm}
+use Rattle.view_meaning.specs.Early.{is_bound, are_bound, NeedsMember, NeedsTerm}
 
 -- terms that are borrowed
 abbrev pub terms_now : List (Bor Term) → List Term

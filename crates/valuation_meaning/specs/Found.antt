@@ -6,7 +6,7 @@ use Rattle.ss_text.specs.Texts.{Text}
 use Rattle.schema_model.specs.Catalogue.{CatalogueValue, RelationValue, relation_of}
 use Rattle.valuation_meaning.specs.declared.index.Lists.{Lists}
 use Rattle.valuation_meaning.specs.declared.index.Lists.TheVariants as lists
-use Rattle.valuation_meaning.specs.Elements.{Element, A_text, A_row, ◌>>=◌}
+use Rattle.view_meaning.specs.Elements.{Element, A_text, A_row, ◌>>=◌}
 use Rattle.valuation_meaning.specs.Indexed.{Indexed, cells_of, places_of}
 
 -- what is found at a place: the row, or its cell, which is the text that is sought

@@ -4,7 +4,7 @@ use denote.Ref.{Bor}
 use Rattle.ss_text.specs.Texts.{Text, Row, text_eq}
 use Rattle.std.specs.Map.{lookup}
 use Rattle.schema_model.specs.Catalogue.{RelationValue}
-use Rattle.valuation_meaning.specs.Elements.{cell_under}
+use Rattle.view_meaning.specs.Elements.{cell_under}
 
 -- rows that are borrowed
 abbrev pub rows_now : List (Bor Row) → List Row

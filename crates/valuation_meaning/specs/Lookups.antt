@@ -3,9 +3,9 @@ use Rattle.std.specs.Prelude.{◌≡◌, List, slice_get, Some}
 use Rattle.schema_model.specs.Catalogue.{CatalogueValue}
 use Rattle.view_def.specs.Query.{Query}
 use Rattle.valuation_meaning.specs.declared.lookups.Lookup.{Lookup}
-use Rattle.valuation_meaning.specs.Elements.{Element, Valuation, ◌>>=◌}
-use Rattle.valuation_meaning.specs.Terms.{value_of}
-use Rattle.valuation_meaning.specs.Operands.{operand_term}
+use Rattle.view_meaning.specs.Elements.{Element, Valuation, ◌>>=◌}
+use Rattle.view_meaning.specs.Terms.{value_of}
+use Rattle.valuation_meaning.specs.Resolved.{operand_term}
 use Rattle.valuation_meaning.specs.Found.{found_under}
 use Rattle.valuation_meaning.specs.Columns.{range_of, names_of, NeedsEqual}
 

@@ -5,7 +5,7 @@ use Rattle.view_def.specs.Query.{query_of}
 use Rattle.valuation_meaning.specs.declared.listing.Source.{Source}
 use Rattle.valuation_meaning.specs.EarlyTests.{IsEarlyMember, IsEarlyTerm}
 use Rattle.valuation_meaning.specs.Lookups.{IsLookup}
-use Rattle.valuation_meaning.specs.Meaning.{constant_label}
+use Rattle.view_meaning.specs.Meaning.{constant_label}
 
 pub record IsReady (s : Source) : Type 0 where
   pub label : s.label ≡ constant_label s.view.now.label

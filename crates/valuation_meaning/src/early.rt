@@ -5,7 +5,7 @@ ghost use Rattle.view_def.specs.Conditions.{condition_of, conditions_of};
 ghost use Rattle.view_def.specs.Query.{Query, query_of};
 ghost use Rattle.view_def.specs.Terms.{terms_of, terms_of_each, terms_of_view};
 ghost use Rattle.view_def.specs.declared.typed.Term.TheVariants as term_is;
-ghost use Rattle.valuation_meaning.specs.Early.{is_bound_place, is_bound, are_bound, members_of, members, Ends};
+ghost use Rattle.view_meaning.specs.Early.{is_bound_place, is_bound, are_bound, members_of, members, Ends};
 ghost use Rattle.valuation_meaning.specs.EarlyTests.{terms_now, IsEarlyMember, IsEarlyTerm};
 
 use crate::element::Element;
@@ -13,8 +13,8 @@ use crate::truth::truth;
 use crate::value::value_of;
 use ss_text::NoMemory;
 use std::alloc::Global;
-use std::slice::from_ref;
 use view_def::{Cond, Place, Range, Term, View};
+use view_meaning::members;
 
 /// A member of the outermost AND, and how many declarations bind its variables.
 #[derive(Drop)]
@@ -124,27 +124,6 @@ fn depth_of_term(term: &Term, declarations: usize, last: usize) -> Option<usize>
         }
     }
     None
-}
-
-// The members of the outermost AND of a condition; another one is its own only member.
-fn members_of(condition: &Cond) -> &[Cond]
-    ensures { map condition_of result.now ≡ members_of (condition_of condition.now) }
-{
-    match condition {
-        Cond::All(members) => members,
-        _ => from_ref(condition),
-    }
-}
-
-/// The members of the outermost AND of a condition, in their order; another condition is its own only member, and none
-/// has no members.
-pub fn members(filter: &Option<Cond>) -> &[Cond]
-    ensures { map condition_of result.now ≡ members (option_map condition_of filter.now) }
-{
-    match filter {
-        None => &[],
-        Some(condition) => members_of(condition),
-    }
 }
 
 /// The members that can be tested before the last declaration.

@@ -5,14 +5,15 @@ ghost use Rattle.view_def.specs.Query.{query_of};
 ghost use Rattle.view_def.specs.declared.written.Op.TheVariants as op_is;
 ghost use Rattle.view_def.specs.declared.typed.Range.TheVariants as range_is;
 ghost use Rattle.view_def.specs.declared.typed.Term.TheVariants as term_is;
-ghost use Rattle.valuation_meaning.specs.Early.{is_bound_place, is_bound, NeedsMember};
-ghost use Rattle.valuation_meaning.specs.Operands.{operand_term};
+ghost use Rattle.view_meaning.specs.Early.{is_bound_place, is_bound, NeedsMember};
+ghost use Rattle.valuation_meaning.specs.Resolved.{operand_term};
 ghost use Rattle.valuation_meaning.specs.Columns.{range_of, compared_term, NeedsEqual};
 
-use crate::early::{is_bound_place, members};
+use crate::early::is_bound_place;
 use crate::index::Lists;
 use crate::operand::{Operand, is_bound_operand, resolved};
 use view_def::{Cond, Op, Place, Range, Term, View};
+use view_meaning::members;
 
 /// What a declaration lists of a relation, and the attribute by which its elements are found.
 #[derive(Drop)]

@@ -3,7 +3,7 @@
 //! Its contract: `evaluate` gives the tables of the facts of a view, one fact for each assignment of rows and
 //! names to its declarations that counts, or the illegal label or the conflict for which the view is refused;
 //! `ordered_facts` gives the same as facts in order, of which the tables can be read and need not be made, and `all_facts`
-//! with them those that come again. A law says that the order of rows and of attributes means nothing.
+//! with them those that come again.
 //! It knows nothing of the text of views, of changes, or of how tables are kept up to date or printed.
 #![tactic(auto)]
 
@@ -18,14 +18,8 @@ mod listed;
 mod listing;
 mod lookups;
 mod operand;
-mod order;
 mod ranges;
-mod shape;
 mod truth;
 mod value;
 
-pub use early::members;
 pub use evaluation::{AllViewFacts, ViewFacts, all_facts, evaluate, ordered_facts};
-pub use order::order_means_nothing;
-pub use shape::shape_of;
-pub use truth::compares;

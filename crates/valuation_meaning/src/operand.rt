@@ -1,9 +1,10 @@
 //! Terms, where the variable of an alias is read as the cell that it names.
 ghost use Rattle.std.specs.Prelude.{◌≡◌, ℕ, Some, slice_get, option_copied};
 ghost use Rattle.view_def.specs.declared.typed.Term.TheVariants as term_is;
-ghost use Rattle.valuation_meaning.specs.Terms.{value_of};
-ghost use Rattle.valuation_meaning.specs.Early.{is_bound};
-ghost use Rattle.valuation_meaning.specs.Operands.{variable_of, resolved, operand_term};
+ghost use Rattle.view_meaning.specs.Terms.{value_of};
+ghost use Rattle.view_meaning.specs.Early.{is_bound};
+ghost use Rattle.view_meaning.specs.Operands.{variable_of, resolved};
+ghost use Rattle.valuation_meaning.specs.Resolved.{operand_term};
 
 use crate::early::{is_bound, is_bound_cell};
 use crate::element::Element;

@@ -18,7 +18,7 @@ use Rattle.schema_model.specs.declared.change.Change.{Change}
 use Rattle.schema_model.specs.declared.change.ChangeFault.{ChangeFault}
 use Rattle.schema_model.specs.declared.change.ChangeFault.TheVariants as change
 use Rattle.flow_law.specs.declared.line.TableLine.{TableLine}
-use Rattle.valuation_meaning.specs.Refusal.{refusal}
+use Rattle.view_meaning.specs.Refusal.{refusal}
 use Rattle.schema_model.specs.declared.pair.Pair.{Pair}
 use Rattle.csv_catalog.specs.Saved.{saved}
 use Rattle.source_law.specs.Synced.{saving}

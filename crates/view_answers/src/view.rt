@@ -11,7 +11,7 @@ ghost use Rattle.schema_model.specs.Changes.{is_well_formed};
 ghost use Rattle.schema_model.specs.Reading.{change_of};
 ghost use Rattle.schema_model.specs.Refusals.{fault};
 ghost use Rattle.flow_law.specs.Tables.{labels_of};
-ghost use Rattle.valuation_meaning.specs.Meaning.{shape_of};
+ghost use Rattle.view_meaning.specs.Meaning.{shape_of};
 ghost use Rattle.view_folder.specs.Files.{view_folder};
 ghost use Rattle.view_folder.specs.Sync.{later_sync};
 ghost use Rattle.view_session.specs.Session.{tables_of, working};

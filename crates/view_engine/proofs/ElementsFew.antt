@@ -12,7 +12,7 @@ use Rattle.view_def.specs.declared.typed.Place.{Place}
 use Rattle.view_def.specs.declared.typed.Range.{Range}
 use Rattle.view_def.specs.declared.typed.Range.TheVariants as range
 use Rattle.view_def.specs.Profile.{ranges_over_rows}
-use Rattle.valuation_meaning.specs.Elements.{Valuation, A_text, A_row, place_text, database_at, relation_at, cell_under, cell_at, elements, ◌>>=◌}
+use Rattle.view_meaning.specs.Elements.{Valuation, A_text, A_row, place_text, database_at, relation_at, cell_under, cell_at, elements, ◌>>=◌}
 use Rattle.view_engine.proofs.Products.{bound}
 use Rattle.schema_model.specs.Limits.{most_rows}
 

@@ -18,9 +18,9 @@ use Rattle.flow_law.specs.FactRows.{fact_width, fact_in}
 use Rattle.flow_law.specs.Labelled.{BearLabel}
 use Rattle.flow_law.specs.Script.{script}
 use Rattle.flow_law.specs.Faults.{IsFaultOf}
-use Rattle.valuation_meaning.specs.Meaning.{facts, meaning, shape_of}
-use Rattle.valuation_meaning.specs.Refusal.{refusal}
-use Rattle.valuation_meaning.proofs.EvalLemmas.{bear}
+use Rattle.view_meaning.specs.Meaning.{facts, meaning, shape_of}
+use Rattle.view_meaning.specs.Refusal.{refusal}
+use Rattle.view_meaning.proofs.EvalLemmas.{bear}
 use Rattle.view_engine.proofs.FactsFew.{facts_few}
 use Rattle.view_engine.proofs.FactsForm.{have_form, read_back, are_wide}
 use Rattle.operator_law.specs.declared.delta.Signed.{Signed}

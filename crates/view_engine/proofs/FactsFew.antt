@@ -8,10 +8,10 @@ use Rattle.schema_model.specs.Sound.{IsSound}
 use Rattle.view_def.specs.declared.typed.Range.{Range}
 use Rattle.view_def.specs.Query.{Query}
 use Rattle.view_def.specs.Profile.{ranges_over_rows, IsViewOfProfile}
-use Rattle.valuation_meaning.specs.Elements.{Valuation, Element, elements}
-use Rattle.valuation_meaning.specs.Terms.{value_of}
-use Rattle.valuation_meaning.specs.Valuations.{assignments, counts, valuations}
-use Rattle.valuation_meaning.specs.Meaning.{fact_of, facts}
+use Rattle.view_meaning.specs.Elements.{Valuation, Element, elements}
+use Rattle.view_meaning.specs.Terms.{value_of}
+use Rattle.view_meaning.specs.Valuations.{assignments, counts, valuations}
+use Rattle.view_meaning.specs.Meaning.{fact_of, facts}
 use Rattle.view_engine.proofs.Products.{flat_few, bound, product, most, product_few}
 use Rattle.view_engine.proofs.ElementsFew.{elements_few}
 use Rattle.schema_model.specs.Limits.{most_rows}

@@ -16,11 +16,11 @@ use Rattle.flow_law.specs.Facts.{Fact}
 use Rattle.flow_law.specs.FactRows.{fact_row, fact_width, fact_in, IsFactOf}
 use Rattle.flow_law.specs.Labelled.{AllBear, BearLabel}
 use Rattle.flow_law.proofs.FactRowLemmas.{fact_read_back, width_of_fact}
-use Rattle.valuation_meaning.specs.Elements.{Valuation}
-use Rattle.valuation_meaning.specs.Terms.{Reading, value_of}
-use Rattle.valuation_meaning.specs.Valuations.{valuations}
-use Rattle.valuation_meaning.specs.Meaning.{given, cell_of_reading, fact_of, facts, shape_of, constant_label}
-use Rattle.valuation_meaning.proofs.EvalLemmas.{bear}
+use Rattle.view_meaning.specs.Elements.{Valuation}
+use Rattle.view_meaning.specs.Terms.{Reading, value_of}
+use Rattle.view_meaning.specs.Valuations.{valuations}
+use Rattle.view_meaning.specs.Meaning.{given, cell_of_reading, fact_of, facts, shape_of, constant_label}
+use Rattle.view_meaning.proofs.EvalLemmas.{bear}
 
 cell_there : (r : Reading) (p : Option Place) (t : Option Term) (spot : Option ℕ) → is_some p ≡ is_some spot → is_some t ≡ is_some spot → is_some (cell_of_reading r p t) ≡ is_some spot
 cell_there r None t spot column value = column

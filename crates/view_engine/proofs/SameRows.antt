@@ -18,9 +18,9 @@ use Rattle.flow_law.specs.Labelled.{BearLabel}
 use Rattle.flow_law.proofs.RefusedLemmas.{pair_total, pair_same}
 use Rattle.flow_law.proofs.SameFacts.{conflict_same}
 use Rattle.fact_tables.specs.Counted.{EachAsOften}
-use Rattle.valuation_meaning.specs.Meaning.{facts, shape_of}
-use Rattle.valuation_meaning.specs.Refusal.{refusal}
-use Rattle.valuation_meaning.proofs.EvalLemmas.{bear}
+use Rattle.view_meaning.specs.Meaning.{facts, shape_of}
+use Rattle.view_meaning.specs.Refusal.{refusal}
+use Rattle.view_meaning.proofs.EvalLemmas.{bear}
 use Rattle.view_engine.proofs.FactsForm.{have_form, read_back}
 use Rattle.operator_law.specs.Bags.{MovesBag, SameBag}
 use Rattle.plan_law.specs.PlanMoves.{fact_rows}

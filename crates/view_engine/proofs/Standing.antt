@@ -4,8 +4,8 @@ use Rattle.schema_model.specs.Catalogue.{CatalogueValue}
 use Rattle.view_def.specs.declared.typed.View.{View}
 use Rattle.view_def.specs.Query.{query_of}
 use Rattle.view_def.specs.Profile.{IsViewOfProfile}
-use Rattle.valuation_meaning.specs.Meaning.{shape_of}
-use Rattle.valuation_meaning.specs.Refusal.{refusal}
+use Rattle.view_meaning.specs.Meaning.{shape_of}
+use Rattle.view_meaning.specs.Refusal.{refusal}
 use Rattle.plan_law.specs.PlanMoves.{fact_rows}
 use Rattle.plan_translate.specs.Plans.{PlanValue, PlanStands}
 use Rattle.view_engine.specs.declared.engine.Engine.{Engine}

@@ -10,8 +10,8 @@ use Rattle.flow_law.specs.declared.line.TableLine.{TableLine}
 use Rattle.flow_law.specs.declared.refused.EvalFault.{EvalFault}
 use Rattle.flow_law.specs.Script.{script}
 use Rattle.flow_law.specs.Faults.{IsFaultOf}
-use Rattle.valuation_meaning.specs.Meaning.{facts, meaning, shape_of}
-use Rattle.valuation_meaning.specs.Refusal.{refusal}
+use Rattle.view_meaning.specs.Meaning.{facts, meaning, shape_of}
+use Rattle.view_meaning.specs.Refusal.{refusal}
 use Rattle.plan_law.specs.PlanMoves.{fact_rows}
 use Rattle.plan_law.specs.Marks.{touched_by, flat_moved_by}
 use Rattle.plan_translate.specs.Plans.{query_in, PlanStands, PlanMoves}

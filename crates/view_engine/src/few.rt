@@ -4,7 +4,7 @@ ghost use Rattle.schema_model.specs.Catalogue.{CatalogueValue};
 ghost use Rattle.schema_model.specs.Sound.{IsSound};
 ghost use Rattle.view_def.specs.Query.{Query};
 ghost use Rattle.view_def.specs.Profile.{IsViewOfProfile};
-ghost use Rattle.valuation_meaning.specs.Meaning.{facts};
+ghost use Rattle.view_meaning.specs.Meaning.{facts};
 
 /// A view of the profile over a sound catalogue has fewer than 2^128 facts.
 pub fn facts_are_few()

@@ -8,7 +8,7 @@ ghost use Rattle.view_def.specs.Query.{Query};
 ghost use Rattle.view_def.specs.Profile.{IsViewOfProfile};
 ghost use Rattle.flow_law.specs.FactRows.{fact_row, fact_width, fact_in, IsFactOf};
 ghost use Rattle.flow_law.specs.Labelled.{AllBear};
-ghost use Rattle.valuation_meaning.specs.Meaning.{facts, shape_of, constant_label};
+ghost use Rattle.view_meaning.specs.Meaning.{facts, shape_of, constant_label};
 
 /// Each fact has a value for each constant column, and a cell just where the view has a variable column.
 pub fn facts_have_form()

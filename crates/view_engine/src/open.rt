@@ -3,8 +3,8 @@ ghost use Rattle.std.specs.Prelude.{◌≡◌, ◌≤◌, [], None, IfOk};
 ghost use Rattle.view_def.specs.Query.{query_of};
 ghost use Rattle.view_def.specs.Profile.{IsViewOfProfile};
 ghost use Rattle.fact_tables.specs.Counted.{EachAsOften, each_fact};
-ghost use Rattle.valuation_meaning.specs.Meaning.{facts as view_facts, shape_of};
-ghost use Rattle.valuation_meaning.specs.Refusal.{refusal};
+ghost use Rattle.view_meaning.specs.Meaning.{facts as view_facts, shape_of};
+ghost use Rattle.view_meaning.specs.Refusal.{refusal};
 ghost use Rattle.view_engine.specs.Forms.{KeepsTables};
 ghost use Rattle.view_engine.specs.Engines.{view_in, EngineStands};
 
@@ -15,8 +15,8 @@ use schema_model::Catalogue;
 use ss_text::{NoMemory, Seed, Steps};
 use std::alloc::Global;
 use std::sync::ledger::Ledger;
-use valuation_meaning::shape_of;
 use view_def::View;
+use view_meaning::shape_of;
 
 // The tables of a view, without facts, where so many are to come.
 fn tables_of(alloc: Global, seed: Seed, view: &View, facts: usize) -> Result<ViewTables, NoMemory>

@@ -20,8 +20,8 @@ use Rattle.flow_law.specs.Tables.{TablesValue}
 use Rattle.flow_law.specs.declared.line.TableLine.{TableLine}
 use Rattle.change_script.specs.Fits.{IsForm, TablesFit}
 use Rattle.change_script.proofs.FitLemmas.{FactFits, tables_fit}
-use Rattle.valuation_meaning.specs.Meaning.{facts, meaning, shape_of}
-use Rattle.valuation_meaning.specs.Refusal.{refusal}
+use Rattle.view_meaning.specs.Meaning.{facts, meaning, shape_of}
+use Rattle.view_meaning.specs.Refusal.{refusal}
 use Rattle.flow_law.specs.declared.refused.EvalFault.{EvalFault}
 use Rattle.flow_law.specs.declared.refused.EvalFault.TheVariants as eval
 use Rattle.flow_law.specs.Faults.{IsFault}

@@ -8,8 +8,8 @@ use Rattle.view_def.specs.Query.{Query}
 use Rattle.flow_law.specs.declared.line.TableLine.{TableLine}
 use Rattle.flow_law.specs.Tables.{TablesValue}
 use Rattle.flow_law.specs.Script.{script}
-use Rattle.valuation_meaning.specs.Meaning.{meaning}
-use Rattle.valuation_meaning.specs.Refusal.{refusal}
+use Rattle.view_meaning.specs.Meaning.{meaning}
+use Rattle.view_meaning.specs.Refusal.{refusal}
 use Rattle.flow_law.specs.declared.refused.EvalFault.{EvalFault}
 use Rattle.flow_law.specs.declared.refused.EvalFault.TheVariants as eval
 use Rattle.view_session.specs.Named.{Names, no_names, with_change, with_changes, with_lines}

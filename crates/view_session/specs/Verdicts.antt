@@ -5,9 +5,9 @@ use Rattle.schema_model.specs.Sound.{IsSound}
 use Rattle.schema_model.specs.declared.change.Change.{Change}
 use Rattle.view_def.specs.Query.{Query}
 use Rattle.flow_law.specs.Facts.{refusal_by}
-use Rattle.valuation_meaning.specs.Meaning.{facts, meaning, shape_of}
-use Rattle.valuation_meaning.specs.Orders.{DifferInOrder}
-use Rattle.valuation_meaning.proofs.OrderLemmas.{meaning_same, refused_same}
+use Rattle.view_meaning.specs.Meaning.{facts, meaning, shape_of}
+use Rattle.view_meaning.specs.Orders.{DifferInOrder}
+use Rattle.view_meaning.proofs.OrderLemmas.{meaning_same, refused_same}
 use Rattle.apply_law.specs.Standing.{Standing, Waiting, Idle, Proposes, Busy}
 use Rattle.apply_law.specs.Verdicts.{Verdict, Makes, IsIllegal, Clashes}
 use Rattle.apply_law.specs.declared.refused.GroupRefused.{GroupRefused}

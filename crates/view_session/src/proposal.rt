@@ -2,7 +2,7 @@
 ghost use Rattle.std.specs.Prelude.{◌≡◌};
 ghost use Rattle.schema_model.specs.Changes.{after_all};
 ghost use Rattle.flow_law.specs.Script.{script};
-ghost use Rattle.valuation_meaning.specs.Meaning.{meaning};
+ghost use Rattle.view_meaning.specs.Meaning.{meaning};
 ghost use Rattle.view_session.specs.Named.{with_changes, with_lines};
 ghost use Rattle.view_session.specs.Proposals.{changes_in, proposed_in, WaitsIn, CanMake};
 ghost use Rattle.view_session.specs.Upkeeps.{view_of, IsKept};

@@ -12,8 +12,8 @@ ghost use Rattle.view_def.specs.Query.{query_of};
 ghost use Rattle.view_def.specs.Profile.{IsViewOfProfile};
 ghost use Rattle.flow_law.specs.Script.{script};
 ghost use Rattle.flow_law.specs.Faults.{IsFault};
-ghost use Rattle.valuation_meaning.specs.Meaning.{meaning, shape_of};
-ghost use Rattle.valuation_meaning.specs.Refusal.{refusal};
+ghost use Rattle.view_meaning.specs.Meaning.{meaning, shape_of};
+ghost use Rattle.view_meaning.specs.Refusal.{refusal};
 ghost use Rattle.apply_law.specs.Verdicts.{IsGroupRefused};
 ghost use Rattle.view_session.specs.Limits.{limit_of, limit_over};
 ghost use Rattle.view_session.specs.Proposals.{proposed_in, CanMake};
@@ -40,8 +40,8 @@ use std::alloc::Global;
 use std::marker::Model;
 use std::mem;
 use std::sync::ledger::Ledger;
-use valuation_meaning::shape_of;
 use view_def::View;
+use view_meaning::shape_of;
 
 /// A view that is kept up to date, which contracts see as the view, the catalogue that it stands for, what was named
 /// since the names were last cleared, the changes that the open group holds, where one is open, and those that are
@@ -74,7 +74,7 @@ impl Drop for Session {
 
 impl Model for Session {
     ghost use Rattle.std.specs.Prelude.{◌≡◌};
-    ghost use Rattle.valuation_meaning.specs.Meaning.{shape_of};
+    ghost use Rattle.view_meaning.specs.Meaning.{shape_of};
     ghost use Rattle.view_session.specs.Session.{SessionState};
     ghost use Rattle.view_session.specs.Upkeeps.{view_of, IsKept};
     ghost use Rattle.view_session.specs.Waits.{held_in, proposed_by, CanEnd};

@@ -14,8 +14,8 @@ use Rattle.flow_law.specs.declared.line.TableLine.TheVariants.{TableMinus, Table
 use Rattle.schema_model.specs.Catalogue.{CatalogueValue}
 use Rattle.schema_model.specs.Changes.{is_well_formed}
 use Rattle.schema_model.specs.declared.change.Change.{Change}
-use Rattle.valuation_meaning.specs.Meaning.{given}
-use Rattle.valuation_meaning.proofs.OrderLemmas.{one_more, first_there, one_later}
+use Rattle.view_meaning.specs.Meaning.{given}
+use Rattle.view_meaning.proofs.OrderLemmas.{one_more, first_there, one_later}
 use Rattle.view_stack.specs.Lifted.{lifted_line, lifted_behind, lifted, goes_on, row_of, names_of, names_after, table_at}
 use Rattle.view_stack.specs.Records.{text_in, text_after}
 use Rattle.view_stack.proofs.StandsLemmas.{text_is}

@@ -21,7 +21,7 @@ use Rattle.schema_model.specs.declared.change.Change.{Change}
 use Rattle.schema_model.specs.declared.refusal.Refusal.{Refusal}
 use Rattle.schema_model.specs.declared.refusal.Refusal.TheVariants.{Limit}
 use Rattle.schema_model.specs.declared.refusal.Which.{Which}
-use Rattle.valuation_meaning.proofs.OrderLemmas.{same_bytes, same_rows, bytes_same}
+use Rattle.view_meaning.proofs.OrderLemmas.{same_bytes, same_rows, bytes_same}
 use Rattle.view_stack.specs.Stands.{database_for, stands}
 use Rattle.view_stack.specs.Limits.{first_limit, lifted_limit}
 use Rattle.view_stack.specs.Records.{front_cells}

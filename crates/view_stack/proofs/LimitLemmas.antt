@@ -32,7 +32,7 @@ use Rattle.schema_model.specs.declared.refusal.Which.{Which}
 use Rattle.schema_model.specs.declared.refusal.Which.TheVariants.{Relations, Attributes, Rows}
 use Rattle.schema_model.proofs.Repeated.{found_none}
 use Rattle.operator_law.specs.Bags.{weigh}
-use Rattle.valuation_meaning.proofs.OrderLemmas.{same_bytes}
+use Rattle.view_meaning.proofs.OrderLemmas.{same_bytes}
 use Rattle.view_stack.specs.Limits.{past, is_wide, first_limit}
 use Rattle.view_stack.specs.Records.{text_of, record_of, front_cells, text_after, record_after}
 use Rattle.view_stack.specs.Lifted.{lifted_line, goes_on, table_at}

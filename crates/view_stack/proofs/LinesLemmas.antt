@@ -24,7 +24,7 @@ use Rattle.schema_model.specs.Catalogue.{with_row as put_row}
 use Rattle.schema_model.specs.Changes.{less_row, with_attribute, less_attribute, placed, without, with_relations, at_database, after, after_all, at_relation, at_relation_in}
 use Rattle.schema_model.specs.declared.change.Change.{Change}
 use Rattle.schema_model.specs.declared.change.Change.TheVariants.{Insert, Delete}
-use Rattle.valuation_meaning.proofs.OrderLemmas.{same_bytes, bytes_same, rows_same}
+use Rattle.view_meaning.proofs.OrderLemmas.{same_bytes, bytes_same, rows_same}
 use Rattle.view_stack.specs.Records.{text_of, record_of, front_cells, text_after, record_after}
 use Rattle.view_stack.specs.Lifted.{lifted_line, row_of, goes_on, table_at, names_after, names_of}
 use Rattle.view_stack.proofs.SaysLemmas.{Distinct, Says, in_upper, row_went, column_added, column_dropped, and_first, and_second, not_true, or_right}

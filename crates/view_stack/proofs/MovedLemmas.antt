@@ -17,7 +17,7 @@ use Rattle.flow_law.proofs.StepLemmas.{key_is_there, row_plus_keys, row_plus_cel
 use Rattle.schema_model.specs.Catalogue.{RelationValue, CatalogueValue, relation_value, database_value}
 use Rattle.schema_model.specs.Catalogue.{with_row as put_row}
 use Rattle.schema_model.specs.Changes.{less_row, placed, without}
-use Rattle.valuation_meaning.proofs.OrderLemmas.{bytes_same, same_rows}
+use Rattle.view_meaning.proofs.OrderLemmas.{bytes_same, same_rows}
 use Rattle.view_stack.specs.Records.{text_of, record_of, text_after, record_after}
 use Rattle.view_stack.proofs.SaysLemmas.{Distinct, Says, row_came, row_changed}
 

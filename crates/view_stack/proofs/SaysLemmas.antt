@@ -13,7 +13,7 @@ use Rattle.flow_law.proofs.TableLemmas.{place_of_column, row_removed, all_remove
 use Rattle.flow_law.specs.declared.line.TableLine.TheVariants.{RowMinus, ColumnMinus, ColumnPlus}
 use Rattle.flow_law.specs.Lines.{by_key}
 use Rattle.flow_law.specs.Tables.{key_of}
-use Rattle.valuation_meaning.proofs.OrderLemmas.{one_more, bytes_same, same_bytes, rows_same, same_rows}
+use Rattle.view_meaning.proofs.OrderLemmas.{one_more, bytes_same, same_bytes, rows_same, same_rows}
 use Rattle.std.specs.Map.{keys_of}
 use Rattle.ss_text.specs.Ascending.{by_order}
 use Rattle.ss_text.proofs.PairLemmas.{turned}

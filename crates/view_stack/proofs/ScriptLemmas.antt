@@ -22,7 +22,7 @@ use Rattle.flow_law.proofs.StepLemmas.{has_key, key_is_there, row_minus_keys, ro
 use Rattle.flow_law.proofs.ScriptLaw.{lines_passed, script_fits, found_in_order}
 use Rattle.change_script.specs.Fits.{TableFits}
 use Rattle.flow_law.specs.declared.shape.Shape.{Shape}
-use Rattle.valuation_meaning.proofs.OrderLemmas.{same_bytes, bytes_same, same_rows, rows_same}
+use Rattle.view_meaning.proofs.OrderLemmas.{same_bytes, bytes_same, same_rows, rows_same}
 use Rattle.view_stack.specs.Lifted.{row_of, goes_on, table_at}
 use Rattle.view_stack.proofs.SaysLemmas.{and_first, and_second, not_true, or_right, or_false_left, or_false_right}
 use Rattle.view_stack.proofs.LinesLemmas.{Agrees, Reads, AreBlocks, IsDynamic}

@@ -14,7 +14,7 @@ use Rattle.schema_model.specs.Sound.{IsSound}
 use Rattle.schema_model.specs.declared.change.Change.{Change}
 use Rattle.schema_model.specs.declared.refusal.Refusal.TheVariants.{Limit}
 use Rattle.schema_model.proofs.SoundAfter.{sound_after_all}
-use Rattle.valuation_meaning.specs.Orders.{DifferInOrder}
+use Rattle.view_meaning.specs.Orders.{DifferInOrder}
 use Rattle.apply_law.specs.Standing.{Standing, Waiting, Proposes, tables_of, verdict_after}
 use Rattle.apply_law.specs.Verdicts.{Verdict, Makes, IsIllegal, Clashes, tables_in, IsScriptTo}
 use Rattle.apply_law.specs.declared.refused.GroupRefused.{GroupRefused}

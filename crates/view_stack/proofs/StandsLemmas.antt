@@ -17,9 +17,9 @@ use Rattle.flow_law.specs.InOrder.{IsTable, AreTables}
 use Rattle.change_script.specs.Fits.{IsForm, TableFits, TablesFit}
 use Rattle.schema_model.specs.Catalogue.{RelationValue, CatalogueValue, database_value}
 use Rattle.schema_model.specs.Sound.{IsRelation, IsSound}
-use Rattle.valuation_meaning.specs.Meaning.{given}
-use Rattle.valuation_meaning.specs.Orders.{text_under, row_under, rows_under, SameRelation, SameRelations}
-use Rattle.valuation_meaning.proofs.OrderLemmas.{bytes_same, same_bytes, same_rows, text_here, text_later}
+use Rattle.view_meaning.specs.Meaning.{given}
+use Rattle.view_meaning.specs.Orders.{text_under, row_under, rows_under, SameRelation, SameRelations}
+use Rattle.view_meaning.proofs.OrderLemmas.{bytes_same, same_bytes, same_rows, text_here, text_later}
 use Rattle.operator_law.specs.Bags.{weigh}
 use Rattle.operator_law.proofs.Weights.{weigh-append}
 use Rattle.view_stack.specs.Records.{text_of}

@@ -6,8 +6,8 @@ use Rattle.flow_law.specs.Tables.{TableValue, TablesValue}
 use Rattle.flow_law.specs.Records.{spliced, row_records}
 use Rattle.schema_model.specs.Catalogue.{RelationValue, DatabaseValue, CatalogueValue, relation_value, database_value}
 use Rattle.view_def.specs.Query.{Query}
-use Rattle.valuation_meaning.specs.Meaning.{meaning, shape_of}
-use Rattle.valuation_meaning.specs.Orders.{DifferInOrder}
+use Rattle.view_meaning.specs.Meaning.{meaning, shape_of}
+use Rattle.view_meaning.specs.Orders.{DifferInOrder}
 
 abbrev pub header : Shape → TableValue → Row
 header shape t = spliced shape.spot shape.constants t.columns

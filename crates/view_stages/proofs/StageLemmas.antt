@@ -4,8 +4,8 @@ use Rattle.ss_text.specs.Texts.{Row}
 use Rattle.schema_model.specs.Catalogue.{CatalogueValue}
 use Rattle.view_def.specs.Query.{Query}
 use Rattle.flow_law.specs.Facts.{illegal, conflict, first_refusal, refusal_by}
-use Rattle.valuation_meaning.specs.Meaning.{facts, shape_of, meaning}
-use Rattle.valuation_meaning.specs.Refusal.{refusal}
+use Rattle.view_meaning.specs.Meaning.{facts, shape_of, meaning}
+use Rattle.view_meaning.specs.Refusal.{refusal}
 use Rattle.flow_law.specs.declared.refused.EvalFault.{EvalFault}
 use Rattle.flow_law.specs.declared.refused.EvalFault.TheVariants as fault
 use Rattle.view_folder.specs.Files.{AreViewFiles}

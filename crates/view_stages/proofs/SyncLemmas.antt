@@ -19,7 +19,7 @@ use Rattle.csv_catalog.specs.RecordText.{csv_text, relation_records}
 use Rattle.csv_catalog.specs.Saved.{relation_file, is_there, those_there, those_gone, folders_made, folders_removed, pair_saved, pairs_saved, saved}
 use Rattle.flow_law.specs.declared.shape.Shape.{Shape}
 use Rattle.flow_law.specs.Tables.{TablesValue, table_of}
-use Rattle.valuation_meaning.specs.Meaning.{shape_of}
+use Rattle.view_meaning.specs.Meaning.{shape_of}
 use Rattle.view_folder.specs.declared.file.File.{File}
 use Rattle.view_folder.specs.Files.{view_folder, is_csv_name, is_named, bytes_in, other_names, file_name, AreViewFiles}
 use Rattle.view_folder.specs.TableFiles.{table_text}

@@ -23,7 +23,7 @@ use Rattle.source_law.specs.Synced.{Synced, synced, saving}
 use Rattle.view_def.specs.Query.{Query}
 use Rattle.flow_law.specs.declared.shape.Shape.{Shape}
 use Rattle.flow_law.specs.Tables.{TablesValue, table_of}
-use Rattle.valuation_meaning.specs.Meaning.{shape_of}
+use Rattle.view_meaning.specs.Meaning.{shape_of}
 use Rattle.view_folder.specs.declared.file.File.{File}
 use Rattle.view_folder.specs.Files.{view_folder, is_csv_name, is_named, other_names, file_name, AreViewFiles}
 use Rattle.view_folder.specs.TableFiles.{table_text}

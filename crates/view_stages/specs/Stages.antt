@@ -13,7 +13,7 @@ use Rattle.ss_parser.specs.declared.fault.ParseFault.TheVariants as parse
 use Rattle.var_typing.specs.Typed.{typed}
 use Rattle.var_typing.specs.declared.fault.TypeFault.{TypeFault}
 use Rattle.flow_law.specs.Facts.{refusal_by}
-use Rattle.valuation_meaning.specs.Meaning.{facts, shape_of, meaning}
+use Rattle.view_meaning.specs.Meaning.{facts, shape_of, meaning}
 use Rattle.view_folder.specs.declared.file.File.{File}
 use Rattle.view_folder.specs.TableFiles.{table_files}
 use Rattle.ss_print.specs.Fields.{parse_fields, type_fields, load_fields, illegal_fields, clash_fields}

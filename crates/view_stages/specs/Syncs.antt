@@ -3,7 +3,7 @@ use Rattle.std.specs.Prelude.{◌||◌, ℕ, ◌+◌, List, [], ◌∷◌, ◌++
 use Rattle.ss_text.specs.Texts.{is_in}
 use Rattle.outside.specs.Effects.{Effect}
 use Rattle.flow_law.specs.Tables.{labels_of}
-use Rattle.valuation_meaning.specs.Meaning.{shape_of}
+use Rattle.view_meaning.specs.Meaning.{shape_of}
 use Rattle.view_folder.specs.Files.{view_folder}
 use Rattle.view_folder.specs.Sync.{later_sync}
 use Rattle.outside.specs.Tree.{Tree}

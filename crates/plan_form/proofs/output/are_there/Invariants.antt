@@ -1,5 +1,5 @@
 use Rattle.std.proofs.Common.{◌≡◌, drop, map}
-use Rattle.valuation_meaning.specs.Terms.{are_defined}
+use Rattle.view_meaning.specs.Terms.{are_defined}
 use Rattle.plan_form.specs.Tests.{at_row, cell_term}
 use Rattle.plan_form.proofs.output.are_there.Given as goal
 

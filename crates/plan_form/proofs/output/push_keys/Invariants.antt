@@ -1,5 +1,5 @@
 use Rattle.std.proofs.Common.{◌≡◌, ◌++◌, take, map}
-use Rattle.valuation_meaning.specs.Meaning.{given}
+use Rattle.view_meaning.specs.Meaning.{given}
 use Rattle.plan_form.specs.Cells.{text_in}
 use Rattle.plan_form.proofs.output.push_keys.Given as goal
 

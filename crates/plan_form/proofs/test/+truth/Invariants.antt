@@ -1,7 +1,7 @@
 use Rattle.std.proofs.Common.{◌≡◌, Bool, ◌||◌, ◌&&◌, drop, map}
 use Rattle.std.specs.Prelude.{option_map}
 use Rattle.view_def.specs.Conditions.{conditions_of}
-use Rattle.valuation_meaning.specs.Truth.{truth_of_some, truth_of_each}
+use Rattle.view_meaning.specs.Truth.{truth_of_some, truth_of_each}
 use Rattle.plan_form.specs.Tests.{at_row, condition_in}
 use Rattle.plan_form.proofs.test.+truth.Given as goal
 

@@ -1,7 +1,7 @@
 use Rattle.std.proofs.Common.{◌≡◌, drop, map}
 use Rattle.view_def.specs.Conditions.{condition_of, conditions_of}
 use Rattle.view_def.specs.Terms.{terms_of_each}
-use Rattle.valuation_meaning.specs.Early.{are_bound}
+use Rattle.view_meaning.specs.Early.{are_bound}
 use Rattle.valuation_meaning.proofs.early.+bound.Given as goal
 
 abbrev pub invariant-are_bound_conditions-loop-member : goal.invariant-are_bound_conditions-loop-member

@@ -1,8 +1,8 @@
 use Rattle.std.proofs.Common.{◌≡◌, true, sym, subst, ◌∙◌, ℕ}
 use Rattle.view_def.specs.Conditions.{condition_of}
 use Rattle.view_def.specs.Terms.{terms_of}
-use Rattle.valuation_meaning.specs.Terms.{value_of, are_defined, is_true}
-use Rattle.valuation_meaning.specs.Early.{are_bound}
+use Rattle.view_meaning.specs.Terms.{value_of, are_defined, is_true}
+use Rattle.view_meaning.specs.Early.{are_bound}
 use Rattle.valuation_meaning.specs.EarlyTests.{IsEarlyMember}
 use Rattle.valuation_meaning.proofs.EarlyLemmas.{ended_by_member, unknown}
 use Rattle.valuation_meaning.proofs.early.fails_member.Goals as goal

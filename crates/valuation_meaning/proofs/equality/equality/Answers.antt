@@ -3,7 +3,7 @@ use Rattle.view_def.specs.declared.written.Op.TheVariants.{Eq}
 use Rattle.view_def.specs.declared.written.Op.{Op}
 use Rattle.view_def.specs.Conditions.{Compares, condition_of}
 use Rattle.view_def.specs.Query.{query_of}
-use Rattle.valuation_meaning.specs.Early.{NeedsMember}
+use Rattle.view_meaning.specs.Early.{NeedsMember}
 use Rattle.valuation_meaning.proofs.EarlyLemmas.{compare_is}
 use Rattle.valuation_meaning.proofs.SoughtLemmas.{equal_first, equal_second}
 use Rattle.valuation_meaning.proofs.equality.equality.Goals as goal

@@ -2,7 +2,8 @@ use Rattle.std.proofs.Common.{◌∙◌, ap}
 use Rattle.view_def.specs.Query.{query_of}
 use Rattle.fact_tables.specs.Counted.{each_fact}
 use Rattle.valuation_meaning.specs.Listed.{Listed}
-use Rattle.valuation_meaning.proofs.EvalLemmas.{bear, mean, refused_so, not_refused, as_often}
+use Rattle.valuation_meaning.proofs.ListingLemmas.{as_often}
+use Rattle.view_meaning.proofs.EvalLemmas.{bear, mean, refused_so, not_refused}
 use Rattle.valuation_meaning.proofs.evaluation.all_facts.Goals as goal
 
 pub all_in_order-requires : goal.all_in_order-requires
@@ -18,7 +19,7 @@ returns-in-Ok-clause-tables c =
 pub returns-in-Ok-clause-facts : goal.returns-in-Ok-clause-facts
 returns-in-Ok-clause-facts c =
     let same = ap (λ (l : Listed). l.items) c.in-Bare.ensures ∙ c.in_ok-facts.ensures in
-    as_often c.args.catalogue.now.databases (query_of c.args.view.now) c.args.shape.now c.requires.shape _ same (each_fact c.in-Ok.all) c.in-Ok.ensures.facts
+    as_often c.args.catalogue.now.databases (query_of c.args.view.now) _ same (each_fact c.in-Ok.all) c.in-Ok.ensures.facts
 
 pub returns-in-Ok-clause-allowed : goal.returns-in-Ok-clause-allowed
 returns-in-Ok-clause-allowed c =
@@ -43,7 +44,7 @@ returns-in-Ok-all_in_order-clause-tables c =
 pub returns-in-Ok-all_in_order-clause-facts : goal.returns-in-Ok-all_in_order-clause-facts
 returns-in-Ok-all_in_order-clause-facts c =
     let same = ap (λ (l : Listed). l.items) c.in-WithCells.ensures ∙ c.in_ok-facts.ensures in
-    as_often c.args.catalogue.now.databases (query_of c.args.view.now) c.args.shape.now c.requires.shape _ same (each_fact c.in-Ok-all_in_order.all) c.in-Ok-all_in_order.ensures.facts
+    as_often c.args.catalogue.now.databases (query_of c.args.view.now) _ same (each_fact c.in-Ok-all_in_order.all) c.in-Ok-all_in_order.ensures.facts
 
 pub returns-in-Ok-all_in_order-clause-allowed : goal.returns-in-Ok-all_in_order-clause-allowed
 returns-in-Ok-all_in_order-clause-allowed c =

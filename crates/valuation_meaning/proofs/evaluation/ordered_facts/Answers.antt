@@ -1,7 +1,7 @@
 use Rattle.std.proofs.Common.{◌∙◌, ap}
 use Rattle.view_def.specs.Query.{query_of}
 use Rattle.valuation_meaning.specs.Listed.{Listed}
-use Rattle.valuation_meaning.proofs.EvalLemmas.{bear, mean, refused_so, not_refused}
+use Rattle.view_meaning.proofs.EvalLemmas.{bear, mean, refused_so, not_refused}
 use Rattle.valuation_meaning.proofs.evaluation.ordered_facts.Goals as goal
 
 pub in_order-requires : goal.in_order-requires

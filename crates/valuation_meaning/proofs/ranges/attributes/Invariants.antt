@@ -1,5 +1,5 @@
 use Rattle.std.proofs.Common.{◌≡◌, map, take}
-use Rattle.valuation_meaning.specs.Elements.{A_text}
+use Rattle.view_meaning.specs.Elements.{A_text}
 use Rattle.valuation_meaning.proofs.ranges.attributes.Given as goal
 
 abbrev pub invariant-loop-place : goal.invariant-loop-place

@@ -1,7 +1,7 @@
 use Rattle.std.proofs.Common.{◌≡◌, ◌∙◌, ap, arith, length, map, take, ℕ}
 use Rattle.std.proofs.Math.Seq.{take-length}
 use Rattle.schema_model.specs.States.{DatabaseState}
-use Rattle.valuation_meaning.specs.Elements.{A_text}
+use Rattle.view_meaning.specs.Elements.{A_text}
 use Rattle.valuation_meaning.proofs.ElementLemmas.{database_names}
 use Rattle.valuation_meaning.proofs.ranges.databases.Goals as goal
 

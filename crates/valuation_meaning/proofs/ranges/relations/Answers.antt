@@ -1,7 +1,7 @@
 use Rattle.std.proofs.Common.{◌≡◌, ◌∙◌, ap, arith, length, map, take, ℕ}
 use Rattle.std.proofs.Math.Seq.{take-length}
 use Rattle.schema_model.specs.States.{RelationState}
-use Rattle.valuation_meaning.specs.Elements.{A_text}
+use Rattle.view_meaning.specs.Elements.{A_text}
 use Rattle.valuation_meaning.proofs.ElementLemmas.{relation_names}
 use Rattle.valuation_meaning.proofs.ranges.relations.Goals as goal
 

@@ -1,4 +1,4 @@
-use Rattle.valuation_meaning.specs.Meaning.{facts, shape_of}
+use Rattle.view_meaning.specs.Meaning.{facts, shape_of}
 use Rattle.view_engine.proofs.FactsForm.{have_form, read_back, are_wide}
 use Rattle.view_engine.proofs.form.facts_are_in_rows.Goals as goal
 

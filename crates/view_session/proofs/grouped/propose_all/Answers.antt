@@ -4,7 +4,7 @@ use Rattle.schema_model.specs.Catalogue.{CatalogueValue}
 use Rattle.schema_model.specs.Changes.{after_all}
 use Rattle.schema_model.specs.Refusals.{group_fault}
 use Rattle.schema_model.specs.declared.change.Change.{Change}
-use Rattle.valuation_meaning.specs.Refusal.{refusal}
+use Rattle.view_meaning.specs.Refusal.{refusal}
 use Rattle.view_session.specs.Upkeeps.{view_of}
 use Rattle.view_session.specs.Verdicts.{verdict_of}
 use Rattle.view_session.proofs.VerdictLemmas.{group_refused}

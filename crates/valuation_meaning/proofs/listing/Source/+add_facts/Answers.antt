@@ -1,6 +1,6 @@
 use Rattle.std.proofs.Common.{List, [], ◌∷◌, ◌++◌, length, vec_len, sym, ap, ◌∙◌, append-nil, rules}
 use Rattle.schema_model.specs.States.{plain_relation}
-use Rattle.valuation_meaning.specs.Elements.{Element}
+use Rattle.view_meaning.specs.Elements.{Element}
 use Rattle.std.proofs.lemmas.List.{map-id}
 use Rattle.std.proofs.lemmas.Iterator.Adapters.{YieldsList-from_vec}
 use Rattle.std.proofs.lemmas.Iterator.Consumers.{YieldsList-end}

@@ -1,7 +1,7 @@
 use Rattle.std.proofs.Common.{◌++◌, ◌∷◌, []}
 use Rattle.view_def.specs.Query.{query_of}
-use Rattle.valuation_meaning.specs.Elements.{Element, elements}
-use Rattle.valuation_meaning.specs.Early.{AliasesAgree}
+use Rattle.view_meaning.specs.Elements.{Element, elements}
+use Rattle.view_meaning.specs.Early.{AliasesAgree}
 use Rattle.valuation_meaning.specs.Lookups.{IsLookup}
 use Rattle.valuation_meaning.proofs.AliasLemmas.{elements_agree, all_by}
 use Rattle.valuation_meaning.proofs.ListingLemmas.{all_enough}

@@ -1,6 +1,6 @@
 use Rattle.std.proofs.Common.{sym, subst}
 use Rattle.operator_law.specs.Bags.{MovesBag}
-use Rattle.valuation_meaning.specs.Meaning.{shape_of}
+use Rattle.view_meaning.specs.Meaning.{shape_of}
 use Rattle.plan_law.specs.PlanMoves.{fact_rows}
 use Rattle.plan_translate.specs.Moves.{MovesSides}
 use Rattle.view_engine.specs.Engines.{view_in}

@@ -2,7 +2,7 @@ use Rattle.std.proofs.Common.{sym, ◌∙◌, map}
 use Rattle.view_def.specs.Query.{query_of}
 use Rattle.flow_law.specs.FactRows.{fact_row}
 use Rattle.fact_tables.specs.Counted.{each_fact}
-use Rattle.valuation_meaning.specs.Meaning.{facts, shape_of}
+use Rattle.view_meaning.specs.Meaning.{facts, shape_of}
 use Rattle.plan_law.specs.PlanMoves.{fact_rows}
 use Rattle.view_engine.proofs.FactForms.{can_keep}
 use Rattle.view_engine.proofs.Often.{same_rows}

@@ -1,7 +1,7 @@
 use Rattle.std.proofs.Common.{◌≡◌, None, subst}
 use Rattle.schema_model.specs.Changes.{after_all}
 use Rattle.view_def.specs.Query.{Query}
-use Rattle.valuation_meaning.specs.Refusal.{refusal}
+use Rattle.view_meaning.specs.Refusal.{refusal}
 use Rattle.view_session.proofs.VerdictLemmas.{script_to}
 use Rattle.view_session.proofs.applies.SessionApplies.propose.Goals as goal
 

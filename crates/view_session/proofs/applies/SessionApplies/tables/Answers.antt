@@ -1,7 +1,7 @@
 use Rattle.std.proofs.Common.{◌≡◌, ◌∙◌, None, ap, sym, subst}
 use Rattle.view_def.specs.Query.{Query}
-use Rattle.valuation_meaning.specs.Meaning.{meaning}
-use Rattle.valuation_meaning.specs.Refusal.{refusal}
+use Rattle.view_meaning.specs.Meaning.{meaning}
+use Rattle.view_meaning.specs.Refusal.{refusal}
 use Rattle.apply_law.specs.Verdicts.{Verdict, Makes, tables_in}
 use Rattle.view_session.proofs.VerdictLemmas.{verdict_made}
 use Rattle.view_session.proofs.applies.SessionApplies.tables.Goals as goal

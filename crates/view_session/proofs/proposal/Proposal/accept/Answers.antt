@@ -3,7 +3,7 @@ use Rattle.schema_model.specs.Catalogue.{CatalogueValue}
 use Rattle.schema_model.specs.Changes.{after_all}
 use Rattle.flow_law.specs.declared.line.TableLine.{TableLine}
 use Rattle.flow_law.specs.Script.{script}
-use Rattle.valuation_meaning.specs.Meaning.{meaning}
+use Rattle.view_meaning.specs.Meaning.{meaning}
 use Rattle.view_engine.specs.Engines.{lines_in}
 use Rattle.view_session.specs.Named.{with_changes, with_lines}
 use Rattle.view_session.specs.Proposals.{proposed_in}

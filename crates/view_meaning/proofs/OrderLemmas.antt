@@ -24,13 +24,13 @@ use Rattle.flow_law.specs.declared.refused.Clash.{Clash}
 use Rattle.flow_law.specs.Facts.{Fact, Pair, illegal_table, illegal_column, illegal, first_refusal, refusal_by}
 use Rattle.flow_law.proofs.RefusedLemmas.{pair_total, pair_same}
 use Rattle.flow_law.proofs.SameFacts.{tables_same, conflict_same}
-use Rattle.valuation_meaning.specs.Elements.{Element, A_text, A_row, Valuation, text_of, text_at, place_text, cell_under, cell_of_element, cell_at, database_at, relation_at, all_rows, ◌>>=◌, elements}
-use Rattle.valuation_meaning.specs.Terms.{value_of}
-use Rattle.valuation_meaning.specs.Valuations.{assignments, counts, valuations}
-use Rattle.valuation_meaning.specs.Meaning.{given, fact_of, facts, shape_of, meaning}
-use Rattle.valuation_meaning.specs.Refusal.{refusal}
+use Rattle.view_meaning.specs.Elements.{Element, A_text, A_row, Valuation, text_of, text_at, place_text, cell_under, cell_of_element, cell_at, database_at, relation_at, all_rows, ◌>>=◌, elements}
+use Rattle.view_meaning.specs.Terms.{value_of}
+use Rattle.view_meaning.specs.Valuations.{assignments, counts, valuations}
+use Rattle.view_meaning.specs.Meaning.{given, fact_of, facts, shape_of, meaning}
+use Rattle.view_meaning.specs.Refusal.{refusal}
 use Rattle.flow_law.specs.declared.refused.EvalFault.TheVariants as eval
-use Rattle.valuation_meaning.specs.Orders.{text_under, row_under, rows_under, SameRelation, SameRelations, DifferInOrder}
+use Rattle.view_meaning.specs.Orders.{text_under, row_under, rows_under, SameRelation, SameRelations, DifferInOrder}
 
 -- ---- elements of lists
 abbrev pub In : {A : Type 0} → A → List A → Type 0

@@ -5,9 +5,9 @@ ghost use Rattle.schema_model.specs.Catalogue.{CatalogueValue};
 ghost use Rattle.schema_model.specs.Sound.{IsSound};
 ghost use Rattle.view_def.specs.Query.{Query};
 ghost use Rattle.flow_law.specs.Facts.{Fact};
-ghost use Rattle.valuation_meaning.specs.Meaning.{facts, meaning};
-ghost use Rattle.valuation_meaning.specs.Orders.{DifferInOrder};
-ghost use Rattle.valuation_meaning.specs.Refusal.{refusal};
+ghost use Rattle.view_meaning.specs.Meaning.{facts, meaning};
+ghost use Rattle.view_meaning.specs.Orders.{DifferInOrder};
+ghost use Rattle.view_meaning.specs.Refusal.{refusal};
 
 /// Over sound catalogues that differ in the order of rows and of attributes alone a view has the same facts, which no
 /// test tells apart; it is refused for the same fault, and has the same tables.

@@ -3,8 +3,8 @@ use Rattle.std.specs.Prelude.{◌≡◌, ℕ, List, [], ◌∷◌, map, sum_by}
 use Rattle.std.specs.Bool.{⊤}
 use Rattle.ss_text.specs.Texts.{Text, Row}
 use Rattle.schema_model.specs.Catalogue.{RelationValue, DatabaseValue, CatalogueValue}
-use Rattle.valuation_meaning.specs.Elements.{cell_under}
-use Rattle.valuation_meaning.specs.Meaning.{given}
+use Rattle.view_meaning.specs.Elements.{cell_under}
+use Rattle.view_meaning.specs.Meaning.{given}
 
 -- the text of a row under a name, empty where no attribute has it
 abbrev pub text_under : Row → Row → Text → Text

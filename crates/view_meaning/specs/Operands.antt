@@ -4,8 +4,6 @@ use Rattle.view_def.specs.declared.typed.Term.{Term}
 use Rattle.view_def.specs.declared.typed.Term.TheVariants as term
 use Rattle.view_def.specs.declared.typed.Range.{Range}
 use Rattle.view_def.specs.declared.typed.Range.TheVariants as range
-use Rattle.valuation_meaning.specs.declared.operand.Operand.{Operand}
-use Rattle.valuation_meaning.specs.declared.operand.Operand.TheVariants as operand
 
 -- the variable of a declaration: an alias is the cell that it names
 abbrev pub variable_of : ℕ → Option Range → Term
@@ -21,8 +19,3 @@ abbrev pub resolved : List Range → Term → Term
 resolved ds (term.Literal t) = term.Literal t
 resolved ds (term.Var k) = variable_of k (slice_get ds k)
 resolved ds (term.Cell k a) = term.Cell k a
-
--- what the code holds of a term that is resolved
-abbrev pub operand_term : Operand → Term
-operand_term (operand.Term t) = t.now
-operand_term (operand.Cell k a) = term.Cell k a.now

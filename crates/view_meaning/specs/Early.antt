@@ -10,9 +10,9 @@ use Rattle.view_def.specs.declared.typed.Range.TheVariants as range
 use Rattle.view_def.specs.Conditions.{Condition, Conditions, AnyOf, AllOf, NotOf, Compares, none, more}
 use Rattle.view_def.specs.Query.{Query}
 use Rattle.view_def.specs.Terms.{terms_of}
-use Rattle.valuation_meaning.specs.Elements.{Valuation, text_at, cell_at}
-use Rattle.valuation_meaning.specs.Terms.{Reading, value_of, are_defined, is_true}
-use Rattle.valuation_meaning.specs.Valuations.{counts}
+use Rattle.view_meaning.specs.Elements.{Valuation, text_at, cell_at}
+use Rattle.view_meaning.specs.Terms.{Reading, value_of, are_defined, is_true}
+use Rattle.view_meaning.specs.Valuations.{counts}
 
 -- the variables of a place, a term or terms are among those of the first n declarations
 abbrev pub is_bound_place : ℕ → Place → Bool

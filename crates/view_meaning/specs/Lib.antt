@@ -1,0 +1,9 @@
+pub mod Elements
+pub mod Terms
+pub mod Valuations
+pub mod Truth
+pub mod Meaning
+pub mod Refusal
+pub mod Early
+pub mod Operands
+pub mod Orders
