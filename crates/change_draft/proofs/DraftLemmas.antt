@@ -1,5 +1,5 @@
 -- Changes with one more behind them.
-use Rattle.std.proofs.Common.{◌≡◌, ◌∷◌, ◌++◌, ◌∙◌, ◌+◌, ◌<◌, ◌≤◌, ℕ, suc, [], List, Option, Some, None, refl, sym, ap, subst, drop, length, get_or, add-one}
+use Rattle.std.proofs.Common.{◌≡◌, ◌∷◌, ◌++◌, ◌∙◌, ◌+◌, ◌<◌, ◌≤◌, ℕ, suc, [], Bool, false, List, Option, Some, None, refl, sym, ap, subst, drop, length, get_or, add-one}
 use Rattle.std.proofs.Math.Seq.{drop-cons}
 use Rattle.std.proofs.lemmas.List.{drop_all}
 use Rattle.std.specs.Prelude.{IsTrue, IfSome, OnOk, Result, Ok, Err}
@@ -30,9 +30,9 @@ all_more P [] g all one = (one, tt)
 all_more P (h ∷ hs) g all one = (all.0, all_more P hs g all.1 one)
 
 -- a draft that holds one change more stands over the same catalogue
-pub stands_more : (d : DraftState) (c : CatalogueValue) (hs : List Change) (g : Change) (o : Option CatalogueValue) → StandsOver d c → IsTrue (is_well_formed g) → fault (after_all c d.changes) g ≡ None → hs ≡ d.changes ++ g ∷ []
-    → IfSome o (λ e. e ≡ after (after_all c d.changes) g) → StandsOver (record { changes = hs; after = o }) c
-stands_more d c hs g o over formed accepted more made = rw more record {
+pub stands_more : (d : DraftState) (c : CatalogueValue) (hs : List Change) (g : Change) (o : Option CatalogueValue) (due : Bool) → StandsOver d c → IsTrue (is_well_formed g) → fault (after_all c d.changes) g ≡ None → hs ≡ d.changes ++ g ∷ []
+    → IfSome o (λ e. e ≡ after (after_all c d.changes) g) → StandsOver (record { changes = hs; after = o; is_due = due }) c
+stands_more d c hs g o due over formed accepted more made = rw more record {
   after = kept o made;
   accepted = accepted_one_more c d.changes g over.accepted accepted;
   well_formed = all_more (λ g. IsTrue (is_well_formed g)) d.changes g over.well_formed formed;
@@ -42,18 +42,18 @@ stands_more d c hs g o over formed accepted more made = rw more record {
     kept None made = made
     kept (Some e) made = made ∙ sym (after_last c d.changes g)
 
--- where it goes on counting rows, and where it keeps the catalogue
+-- where it keeps no catalogue after them, and where it keeps it
 pub stands_counted : {T E : Type 0} (r : Result T E) (d : DraftState) (c : CatalogueValue) (hs : List Change) (g : Change) → StandsOver d c → IsTrue (is_well_formed g) → fault (after_all c d.changes) g ≡ None → OnOk r (hs ≡ d.changes ++ g ∷ [])
-    → OnOk r (StandsOver (record { changes = hs; after = None }) c)
-stands_counted (Ok v) d c hs g over formed accepted more = stands_more d c hs g None over formed accepted more tt
+    → OnOk r (StandsOver (record { changes = hs; after = None; is_due = false }) c)
+stands_counted (Ok v) d c hs g over formed accepted more = stands_more d c hs g None false over formed accepted more tt
 stands_counted (Err v) d c hs g over formed accepted more = tt
 
 pub kept_is : (d : DraftState) (c k : CatalogueValue) → StandsOver d c → d.after ≡ Some k → k ≡ after_all c d.changes
 kept_is d c k over is = subst (λ (o : Option CatalogueValue). IfSome o (λ e. e ≡ after_all c d.changes)) is over.after
 
 pub stands_kept : {T E : Type 0} (r : Result T E) (d : DraftState) (c k e : CatalogueValue) (hs : List Change) (g : Change) → StandsOver d c → IsTrue (is_well_formed g) → fault (after_all c d.changes) g ≡ None → d.after ≡ Some k → OnOk r (hs ≡ d.changes ++ g ∷ []) → OnOk r (e ≡ after k g)
-    → OnOk r (StandsOver (record { changes = hs; after = Some e }) c)
-stands_kept (Ok v) d c k e hs g over formed accepted is more made = stands_more d c hs g (Some e) over formed accepted more (made ∙ ap (λ (x : CatalogueValue). after x g) (kept_is d c k over is))
+    → OnOk r (StandsOver (record { changes = hs; after = Some e; is_due = false }) c)
+stands_kept (Ok v) d c k e hs g over formed accepted is more made = stands_more d c hs g (Some e) false over formed accepted more (made ∙ ap (λ (x : CatalogueValue). after x g) (kept_is d c k over is))
 stands_kept (Err v) d c k e hs g over formed accepted is more made = tt
 
 -- the changes that are left from a place on can be made, and come to the same as all of them

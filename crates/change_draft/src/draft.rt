@@ -1,5 +1,5 @@
 //! A draft: changes that are held, and what is kept to judge the next one.
-ghost use Rattle.std.specs.Prelude.{◌≡◌, ◌++◌, ◌∷◌, [], None, IfOk, OnOk, OnErr, IsTrue};
+ghost use Rattle.std.specs.Prelude.{◌≡◌, ◌++◌, ◌∷◌, [], false, None, IfOk, OnOk, OnErr, IsTrue};
 ghost use Rattle.schema_model.specs.Changes.{after, after_all, is_well_formed};
 ghost use Rattle.std.specs.List.{AllByRecursion};
 ghost use Rattle.schema_model.specs.Refusals.{fault, group_fault};
@@ -13,8 +13,8 @@ use std::alloc::Global;
 use std::marker::Model;
 use std::mem::replace;
 
-/// Changes that wait to be made together, which contracts see as their list and the catalogue after them, where it
-/// keeps one. It stands over the catalogue that they are for.
+/// Changes that wait to be made together, which contracts see as their list, the catalogue after them, where it keeps
+/// one, and whether that one is due. It stands over the catalogue that they are for.
 pub struct Draft {
     changes: Vec<Change>,
     kept: Kept,
@@ -32,6 +32,9 @@ impl Drop for Draft {
 enum Kept {
     // How often the changes bring and take each row, where they insert and delete rows alone.
     Counts(RowCounts),
+    // Nothing yet: the last of them is no change of rows alone, and the catalogue after them is made when the next one is
+    // to be judged.
+    Due,
     // The catalogue after them.
     After(Catalogue),
 }
@@ -40,6 +43,7 @@ impl Drop for Kept {
     fn drop(self) {
         match self {
             Kept::Counts(part) => drop(part),
+            Kept::Due => {}
             Kept::After(part) => drop(part),
         }
     }
@@ -47,11 +51,11 @@ impl Drop for Kept {
 
 impl Model for Draft {
     ghost use Rattle.change_draft.specs.Drafts.{DraftState};
-    ghost use Rattle.change_draft.specs.Kept.{after_kept, CountedIn};
+    ghost use Rattle.change_draft.specs.Kept.{after_kept, is_due_in, CountedIn};
 
     ghost Value = { DraftState };
 
-    ghost view = { λ d. record { changes = d.changes.items; after = after_kept d.kept } };
+    ghost view = { λ d. record { changes = d.changes.items; after = after_kept d.kept; is_due = is_due_in d.kept } };
 
     ghost invariant = { λ d. CountedIn d.kept d.changes.items };
 }
@@ -69,31 +73,54 @@ impl Draft {
 
     /// The first refusal of a change behind those that it holds, or none where it can be held.
     pub fn judge(&self, base: &Catalogue, change: &Change) -> Option<Refusal>
-        requires { StandsOver self.now base.now.databases }
+        requires stands { StandsOver self.now base.now.databases }
+        requires ready { self.now.is_due ≡ false }
         ensures { result ≡ fault (after_all base.now.databases self.now.changes) change.now }
     {
         match &self.kept {
             Kept::Counts(counts) => counts.judge(base, change),
+            Kept::Due => unreachable!(),
             Kept::After(catalogue) => catalogue.judge(change),
         }
     }
 
-    /// Takes all memory that it needs to find the row of a delete without a walk of all rows: where the change is judged,
-    /// those of its relation are linked, once. A delete is judged after this call. The draft stays, and so do the databases
-    /// of the catalogue, for which no change waits from then on.
+    /// Makes ready to judge a change, which is judged after this call: it makes the catalogue after the changes that it
+    /// holds, where that is due, and takes all memory to find the row of a delete without a walk of all rows: where the
+    /// change is judged, those of its relation are linked, once. The changes stay, and so do the databases of the
+    /// catalogue, for which no change waits from then on.
     pub fn link(&mut self, base: &mut Catalogue, change: &Change) -> Result<(), NoMemory>
-        ensures draft { self.new ≡ self.old }
+        requires { StandsOver self.old base.old.databases }
+        ensures changes { self.new.changes ≡ self.old.changes }
+        ensures stands { StandsOver self.new base.old.databases }
+        ensures ready { OnOk result (self.new.is_due ≡ false) }
         ensures base { base.new.databases ≡ base.old.databases }
     {
+        self.make_due(base)?;
         match &mut self.kept {
             Kept::Counts(_) => base.link(change),
+            Kept::Due => unreachable!(),
             Kept::After(catalogue) => catalogue.link(change),
         }
+    }
+
+    // Makes the catalogue after the changes that it holds, where that is due. After `NoMemory` the draft is as before.
+    fn make_due(&mut self, base: &Catalogue) -> Result<(), NoMemory>
+        requires { StandsOver self.old base.now.databases }
+        ensures changes { self.new.changes ≡ self.old.changes }
+        ensures stands { StandsOver self.new base.now.databases }
+        ensures ready { OnOk result (self.new.is_due ≡ false) }
+    {
+        if matches!(&self.kept, Kept::Due) {
+            let catalogue = made(base, &self.changes)?;
+            drop(replace(&mut self.kept, Kept::After(catalogue)));
+        }
+        Ok(())
     }
 
     /// Holds one more change, which is not refused. After `NoMemory` the draft is as before.
     pub fn hold(&mut self, base: &Catalogue, change: &Change) -> Result<(), NoMemory>
         requires stands { StandsOver self.old base.now.databases }
+        requires ready { self.old.is_due ≡ false }
         requires well_formed { IsTrue (is_well_formed change.now) }
         requires accepted { fault (after_all base.now.databases self.old.changes) change.now ≡ None }
         ensures held { OnOk result (self.new.changes ≡ self.old.changes ++ change.now ∷ []) }
@@ -105,10 +132,11 @@ impl Draft {
                 hold_row(&mut self.changes, counts, change)
             }
             Kept::Counts(_) => {
-                let catalogue = hold_after(&mut self.changes, base, change)?;
-                drop(replace(&mut self.kept, Kept::After(catalogue)));
+                hold_last(&mut self.changes, change)?;
+                drop(replace(&mut self.kept, Kept::Due));
                 Ok(())
             }
+            Kept::Due => unreachable!(),
             Kept::After(catalogue) => hold_in(&mut self.changes, catalogue, change),
         }
     }
@@ -123,11 +151,13 @@ impl Draft {
     /// A catalogue with the databases, the relations and the attributes of the one after its changes. Of the rows
     /// nothing is said.
     pub fn schema<'a>(&'a self, base: &'a Catalogue) -> &'a Catalogue
-        requires { StandsOver self.now base.now.databases }
+        requires stands { StandsOver self.now base.now.databases }
+        requires ready { self.now.is_due ≡ false }
         ensures { without_rows result.now.databases ≡ without_rows (after_all base.now.databases self.now.changes) }
     {
         match &self.kept {
             Kept::Counts(_) => base,
+            Kept::Due => unreachable!(),
             Kept::After(catalogue) => catalogue,
         }
     }
@@ -213,26 +243,12 @@ fn hold_in(
     Ok(())
 }
 
-// The catalogue after changes and one more, which is put last.
-fn hold_after(
-    changes: &mut Vec<Change>,
-    base: &Catalogue,
-    change: &Change,
-) -> Result<Catalogue, NoMemory>
-    requires all_accepted { group_fault base.now.databases changes.old.items ≡ None }
-    requires all_well_formed { AllByRecursion (λ g. IsTrue (is_well_formed g)) changes.old.items }
-    requires well_formed { IsTrue (is_well_formed change.now) }
-    requires accepted { fault (after_all base.now.databases changes.old.items) change.now ≡ None }
+// Puts a change last.
+fn hold_last(changes: &mut Vec<Change>, change: &Change) -> Result<(), NoMemory>
     ensures held { OnOk result (changes.new.items ≡ changes.old.items ++ change.now ∷ []) }
-    ensures made { IfOk result (λ c. c.databases ≡ after (after_all base.now.databases changes.old.items) change.now) }
     ensures same { OnErr result (changes.new.items ≡ changes.old.items) }
 {
-    let mut catalogue = made(base, changes)?;
-    match hold_in(changes, &mut catalogue, change) {
-        Ok(()) => Ok(catalogue),
-        Err(error) => {
-            drop(catalogue);
-            Err(error)
-        }
-    }
+    let held = change.copy()?;
+    changes.push(held)?;
+    Ok(())
 }

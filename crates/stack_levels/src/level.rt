@@ -1,7 +1,8 @@
 //! A level of a stack.
-ghost use Rattle.std.specs.Prelude.{◌≡◌, ◌||◌, None, true, IfOk, IfErr, OnOk};
+ghost use Rattle.std.specs.Prelude.{◌≡◌, ◌||◌, None, true, false, IfOk, IfErr, OnOk};
 ghost use Rattle.ss_text.specs.Label.{is_table_label};
 ghost use Rattle.ss_text.specs.Texts.{is_in};
+ghost use Rattle.change_draft.specs.Drafts.{StandsOver};
 ghost use Rattle.view_def.specs.Query.{query_of};
 ghost use Rattle.flow_law.specs.Faults.{IsFault};
 ghost use Rattle.view_meaning.specs.Refusal.{refusal};
@@ -141,11 +142,14 @@ impl Level {
         TableLabels::of(alloc, self.session.tables())
     }
 
-    // Takes all memory that a draft over its catalogue needs to find the row of a delete. The level and the draft stay.
+    // Makes a draft over its catalogue ready to judge a change. The level stays, and so do the changes of the draft.
     pub(crate) fn link(&mut self, draft: &mut Draft, change: &Change) -> Result<(), NoMemory>
-        requires { self.old.session.proposed ≡ None }
+        requires unproposed { self.old.session.proposed ≡ None }
+        requires stands { StandsOver draft.old self.old.session.catalogue }
         ensures level { self.new ≡ self.old }
-        ensures draft { draft.new ≡ draft.old }
+        ensures changes { draft.new.changes ≡ draft.old.changes }
+        ensures stands { StandsOver draft.new self.old.session.catalogue }
+        ensures ready { OnOk result (draft.new.is_due ≡ false) }
     {
         self.session.link(draft, change)
     }

@@ -1,8 +1,9 @@
 //! The levels of a stack.
-ghost use Rattle.std.specs.Prelude.{◌≡◌, ◌≤◌, None, map, IfOk, IfErr, OnOk, OnErr, IsTrue};
+ghost use Rattle.std.specs.Prelude.{◌≡◌, ◌≤◌, false, None, map, IfOk, IfErr, OnOk, OnErr, IsTrue};
 ghost use Rattle.std.specs.List.{AllByRecursion};
 ghost use Rattle.schema_model.specs.Changes.{after_all, is_well_formed};
 ghost use Rattle.schema_model.specs.Refusals.{group_fault};
+ghost use Rattle.change_draft.specs.Drafts.{StandsOver};
 ghost use Rattle.stack_levels.specs.Levels.{tables_over, lines_over, changing_refusal};
 ghost use Rattle.stack_levels.specs.States.{level_tables, level_labels, level_synced, lowest_catalogue, lowest_names, databases_of, views_of, AreLevels};
 ghost use Rattle.stack_levels.specs.Opening.{AreFresh};
@@ -88,12 +89,15 @@ impl Levels {
         }
     }
 
-    /// Takes all memory that a draft over the lowest level's catalogue needs to find the row of a delete without a walk of all
-    /// rows. A delete is judged after this call. The levels and the draft stay.
+    /// Makes a draft over the lowest level's catalogue ready to judge a change, which is judged after this call. The levels
+    /// stay, and so do the changes of the draft.
     pub fn link(&mut self, draft: &mut Draft, change: &Change) -> Result<(), NoMemory>
-        requires { AreLevels self.old }
+        requires levels { AreLevels self.old }
+        requires stands { StandsOver draft.old (lowest_catalogue self.old) }
         ensures levels { self.new ≡ self.old }
-        ensures draft { draft.new ≡ draft.old }
+        ensures changes { draft.new.changes ≡ draft.old.changes }
+        ensures stands { StandsOver draft.new (lowest_catalogue self.old) }
+        ensures ready { OnOk result (draft.new.is_due ≡ false) }
     {
         self.levels[0].link(draft, change)
     }

@@ -18,6 +18,7 @@ ghost use Rattle.view_session.specs.Verdicts.{verdict_of};
 use crate::HoldRefused;
 use crate::changed::Changed;
 use crate::group::Group;
+use crate::moving::propose_accepted;
 use crate::proposal::{CatalogueReady, Proposal};
 use crate::upkeep::Upkeep;
 use apply_law::GroupRefused;
@@ -109,6 +110,34 @@ pub(crate) fn propose_group<L: Ledger>(
     let engine = &upkeep.engine;
     let moved = engine.prepare_all(alloc, catalogue, group.changes(), steps)?;
     Ok(reserve(alloc, catalogue, upkeep, changed, group, moved)?)
+}
+
+/// The same, where a group of one change goes the way of that change alone.
+pub(crate) fn propose_held<L: Ledger>(
+    alloc: Global,
+    catalogue: &mut Catalogue,
+    upkeep: &mut Upkeep,
+    changed: &mut Changed,
+    group: Group,
+    steps: &mut Steps<L>,
+) -> Result<(Proposal, Script), EvalFault>
+    requires kept { IsKept catalogue.old.databases upkeep.old }
+    requires over { IsOver group catalogue.old.databases }
+    ensures catalogue { catalogue.new.databases ≡ catalogue.old.databases }
+    ensures upkeep { KeptAs upkeep.old upkeep.new }
+    ensures names { changed.new.names ≡ changed.old.names }
+    ensures changes { IfOk result (λ told. proposed_in told.0 ≡ group.draft.changes) }
+    ensures can { IfOk result (λ told. CanMake catalogue.new upkeep.new changed.new told.0) }
+    ensures allowed { OnOk result (refusal (after_all catalogue.old.databases group.draft.changes) (view_of upkeep.old) ≡ None) }
+    ensures script { IfOk result (λ told. told.1
+        ≡ script (meaning catalogue.old.databases (view_of upkeep.old)) (meaning (after_all catalogue.old.databases group.draft.changes) (view_of upkeep.old))) }
+    ensures refused { IfErr result (IsFault (refusal (after_all catalogue.old.databases group.draft.changes) (view_of upkeep.old))) }
+    ensures rises { steps.old ≤ steps.new }
+{
+    if let [change] = group.changes() {
+        return propose_accepted(alloc, catalogue, upkeep, changed, change, steps);
+    }
+    propose_group(alloc, catalogue, upkeep, changed, group, steps)
 }
 
 /// Proposes changes, and answers the script; or the first that is refused behind those before it, or why the view is refused

@@ -1,5 +1,5 @@
 //! A view over a catalogue, and its changes.
-ghost use Rattle.std.specs.Prelude.{◌≡◌, ◌+◌, ◌≤◌, [], ◌∷◌, true, None, IfOk, IfErr, OnOk, OnErr, IsTrue, is_some, option_map, unwrap_or, length};
+ghost use Rattle.std.specs.Prelude.{◌≡◌, ◌+◌, ◌≤◌, [], ◌∷◌, true, false, None, IfOk, IfErr, OnOk, OnErr, IsTrue, is_some, option_map, unwrap_or, length};
 ghost use Rattle.std.specs.List.{AllByRecursion};
 ghost use Rattle.std.specs.Option.{ForSome};
 ghost use Rattle.std.specs.List.Sorted.{IsStrictlySortedBy};
@@ -8,6 +8,7 @@ ghost use Rattle.schema_model.specs.Changes.{after, after_all, is_well_formed};
 ghost use Rattle.schema_model.specs.Pairs.{pair_cmp};
 ghost use Rattle.schema_model.specs.Refusals.{fault, group_fault};
 ghost use Rattle.schema_model.specs.declared.change.Change.{Change as ChangeValue};
+ghost use Rattle.change_draft.specs.Drafts.{StandsOver};
 ghost use Rattle.view_def.specs.Query.{query_of};
 ghost use Rattle.view_def.specs.Profile.{IsViewOfProfile};
 ghost use Rattle.flow_law.specs.Script.{script};
@@ -23,7 +24,7 @@ ghost use Rattle.view_session.specs.Verdicts.{verdict_of};
 
 use crate::changed::Changed;
 use crate::group::Group;
-use crate::grouped::{propose_all, propose_group};
+use crate::grouped::{propose_all, propose_held};
 use crate::moving::{propose_first, propose_one};
 use crate::proposal::Proposal;
 use crate::upkeep::Upkeep;
@@ -247,7 +248,7 @@ impl Session {
         let Some(group) = mem::replace(&mut self.waits, Waits::Nothing).into_group() else {
             unreachable!()
         };
-        let (proposal, script) = propose_group(
+        let (proposal, script) = propose_held(
             alloc,
             &mut self.catalogue,
             &mut self.upkeep,
@@ -353,7 +354,7 @@ impl Session {
         let Some(group) = mem::replace(&mut self.waits, Waits::Nothing).into_group() else {
             unreachable!()
         };
-        let (waiting, script) = propose_group(
+        let (waiting, script) = propose_held(
             alloc,
             &mut self.catalogue,
             &mut self.upkeep,
@@ -461,12 +462,15 @@ impl Session {
         &self.upkeep
     }
 
-    /// Takes all memory that a draft over its catalogue needs to find the row of a delete without a walk of all rows, where
-    /// nothing is proposed. A delete is judged after this call. The session and the draft stay.
+    /// Makes a draft over its catalogue ready to judge a change, where nothing is proposed. A change is judged after this
+    /// call. The session stays, and so do the changes of the draft.
     pub fn link(&mut self, draft: &mut Draft, change: &Change) -> Result<(), NoMemory>
-        requires { self.old.proposed ≡ None }
+        requires unproposed { self.old.proposed ≡ None }
+        requires stands { StandsOver draft.old self.old.catalogue }
         ensures session { self.new ≡ self.old }
-        ensures draft { draft.new ≡ draft.old }
+        ensures changes { draft.new.changes ≡ draft.old.changes }
+        ensures stands { StandsOver draft.new self.old.catalogue }
+        ensures ready { OnOk result (draft.new.is_due ≡ false) }
     {
         draft.link(&mut self.catalogue, change)
     }

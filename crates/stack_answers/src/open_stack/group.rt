@@ -1,5 +1,5 @@
 //! Answers to the lines of a group, and to the words that stand alone.
-ghost use Rattle.std.specs.Prelude.{◌≡◌, ◌≢◌, ◌≤◌, ◌∷◌, ◌++◌, [], true, None, IfOk, IfErr, OnOk, OnErr, IsTrue, is_some, unwrap_or};
+ghost use Rattle.std.specs.Prelude.{◌≡◌, ◌≢◌, ◌≤◌, ◌∷◌, ◌++◌, [], true, false, None, IfOk, IfErr, OnOk, OnErr, IsTrue, is_some, unwrap_or};
 ghost use Rattle.outside.specs.Effects.{Does, world_of};
 ghost use Rattle.outside.specs.Blame.{Blames, SinkBlames};
 ghost use Rattle.schema_model.specs.Changes.{after_all, is_well_formed};
@@ -356,10 +356,11 @@ impl OpenStack {
     }
 }
 
-// Holds one more change in a draft over a catalogue, unless the catalogue after those that it holds refuses it. After each
-// refusal the draft is as before.
+// Holds one more change in a draft over a catalogue, which is ready to judge it, unless the catalogue after those that it
+// holds refuses it. After each refusal the draft is as before.
 fn hold_in(draft: &mut Draft, catalogue: &Catalogue, change: &Change) -> Result<(), HoldRefused>
     requires stands { StandsOver draft.old catalogue.now.databases }
+    requires ready { draft.old.is_due ≡ false }
     requires well_formed { IsTrue (is_well_formed change.now) }
     ensures held { OnOk result (draft.new.changes ≡ draft.old.changes ++ change.now ∷ []) }
     ensures accepted { OnOk result (fault (after_all catalogue.now.databases draft.old.changes) change.now ≡ None) }

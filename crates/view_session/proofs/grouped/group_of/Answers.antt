@@ -3,7 +3,6 @@ use Rattle.schema_model.specs.Catalogue.{CatalogueValue}
 use Rattle.schema_model.specs.Changes.{after_all}
 use Rattle.schema_model.specs.Refusals.{group_fault}
 use Rattle.schema_model.specs.declared.refusal.Refusal.{Refusal}
-use Rattle.change_draft.specs.Drafts.{DraftState}
 use Rattle.view_session.specs.Session.{IsNotHeld}
 use Rattle.view_session.proofs.GroupLemmas.{first_held}
 use Rattle.view_session.proofs.grouped.group_of.Goals as goal
@@ -20,5 +19,5 @@ returns-in-Err-Change-clause-refused c = λ verdict.
     first_held a c.args.changes.now hs i g e c.in-Err-Change.refusal c.count-place.result more c.change-item.is stands.held
     (subst (λ (d : CatalogueValue). group_fault d hs ≡ None) stands.same stands.over.draft.accepted)
     c.in-Err-Change.field-0-is (subst (λ (d : CatalogueValue). IsNotHeld (after_all d hs) g e) stands.same c.in-Err-Change.ensures.refused)
-    (c.count-place.ensures ∙ ap (λ (d : DraftState). length d.changes) c.in-Err-Change.ensures.same)
+    (c.count-place.ensures ∙ ap length c.in-Err-Change.ensures.same)
     ∙ ap (λ (r : Refusal). Some (c.count-place.result, r)) (sym c.in-Err-Change.refusal-is)

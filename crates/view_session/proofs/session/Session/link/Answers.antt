@@ -11,5 +11,5 @@ invariant_of-self c =
     record {
       kept = subst (λ (x : CatalogueValue). IsKept x s.upkeep) (sym c.link.ensures.base) c.self.invariant.kept;
       shape = c.self.invariant.shape;
-      waits = can_end_linked s.catalogue c.link.new.base s.upkeep s.changed s.waits c.link.ensures.base (ap (λ (x : SessionState). x.proposed) c.self.view_is ∙ c.requires) c.self.invariant.waits;
+      waits = can_end_linked s.catalogue c.link.new.base s.upkeep s.changed s.waits c.link.ensures.base (ap (λ (x : SessionState). x.proposed) c.self.view_is ∙ c.requires.unproposed) c.self.invariant.waits;
     }
