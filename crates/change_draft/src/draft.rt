@@ -103,7 +103,7 @@ impl Draft {
         }
     }
 
-    // Makes the catalogue after the changes that it holds, where that is due. After `NoMemory` the draft is as before.
+    // Makes the catalogue after the changes that it holds, where that is due. The changes stay.
     fn make_due(&mut self, base: &Catalogue) -> Result<(), NoMemory>
         requires { StandsOver self.old base.now.databases }
         ensures changes { self.new.changes ≡ self.old.changes }

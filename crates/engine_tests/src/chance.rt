@@ -22,11 +22,11 @@ const RELATIONS: [&str; 3] = ["r", "s", "t"];
 
 const ATTRIBUTES: [&str; 3] = ["a", "b", "c"];
 
-const VALUES: [&str; 4] = ["", "1", "2", "b"];
+const VALUES: &[&str] = &["", "1", "2", "b"];
 
 // The verb of a change, a letter for each further field (a database, a name of one, a relation, an attribute or a value),
 // and how many of sixty changes it is. The row of an insert or a delete stands behind its fields.
-const FORMS: [(&str, &str, usize); 11] = [
+const FORMS: &[(&str, &str, usize)] = &[
     ("insert", "dr", 30),
     ("delete", "dr", 8),
     ("add-attribute", "drav", 3),
@@ -77,7 +77,7 @@ impl Chance {
     // A verb with its letters.
     fn form(&mut self) -> (&'static str, &'static str) {
         let mut rest = self.below(60);
-        for (verb, letters, many) in FORMS {
+        for &(verb, letters, many) in FORMS {
             if rest < many {
                 return (verb, letters);
             }
@@ -93,7 +93,7 @@ impl Chance {
             b'n' => self.one_of(&NAMES),
             b'r' => self.one_of(&RELATIONS),
             b'a' => self.one_of(&ATTRIBUTES),
-            _ => self.one_of(&VALUES),
+            _ => self.one_of(VALUES),
         }
     }
 

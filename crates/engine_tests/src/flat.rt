@@ -30,7 +30,7 @@ struct Moved {
 }
 
 // The catalogue before each change: a relation with two rows, of which one has an empty cell, and one beside it.
-const BEFORE: [&str; 6] = [
+const BEFORE: &[&str] = &[
     "create-database d",
     "create-relation d r k a b",
     "insert d r 1 x y",
@@ -40,7 +40,7 @@ const BEFORE: [&str; 6] = [
 ];
 
 // A star stands for a variable.
-const MOVED: [Moved; 14] = [
+const MOVED: &[Moved] = &[
     // A wanted attribute is renamed, and one is renamed to a wanted name.
     Moved {
         over: Over::Rows("d", "r"),
@@ -208,7 +208,7 @@ fn make(catalogue: &mut Catalogue, change: &Change) -> Result<(), NoMemory>
 }
 
 fn make_all(alloc: Global, catalogue: &mut Catalogue) -> Result<(), ChangeFault> {
-    for line in BEFORE {
+    for &line in BEFORE {
         let change = change(alloc, line)?;
         let made = make(catalogue, &change);
         drop(change);
@@ -338,7 +338,7 @@ fn is_moved(alloc: Global, moved: &Moved) -> Result<bool, ChangeFault> {
 
 #[test]
 fn changes_move_flat_rows(rt: HostRuntime) -> Result<(), ChangeFault> {
-    for moved in &MOVED {
+    for moved in MOVED {
         assert!(rt;
             is_moved(rt.alloc(), moved)?,
             "at {} over {}",

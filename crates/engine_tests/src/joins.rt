@@ -23,7 +23,7 @@ struct Joined {
     moves: &'static str,
 }
 
-const JOINED: [Joined; 10] = [
+const JOINED: &[Joined] = &[
     // One relation on both sides: an equal row comes twice, and goes twice. The join has no row, then 1, 4, 1 and none.
     Joined {
         left: "",
@@ -237,7 +237,7 @@ fn is_joined_in(alloc: Global, join: &Join, joined: &Joined) -> Result<bool, NoM
 
 #[test]
 fn moves_of_both_sides_move_a_join(rt: HostRuntime) -> Result<(), NoMemory> {
-    for joined in &JOINED {
+    for joined in JOINED {
         assert!(rt;
             is_joined(rt.alloc(), joined)?,
             "at {} and {} over {} and {}",

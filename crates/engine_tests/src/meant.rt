@@ -18,7 +18,7 @@ use valuation_meaning::evaluate;
 use view_def::View;
 use view_session::{Refused, Session};
 
-const VIEWS: [&str; 12] = [
+const VIEWS: &[&str] = &[
     // Values become columns, of one table and of one for each database.
     "create view V::t(a, D) as select T.a, T.c from d::r T, T.b D",
     "create view V::X(a, D) as select T.a, T.b from -> X, X::r T, T.c D where D <> ''",
@@ -40,7 +40,7 @@ const VIEWS: [&str; 12] = [
 ];
 
 // The changes that each catalogue begins with, before those by chance.
-const BEFORE: [&str; 11] = [
+const BEFORE: &[&str] = &[
     "create-database d",
     "create-database e",
     "create-relation d r a b c",
@@ -232,7 +232,7 @@ fn fill(
     chance: &mut Chance,
     count: usize,
 ) -> Result<(), ChangeFault> {
-    make_all(alloc, catalogue, &BEFORE)?;
+    make_all(alloc, catalogue, BEFORE)?;
     chance.make(alloc, catalogue, count)
 }
 
@@ -277,7 +277,7 @@ fn first_of(alloc: Global, text: &str) -> Result<Option<(u32, usize)>, Fail> {
 
 #[test]
 fn kept_tables_are_meant(rt: HostRuntime) -> Result<(), Fail> {
-    for view in VIEWS {
+    for &view in VIEWS {
         assert_eq!(rt; first_of(rt.alloc(), view)?, None, "at {view}");
     }
     Ok(())

@@ -138,7 +138,7 @@ struct Shifted {
 }
 
 // The rows before each change are `1 x y`, and `2 x` with an empty cell.
-const SHIFTED: [Shifted; 20] = [
+const SHIFTED: &[Shifted] = &[
     // A wanted attribute is renamed, and one is renamed to a wanted name.
     Shifted {
         by: By::Pick,
@@ -470,7 +470,7 @@ fn born(alloc: Global, by: By) -> Result<usize, NoMemory> {
 
 // The moves of the first change that makes others.
 fn first_other(alloc: Global) -> Result<Option<&'static str>, NoMemory> {
-    for shifted in &SHIFTED {
+    for shifted in SHIFTED {
         if !is_shifted(alloc, shifted)? {
             return Ok(Some(shifted.moves));
         }

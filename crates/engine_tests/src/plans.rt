@@ -31,7 +31,7 @@ struct Worked {
 }
 
 // The catalogue before.
-const BEFORE: [&str; 7] = [
+const BEFORE: &[&str] = &[
     "create-database d",
     "create-relation d r k a",
     "insert d r 1 x",
@@ -41,7 +41,7 @@ const BEFORE: [&str; 7] = [
     "insert d s x q",
 ];
 
-const WORKED: [Worked; 6] = [
+const WORKED: &[Worked] = &[
     // Both sides of a join are moved, and a renamed attribute takes all facts away.
     Worked {
         view: "create view V::t(k, b) as select T.k, S.b from d::r T, d::s S where T.a = S.a",
@@ -205,7 +205,7 @@ fn make(catalogue: &mut Catalogue, change: &Change) -> Result<(), NoMemory>
 
 // Makes the changes that lead to the catalogue before.
 fn fill(alloc: Global, catalogue: &mut Catalogue) -> Result<(), ChangeFault> {
-    for line in BEFORE {
+    for &line in BEFORE {
         let change = change(alloc, line)?;
         let made = make(catalogue, &change);
         drop(change);
@@ -350,7 +350,7 @@ fn is_as_worked(alloc: Global, worked: &Worked) -> Result<bool, Fail> {
 
 #[test]
 fn changes_move_facts(rt: HostRuntime) -> Result<(), Fail> {
-    for worked in &WORKED {
+    for worked in WORKED {
         assert!(rt; is_as_worked(rt.alloc(), worked)?, "at {}", worked.view);
     }
     Ok(())

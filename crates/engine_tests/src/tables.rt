@@ -30,7 +30,7 @@ struct Worked {
     steps: &'static [Step],
 }
 
-const WORKED: [Worked; 4] = [
+const WORKED: &[Worked] = &[
     // Values that become columns of one table.
     Worked {
         label: Some("salInfo"),
@@ -429,7 +429,7 @@ fn first_unlike(alloc: Global, worked: &Worked) -> Result<Option<&'static str>, 
 
 #[test]
 fn facts_move_tables(rt: HostRuntime) -> Result<(), Fail> {
-    for worked in &WORKED {
+    for worked in WORKED {
         assert_eq!(rt; first_unlike(rt.alloc(), worked)?, None);
     }
     Ok(())

@@ -9,8 +9,8 @@ use Rattle.view_session.specs.Session.{SessionState, proposing, accepted}
 use Rattle.view_session.specs.Verdicts.{standing_of}
 use Rattle.ss_print.specs.Printing.{prints_reply}
 use Rattle.view_stages.specs.Open.{OpenValue}
-use Rattle.view_answers.specs.Answers.{Answer}
-use Rattle.view_answers.proofs.AnswerLemmas.{made_moved}
+use Rattle.opened_view.specs.Answers.{Answer}
+use Rattle.opened_view.proofs.AnswerLemmas.{made_moved}
 use Rattle.feed_core.specs.Arrivals.{arrivals_of, count_of, is_fresh, handled_at, same_change, by_handled}
 use Rattle.feed_core.specs.Replies.{ReplyValue, reply_to, taken_by}
 use Rattle.feed_core.specs.declared.arrival.Arrival.{Arrival}

@@ -12,11 +12,11 @@ use Rattle.course.specs.Statuses.{can_maintain}
 use Rattle.course.specs.Course.{RanBy, RanSome, Took, TookEnough, by_lines, verdict_status, status_of}
 use Rattle.view_stages.specs.Open.{OpenValue}
 use Rattle.view_opening.specs.declared.opening.Opened.TheVariants as opened_as
-use Rattle.view_answers.specs.Steps.{Begins, starting}
+use Rattle.opened_view.specs.Steps.{Begins, starting}
 use Rattle.view_opening.specs.Opens.{Opens}
-use Rattle.view_answers.specs.Limits.{IsWithin, StepsBy}
-use Rattle.view_answers.proofs.LimitLemmas.{drove_steps}
-use Rattle.view_answers.proofs.MaintainLemmas.{opening_ended, opening_stopped, opening_drove, ended_enough, enough_answering, open_reads, some_ended, some_stopped, some_drove, took_answering, drove_verdict, begins_with, ends_with, stops_with, stopped_can, done_can}
+use Rattle.opened_view.specs.Limits.{IsWithin, StepsBy}
+use Rattle.opened_view.proofs.LimitLemmas.{drove_steps}
+use Rattle.opened_view.proofs.MaintainLemmas.{opening_ended, opening_stopped, opening_drove, ended_enough, enough_answering, open_reads, some_ended, some_stopped, some_drove, took_answering, drove_verdict, begins_with, ends_with, stops_with, stopped_can, done_can}
 use Rattle.feed_answers.specs.declared.view.FeedView.{FeedView}
 use Rattle.feed_answers.specs.Answers.{answer, fed, step, finish, at_first}
 use Rattle.feed_answers.specs.Limits.{limit}

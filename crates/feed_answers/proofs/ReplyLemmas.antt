@@ -19,7 +19,7 @@ use Rattle.ss_print.specs.Fields.{illegal_fields, clash_fields}
 use Rattle.ss_print.specs.Printing.{prints_script}
 use Rattle.view_stages.specs.Open.{OpenValue}
 use Rattle.view_stages.specs.Stages.{refusal_of}
-use Rattle.view_answers.specs.Answers.{Answer, Scripts, by_fault, by_view, changing, keeping, refusing}
+use Rattle.opened_view.specs.Answers.{Answer, Scripts, by_fault, by_view, changing, keeping, refusing}
 use Rattle.feed_core.specs.Replies.{ReplyValue, reply_to, by_verdict}
 use Rattle.feed_core.specs.Replies as reply
 use Rattle.feed_answers.specs.Fields.{reply_refused_fields}

@@ -15,8 +15,8 @@ use Rattle.ss_print.specs.Fields.{early_fields, other_change_fields}
 use Rattle.ss_print.specs.Printing.{refuses, prints_reply, prints_script}
 use Rattle.view_stages.specs.Open.{OpenValue}
 use Rattle.view_stages.specs.Stages.{refusal_of}
-use Rattle.view_answers.specs.Answers.{by_fault, by_view, keeping}
-use Rattle.view_answers.proofs.AnswerLemmas.{behind}
+use Rattle.opened_view.specs.Answers.{by_fault, by_view, keeping}
+use Rattle.opened_view.proofs.AnswerLemmas.{behind}
 use Rattle.feed_core.specs.Arrivals.{handled_at, answer_to}
 use Rattle.feed_core.specs.Replies.{ReplyValue}
 use Rattle.feed_core.specs.declared.arrival.Arrival.{Arrival}

@@ -12,7 +12,7 @@ use Rattle.ss_print.specs.Fields.{early_fields, other_change_fields}
 use Rattle.ss_print.specs.Printing.{prints_reply, prints_script}
 use Rattle.view_stages.specs.Open.{OpenValue}
 use Rattle.view_stages.specs.Syncs.{sync_effects}
-use Rattle.view_answers.specs.Answers.{Answer, Tells, by_fault, refusing, syncing}
+use Rattle.opened_view.specs.Answers.{Answer, Tells, by_fault, refusing, syncing}
 use Rattle.feed_core.specs.Arrivals.{handled_at, answer_to, handled_after}
 use Rattle.feed_core.specs.Replies.{ReplyValue, reply_to}
 use Rattle.feed_core.specs.declared.arrival.Arrival.{Arrival}

@@ -6,8 +6,8 @@ ghost use Rattle.tab_lines.specs.Lines.{lines_of};
 ghost use Rattle.course.specs.Answering.{BlamesRun, is_too_long};
 ghost use Rattle.view_stages.specs.Stages.{DefinitionOrRefusal};
 ghost use Rattle.view_stages.specs.Opening.{IsDefinition, definition_bytes, opening};
-ghost use Rattle.view_answers.specs.Limits.{StepsBy};
-ghost use Rattle.view_answers.specs.Steps.{starting};
+ghost use Rattle.opened_view.specs.Limits.{StepsBy};
+ghost use Rattle.opened_view.specs.Steps.{starting};
 ghost use Rattle.course.specs.Statuses.{can_maintain};
 ghost use Rattle.course.specs.Idle.{IdleRun};
 ghost use Rattle.course.specs.Course.{RanBy, RanSome, Took, TookEnough, by_lines, status_of, IsWholeInput};
@@ -24,7 +24,7 @@ use view_opening::{Opened, open};
 
 /// Opens the view of this name, and answers the lines of its feeds in turn. Where a call fails or memory runs out, a
 /// front of the answers is there, and what was under way may have broken off.
-#[tactic(auto, using(view_answers::proofs::MaintainLemmas::ended_whole, view_answers::proofs::MaintainLemmas::refused_can, view_answers::proofs::MaintainLemmas::stopped_can, course::proofs::DriveLemmas::blamed_later, course::proofs::DriveLemmas::took_nothing, course::proofs::IdleLemmas::idle_drove))]
+#[tactic(auto, using(opened_view::proofs::MaintainLemmas::ended_whole, opened_view::proofs::MaintainLemmas::refused_can, opened_view::proofs::MaintainLemmas::stopped_can, course::proofs::DriveLemmas::blamed_later, course::proofs::DriveLemmas::took_nothing, course::proofs::IdleLemmas::idle_drove))]
 pub fn feed<F: Folders, S: Source, K: Sink, L: Ledger>(
     alloc: Global,
     store: &mut F,

@@ -6,7 +6,7 @@ ghost use Rattle.tab_lines.specs.Lines.{has_feed};
 ghost use Rattle.schema_model.specs.Changes.{is_well_formed};
 ghost use Rattle.apply_law.specs.Standing.{tables_of};
 ghost use Rattle.apply_law.specs.Verdicts.{Makes};
-ghost use Rattle.view_answers.specs.Limits.{IsWithin};
+ghost use Rattle.opened_view.specs.Limits.{IsWithin};
 ghost use Rattle.feed_core.specs.Arrivals.{handled_at};
 ghost use Rattle.feed_answers.specs.Lines.{said_by_line};
 ghost use Rattle.feed_answers.specs.declared.line.FeedLine.TheVariants.{Arrives};
@@ -19,12 +19,12 @@ use crate::{FeedFault, FeedLine, read_feed_line};
 use apply_law::Applies;
 use course::{LineHandler, LineStop, NoDisk, Verdict};
 use feed_core::{Arrival, Feeds, Handled, Outcome};
+use opened_view::OpenView;
 use outside::{Folders, Sink, Stop};
 use ss_print::{early_fields, other_change_fields, print_reply, print_script};
 use ss_text::{NoMemory, Seed, Steps, Text};
 use std::alloc::Global;
 use std::sync::ledger::Ledger;
-use view_answers::OpenView;
 
 /// An opened view, and the changes that its sources sent.
 pub(crate) struct FeedView {

@@ -20,8 +20,8 @@ use Rattle.course.proofs.RunLemmas.{done_finished}
 use Rattle.view_stages.specs.Open.{OpenValue, just_opened}
 use Rattle.view_stages.specs.Stages.{DefinitionOrRefusal, Accepted, loaded_or_refused, refusal_of}
 use Rattle.view_stages.specs.Opening.{IsDefinition, definition_bytes, opening, with_catalogue, with_view}
-use Rattle.view_answers.specs.Answers.{Answer}
-use Rattle.view_answers.specs.Steps.{starting}
+use Rattle.opened_view.specs.Answers.{Answer}
+use Rattle.opened_view.specs.Steps.{starting}
 use Rattle.upkeep_law.specs.Given.{AreGiven}
 use Rattle.upkeep_law.specs.Lists.{last_shown, last_synced}
 use Rattle.upkeep_law.specs.Promises.{IsUpheld, opening_of, effects_so_far}

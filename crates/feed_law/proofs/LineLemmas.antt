@@ -20,7 +20,7 @@ use Rattle.ss_print.specs.Fields.{refusal_fields, early_fields, other_change_fie
 use Rattle.view_stages.specs.Open.{OpenValue}
 use Rattle.view_stages.specs.Stages.{refusal_of}
 use Rattle.view_stages.specs.Syncs.{sync_effects}
-use Rattle.view_answers.specs.Answers.{Answer, by_fault, by_view, keeping, refusing, syncing}
+use Rattle.opened_view.specs.Answers.{Answer, by_fault, by_view, keeping, refusing, syncing}
 use Rattle.upkeep_law.specs.Given.{MayGive, AreGiven}
 use Rattle.upkeep_law.specs.Lists.{effects_by, last_shown, last_synced}
 use Rattle.upkeep_law.proofs.ListLemmas.{effects_append, shown_append, synced_append, given_append}

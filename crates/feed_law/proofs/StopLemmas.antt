@@ -21,7 +21,7 @@ use Rattle.view_stages.specs.Places.{Exempt, CsvFiles}
 use Rattle.view_stages.specs.Syncs.{sync_effects}
 use Rattle.view_stages.proofs.SyncLemmas.{Stage, sync_stage}
 use Rattle.view_stages.proofs.StoppedLemmas.{Stopped, in_first, in_later, printed, opening_stops}
-use Rattle.view_answers.specs.Steps.{starting}
+use Rattle.opened_view.specs.Steps.{starting}
 use Rattle.upkeep_law.specs.Lists.{effects_by}
 use Rattle.upkeep_law.proofs.GivenLemmas.{given_query, given_sound}
 use Rattle.upkeep_law.proofs.StopLemmas.{given_stops}

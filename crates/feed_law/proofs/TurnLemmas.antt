@@ -25,7 +25,7 @@ use Rattle.ss_print.specs.Fields.{illegal_fields, clash_fields}
 use Rattle.ss_print.specs.Printing.{prints_reply}
 use Rattle.view_stages.specs.Open.{OpenValue}
 use Rattle.view_stages.specs.Stages.{refusal_of}
-use Rattle.view_answers.specs.Answers.{Answer, by_fault}
+use Rattle.opened_view.specs.Answers.{Answer, by_fault}
 use Rattle.upkeep_law.proofs.GivenLemmas.{first_unrefused}
 use Rattle.feed_core.specs.Arrivals.{arrivals_of, count_of, is_fresh, handled_at, same_change, by_handled, answer_to}
 use Rattle.feed_core.specs.Numbered.{AreNumbered}

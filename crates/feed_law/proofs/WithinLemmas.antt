@@ -15,7 +15,7 @@ use Rattle.view_stages.specs.Places.{CsvFiles, sources_of}
 use Rattle.view_stages.specs.Stages.{Accepted, refusal_of, files_of_view}
 use Rattle.view_stages.proofs.PlaceLemmas.{AllWithin}
 use Rattle.view_stages.proofs.WithinLemmas.{both_within, Grows, grows_itself, grows_synced, opened_within}
-use Rattle.view_answers.specs.Steps.{starting}
+use Rattle.opened_view.specs.Steps.{starting}
 use Rattle.upkeep_law.specs.Lists.{effects_by}
 use Rattle.upkeep_law.proofs.WithinLemmas.{given_within}
 use Rattle.feed_answers.specs.declared.view.FeedView.{FeedView}

@@ -9,7 +9,7 @@ use Rattle.course.specs.declared.exit.Status.{Status}
 use Rattle.course.specs.Course.{Did, GaveOutStatus, by_lines, is_done_status}
 use Rattle.view_stages.specs.Stages.{DefinitionOrRefusal}
 use Rattle.view_stages.specs.Opening.{IsDefinition, definition_bytes, opening}
-use Rattle.view_answers.specs.Steps.{starting}
+use Rattle.opened_view.specs.Steps.{starting}
 use Rattle.feed_answers.specs.Answers.{step, finish, at_first}
 use Rattle.feed_law.specs.Promises.{IsFed, IsFedCutOff}
 

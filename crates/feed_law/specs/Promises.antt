@@ -16,7 +16,7 @@ use Rattle.view_stages.specs.Open.{OpenValue}
 use Rattle.view_stages.specs.Places.{Exempt, sources_of}
 use Rattle.view_stages.specs.Stages.{DefinitionOrRefusal}
 use Rattle.view_stages.specs.Opened.{IsOpened, view_at_first}
-use Rattle.view_answers.specs.Answers.{Answer, syncing}
+use Rattle.opened_view.specs.Answers.{Answer, syncing}
 use Rattle.upkeep_law.specs.Lists.{effects_by, view_after, last_synced}
 use Rattle.upkeep_law.specs.Promises.{IsUpheld}
 use Rattle.feed_core.specs.Arrivals.{arrivals_of, handled_at, same_change, answer_to}

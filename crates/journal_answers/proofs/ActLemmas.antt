@@ -26,8 +26,8 @@ use Rattle.journal_log.specs.Room.{lacks_room, appended_to}
 use Rattle.journal_log.proofs.LogLemmas.{none_first, lacked_first, kept_then, not_kept}
 use Rattle.ss_print.specs.Printing.{prints_script}
 use Rattle.view_stages.specs.Open.{OpenValue}
-use Rattle.view_answers.specs.Answers.{Answer, by_spelling, syncing_view}
-use Rattle.view_answers.specs.Limits.{IsWithin}
+use Rattle.opened_view.specs.Answers.{Answer, by_spelling, syncing_view}
+use Rattle.opened_view.specs.Limits.{IsWithin}
 use Rattle.journal_answers.specs.declared.view.JournalView.{JournalView}
 use Rattle.journal_answers.specs.Answers.{answer, asked_of, by_room, made, made_by, replying}
 use Rattle.journal_answers.specs.Steps.{Acts, TakesScript, TakesNone, said}

@@ -17,12 +17,12 @@ use Rattle.view_session.specs.Limits as session
 use Rattle.ss_print.specs.Fields.{line_fields, in_group_fields, no_group_fields}
 use Rattle.view_stages.specs.Open.{OpenValue}
 use Rattle.view_stages.specs.Stages.{refusal_of}
-use Rattle.view_answers.specs.declared.word.Word.{Word}
-use Rattle.view_answers.specs.declared.word.Word.TheVariants as word
-use Rattle.view_answers.specs.Answers.{Answer, by_fields, by_word, by_broken, by_change, by_fault, by_view, refusing, beginning, keeping, aborting, syncing, syncing_view, in_group}
-use Rattle.view_answers.specs.Limits as limits
-use Rattle.view_answers.proofs.AnswerLemmas.{unread}
-use Rattle.view_answers.proofs.ViewLemmas.{none_open}
+use Rattle.opened_view.specs.declared.word.Word.{Word}
+use Rattle.opened_view.specs.declared.word.Word.TheVariants as word
+use Rattle.opened_view.specs.Answers.{Answer, by_fields, by_word, by_broken, by_change, by_fault, by_view, refusing, beginning, keeping, aborting, syncing, syncing_view, in_group}
+use Rattle.opened_view.specs.Limits as limits
+use Rattle.opened_view.proofs.AnswerLemmas.{unread}
+use Rattle.opened_view.proofs.ViewLemmas.{none_open}
 use Rattle.journal_answers.specs.declared.asking.Asked.{Asked}
 use Rattle.journal_answers.specs.Steps.{Asks, AsksChange, AsksGroup, AsksOther, is_script}
 

@@ -5,8 +5,8 @@ use Rattle.outside.specs.Effects.{World, contents, performed, Does}
 use Rattle.outside.specs.declared.stop.Stop.{Stop}
 use Rattle.view_stages.specs.Open.{OpenValue}
 use Rattle.view_stages.specs.Syncs.{view_effects}
-use Rattle.view_answers.specs.Answers.{end_effects, end_view}
-use Rattle.view_answers.proofs.AnswerLemmas.{behind}
+use Rattle.opened_view.specs.Answers.{end_effects, end_view}
+use Rattle.opened_view.proofs.AnswerLemmas.{behind}
 use Rattle.journal_answers.specs.declared.view.JournalView.{JournalView}
 use Rattle.journal_answers.specs.Answers.{finish}
 

@@ -17,12 +17,12 @@ use Rattle.course.specs.Keeping.{Entry, Log, LeavesNow, LeavesFrontNow, LeavesFr
 use Rattle.course.proofs.KeepingLemmas.{front_none, fronts_then}
 use Rattle.journal_log.specs.Logs.{log_of}
 use Rattle.course.specs.Course.{Course, RanBy, RanSome, Took, IsWholeInput, verdict_status, status_of, is_done, is_refused_status}
-use Rattle.view_answers.specs.Steps.{Begins, EndsRun}
+use Rattle.opened_view.specs.Steps.{Begins, EndsRun}
 use Rattle.journal_answers.specs.declared.view.JournalView.{JournalView}
 use Rattle.journal_answers.specs.Answers.{step, finish, made, answer, by_room}
 use Rattle.journal_answers.specs.Kept.{RanOver, KeptBehind, KeptNothing, KeptOpened}
 use Rattle.journal_answers.specs.Statuses.{can_journal}
-use Rattle.view_answers.specs.Answers.{end_view}
+use Rattle.opened_view.specs.Answers.{end_view}
 use Rattle.journal_log.specs.Room.{lacks_room}
 
 -- a run whose disk did not fail before its opening did anything

@@ -15,9 +15,9 @@ use Rattle.view_session.specs.Session.{working}
 use Rattle.ss_print.specs.Fields.{first_field, line_fields, in_group_fields, no_group_fields}
 use Rattle.view_stages.specs.Open.{OpenValue}
 use Rattle.view_stages.specs.Stages.{refusal_of}
-use Rattle.view_answers.specs.declared.word.Word.{Word}
-use Rattle.view_answers.specs.declared.word.Word.TheVariants as word
-use Rattle.view_answers.specs.Answers.{Answer, by_spelling, by_first, by_word, by_broken, by_group, by_change, by_fault, by_view, refusing, beginning, keeping, aborting, syncing_view, in_group, word_in}
+use Rattle.opened_view.specs.declared.word.Word.{Word}
+use Rattle.opened_view.specs.declared.word.Word.TheVariants as word
+use Rattle.opened_view.specs.Answers.{Answer, by_spelling, by_first, by_word, by_broken, by_group, by_change, by_fault, by_view, refusing, beginning, keeping, aborting, syncing_view, in_group, word_in}
 use Rattle.journal_answers.specs.Answers.{answer, asked_of, made, made_by}
 
 module _ (o : OpenValue) (r : Result Row ℕ) where

@@ -17,7 +17,7 @@ use Rattle.journal_log.specs.Replay.{replayed}
 use Rattle.view_stages.specs.Open.{OpenValue, just_opened}
 use Rattle.view_stages.specs.Opening.{opening_effects, with_view}
 use Rattle.view_stages.specs.Stages.{Accepted, DefinitionOrRefusal, loaded_or_refused, refusal_of, files_of_view}
-use Rattle.view_answers.specs.Steps.{Begins, starting}
+use Rattle.opened_view.specs.Steps.{Begins, starting}
 use Rattle.view_opening.specs.Opens.{Views}
 use Rattle.view_opening.specs.declared.opening.Viewing.TheVariants as viewing
 use Rattle.journal_answers.specs.declared.opening.Opened.{Opened}

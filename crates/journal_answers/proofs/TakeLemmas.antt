@@ -21,9 +21,9 @@ use Rattle.view_session.specs.Session.{SessionState, IsAccepted, IsRefused, prop
 use Rattle.view_session.specs.declared.fault.Refused.{Refused}
 use Rattle.ss_print.specs.Printing.{prints_script}
 use Rattle.view_stages.specs.Open.{OpenValue}
-use Rattle.view_answers.specs.Answers.{Answer, Said, Tells, Scripts, Syncs, giving_up, refusing}
-use Rattle.view_answers.specs.Steps.{IsFieldsOf, IsFaultFieldsOf}
-use Rattle.view_answers.proofs.AnswerLemmas.{accepted_is, refused_is, made_is, stopped_is, made_moved}
+use Rattle.opened_view.specs.Answers.{Answer, Said, Tells, Scripts, Syncs, giving_up, refusing}
+use Rattle.opened_view.specs.Steps.{IsFieldsOf, IsFaultFieldsOf}
+use Rattle.opened_view.proofs.AnswerLemmas.{accepted_is, refused_is, made_is, stopped_is, made_moved}
 use Rattle.journal_answers.specs.declared.view.JournalView.{JournalView}
 use Rattle.journal_answers.specs.Answers.{asked_of, made_by}
 use Rattle.journal_answers.specs.Steps.{TakesScript, TakesNone, judging, ending_group, is_script}

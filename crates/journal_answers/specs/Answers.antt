@@ -11,7 +11,7 @@ use Rattle.change_journal.specs.Lines.{lines_in}
 use Rattle.journal_log.specs.Room.{lacks_room, grown, appended_to}
 use Rattle.view_stages.specs.Open.{OpenValue}
 use Rattle.view_stages.specs.Syncs.{view_effects}
-use Rattle.view_answers.specs.Answers.{Answer, Said, Scripts, answer_by, syncing_view, end_effects, end_view}
+use Rattle.opened_view.specs.Answers.{Answer, Said, Scripts, answer_by, syncing_view, end_effects, end_view}
 use Rattle.journal_answers.specs.declared.view.JournalView.{JournalView}
 
 -- the changes that a line asks for: those that the open group holds, or where none is open the one that the line says

@@ -12,7 +12,7 @@ use Rattle.journal_log.specs.Replay.{Replay, replayed}
 use Rattle.ss_print.specs.Printing.{refuses}
 use Rattle.view_stages.specs.Stages.{DefinitionOrRefusal, loaded_or_refused, refusal_of}
 use Rattle.view_stages.specs.Opening.{with_view}
-use Rattle.view_answers.specs.Steps.{starting}
+use Rattle.opened_view.specs.Steps.{starting}
 use Rattle.journal_answers.specs.declared.view.JournalView.{JournalView}
 use Rattle.journal_answers.specs.Answers.{ended_at}
 use Rattle.journal_answers.specs.Fields.{journal_fields}

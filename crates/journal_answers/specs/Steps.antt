@@ -25,8 +25,8 @@ use Rattle.course.specs.Course.{verdict_status, is_refused_status}
 use Rattle.ss_print.specs.Printing.{prints_script}
 use Rattle.view_stages.specs.Open.{OpenValue}
 use Rattle.view_stages.specs.Stages.{refusal_of}
-use Rattle.view_answers.specs.Answers.{Answer, Said, Scripts, by_fault, by_group, syncing_view}
-use Rattle.view_answers.specs.Steps.{Begins, EndsRun}
+use Rattle.opened_view.specs.Answers.{Answer, Said, Scripts, by_fault, by_group, syncing_view}
+use Rattle.opened_view.specs.Steps.{Begins, EndsRun}
 use Rattle.journal_answers.specs.declared.asking.Asked.{Asked}
 use Rattle.journal_answers.specs.declared.asking.Asked.TheVariants as asked
 use Rattle.journal_answers.specs.declared.taking.Taken.{Taken}

@@ -1,14 +1,14 @@
 //! What the row of a line asks for.
 ghost use Rattle.std.specs.Prelude.{◌≡◌, true, IfOk, None, Some};
 ghost use Rattle.ss_print.specs.Fields.{first_field};
-ghost use Rattle.view_answers.specs.Answers.{by_first, by_word, in_group, syncing, syncing_view, word_in};
-ghost use Rattle.view_answers.specs.Limits as limits;
+ghost use Rattle.opened_view.specs.Answers.{by_first, by_word, in_group, syncing, syncing_view, word_in};
+ghost use Rattle.opened_view.specs.Limits as limits;
 ghost use Rattle.journal_answers.specs.Steps.{Asks};
 
+use opened_view::{OpenView, Word, word_of};
 use schema_model::{Change, ChangeFault};
 use ss_text::{NoMemory, Row};
 use std::alloc::Global;
-use view_answers::{OpenView, Word, word_of};
 
 /// What the row of a line asks for.
 #[derive(Drop)]

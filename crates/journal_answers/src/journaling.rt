@@ -9,7 +9,7 @@ ghost use Rattle.course.specs.Keeping.{Entry, LeavesNow, BlamesDisk};
 ghost use Rattle.journal_log.specs.Logs.{log_of};
 ghost use Rattle.view_stages.specs.Stages.{DefinitionOrRefusal};
 ghost use Rattle.view_stages.specs.Opening.{IsDefinition, definition_bytes};
-ghost use Rattle.view_answers.specs.Limits.{StepsBy};
+ghost use Rattle.opened_view.specs.Limits.{StepsBy};
 ghost use Rattle.course.specs.Idle.{IdleRun};
 ghost use Rattle.course.specs.Course.{RanSome, Took, TookEnough, by_lines, status_of, IsWholeInput};
 ghost use Rattle.journal_answers.specs.Answers.{step, note, finish};

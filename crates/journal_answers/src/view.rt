@@ -10,9 +10,9 @@ ghost use Rattle.journal_log.specs.Logs.{log_of, IsReady, KeepsFirst};
 ghost use Rattle.journal_log.specs.Room.{appended_to};
 ghost use Rattle.view_session.specs.Session.{closed};
 ghost use Rattle.view_session.specs.Limits as session_limit;
-ghost use Rattle.view_answers.specs.Limits as limits;
-ghost use Rattle.view_answers.specs.Limits.{IsWithin};
-ghost use Rattle.view_answers.specs.Answers.{by_row, end_view, giving_up, refusing, syncing_view};
+ghost use Rattle.opened_view.specs.Limits as limits;
+ghost use Rattle.opened_view.specs.Limits.{IsWithin};
+ghost use Rattle.opened_view.specs.Answers.{by_row, end_view, giving_up, refusing, syncing_view};
 ghost use Rattle.journal_answers.specs.Answers.{answer, asked_of, finish, made, made_by};
 ghost use Rattle.journal_answers.specs.Steps.{Acts, Became, ending_group, judging, said};
 
@@ -21,6 +21,7 @@ use crate::taking::{Taken, copies, settle};
 use change_journal::Journal;
 use course::{LineHandler, LineStop, Verdict};
 use disk::Disk;
+use opened_view::{OpenView, fault_fields, refused_fields};
 use outside::{Folders, Sink, Stop};
 use schema_model::Change;
 use ss_print::{escape_fields, print_script};
@@ -29,7 +30,7 @@ use std::alloc::Global;
 use std::slice::from_ref;
 use std::sync::ledger::Ledger;
 use tab_lines::{LineFault, read_line};
-use view_answers::{OpenView, fault_fields, refused_fields};
+use view_answers::{answer_row, end_group};
 
 /// An opened view, and the journal of its changes.
 pub(crate) struct JournalView {
@@ -206,7 +207,7 @@ impl JournalView {
             Ok(Asked::Change(change)) => self.make_change(alloc, output, disk, &change, steps),
             Ok(Asked::Group) => self.make_group(alloc, output, disk, steps),
             Ok(Asked::Sync) => said(self.view.sync_view(alloc, store, output)),
-            Ok(Asked::Other) => said(self.view.row(alloc, store, output, row, steps)),
+            Ok(Asked::Other) => said(answer_row(alloc, &mut self.view, store, output, row, steps)),
             Err(NoMemory) => Err(LineStop::Stopped(Stop::NoMemory)),
         }
     }
@@ -251,7 +252,7 @@ impl JournalView {
         ensures no_read { IfErr result (λ e. e ≢ Stop.ReadFault) }
         ensures blames { Blames (world_of (F.state store.old) (K.state output.old)) (world_of (F.state store.new) (K.state output.new)) result }
     {
-        self.view.end_group(alloc, output)?;
+        end_group(alloc, &mut self.view, output)?;
         self.view.write_named(alloc, store, output)
     }
 }

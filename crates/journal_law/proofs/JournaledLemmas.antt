@@ -20,7 +20,7 @@ use Rattle.course.specs.declared.exit.Status.TheVariants as status
 use Rattle.course.specs.Course.{Finished, GaveOut, HeldUp, by_lines, first as first_course, goes_so_far, verdict_status, is_done_status, is_refused_status}
 use Rattle.view_stages.specs.Open.{OpenValue}
 use Rattle.view_stages.specs.Stages.{DefinitionOrRefusal, Accepted, by_loading, loaded_or_refused}
-use Rattle.view_answers.specs.Answers.{Answer, end_view}
+use Rattle.opened_view.specs.Answers.{Answer, end_view}
 use Rattle.upkeep_law.specs.Given.{AreGiven}
 use Rattle.upkeep_law.specs.Lists.{last_shown}
 use Rattle.upkeep_law.specs.Promises.{IsUpheld, opening_of, effects_so_far}

@@ -18,7 +18,7 @@ use Rattle.ss_print.specs.Printing.{refuses}
 use Rattle.ss_print.specs.Fields.{open_group_fields}
 use Rattle.view_stages.specs.Open.{OpenValue}
 use Rattle.view_stages.specs.Syncs.{view_effects}
-use Rattle.view_answers.specs.Answers.{Said, Tells, Scripts, Syncs, Answer, giving_up, syncing_view, by_open, end_effects, end_view}
+use Rattle.opened_view.specs.Answers.{Said, Tells, Scripts, Syncs, Answer, giving_up, syncing_view, by_open, end_effects, end_view}
 use Rattle.upkeep_law.specs.Given.{IsSync, Prints, AreGiven}
 use Rattle.upkeep_law.specs.Lists.{effects_by, last_shown, synced_by, last_synced}
 use Rattle.upkeep_law.proofs.GroupLemmas.{IsGroup}

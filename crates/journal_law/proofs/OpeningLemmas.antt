@@ -17,7 +17,7 @@ use Rattle.journal_log.specs.Replay.{Replay, replayed_from, by_groups, by_readin
 use Rattle.course.specs.Course.{verdict_status, is_refused_status}
 use Rattle.view_stages.specs.Opening.{with_view}
 use Rattle.view_stages.specs.Stages.{Accepted, DefinitionOrRefusal, loaded_or_refused, refusal_of}
-use Rattle.view_answers.specs.Steps.{starting}
+use Rattle.opened_view.specs.Steps.{starting}
 use Rattle.upkeep_law.specs.Promises.{opening_of}
 use Rattle.journal_answers.specs.declared.view.JournalView.{JournalView}
 use Rattle.journal_answers.specs.Answers.{ended_at}

@@ -8,7 +8,7 @@ use Rattle.course.specs.Course.{Finished, by_lines, verdict_status, is_refused_s
 use Rattle.course.specs.Idle.{Unchanged}
 use Rattle.course.proofs.RefusedLemmas.{same_stored, not_so}
 use Rattle.view_stages.specs.Stages.{DefinitionOrRefusal}
-use Rattle.view_answers.specs.Answers.{end_view}
+use Rattle.opened_view.specs.Answers.{end_view}
 use Rattle.upkeep_law.proofs.RefusedLemmas.{end_unrefused}
 use Rattle.journal_answers.specs.declared.view.JournalView.{JournalView}
 use Rattle.journal_answers.specs.Answers.{step, finish}

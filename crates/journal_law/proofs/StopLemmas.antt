@@ -31,8 +31,8 @@ use Rattle.view_stages.proofs.PlaceLemmas.{AllWithin}
 use Rattle.view_stages.proofs.StoppedLemmas.{Stopped, in_first, in_later, one_stage, printed, opening_stops}
 use Rattle.view_stages.proofs.SyncLemmas.{Stage, planned_stage}
 use Rattle.view_stages.proofs.WithinLemmas.{both_within, later_within}
-use Rattle.view_answers.specs.Answers.{Said, Tells, Scripts, Syncs, Answer, end_effects, end_view}
-use Rattle.view_answers.proofs.AnswerCases.{end_case}
+use Rattle.opened_view.specs.Answers.{Said, Tells, Scripts, Syncs, Answer, end_effects, end_view}
+use Rattle.opened_view.proofs.AnswerCases.{end_case}
 use Rattle.upkeep_law.specs.Given.{MayGive, AreGiven}
 use Rattle.upkeep_law.specs.Promises.{opening_of}
 use Rattle.upkeep_law.proofs.GivenLemmas.{first_query}

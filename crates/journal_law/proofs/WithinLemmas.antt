@@ -12,7 +12,7 @@ use Rattle.view_stages.specs.Places.{Exempt, CsvFiles}
 use Rattle.view_stages.specs.Stages.{DefinitionOrRefusal}
 use Rattle.view_stages.proofs.PlaceLemmas.{AllWithin}
 use Rattle.view_stages.proofs.WithinLemmas.{both_within, Grows, grows_itself, opened_within}
-use Rattle.view_answers.specs.Answers.{Answer}
+use Rattle.opened_view.specs.Answers.{Answer}
 use Rattle.upkeep_law.specs.Given.{AreGiven}
 use Rattle.upkeep_law.specs.Lists.{effects_by}
 use Rattle.upkeep_law.specs.Promises.{opening_of}

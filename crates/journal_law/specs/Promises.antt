@@ -18,7 +18,7 @@ use Rattle.course.specs.declared.exit.Status.{Status}
 use Rattle.course.specs.Course.{verdict_status}
 use Rattle.view_stages.specs.Open.{OpenValue, just_opened}
 use Rattle.view_stages.specs.Stages.{DefinitionOrRefusal, Accepted, loaded_or_refused, refusal_of}
-use Rattle.view_answers.specs.Answers.{Answer, answers_by, last_answer, end_view, syncing_view}
+use Rattle.opened_view.specs.Answers.{Answer, answers_by, last_answer, end_view, syncing_view}
 use Rattle.upkeep_law.specs.Lists.{effects_by, view_after, last_shown}
 use Rattle.upkeep_law.specs.Promises.{IsUpheld}
 use Rattle.journal_answers.specs.declared.view.JournalView.{JournalView}

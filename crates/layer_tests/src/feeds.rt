@@ -17,7 +17,7 @@ use std::test::Fail;
 // A source, a number, the fields of a change, parted by spaces, what is answered, and whether its reply is a refusal.
 type Sent = (&'static str, u64, &'static str, Outcome, bool);
 
-const SENT: [Sent; 11] = [
+const SENT: &[Sent] = &[
     // The second of a source before its first, and its first twice.
     (
         "hr",

@@ -199,7 +199,7 @@ fn outcome(
 }
 
 // The lines that are handed in one after another, and what becomes of each.
-const LINES: [(&str, &str); 15] = [
+const LINES: &[(&str, &str)] = &[
     ("done 3", "passed"),
     ("aborted", "passed"),
     ("sync", "unknown-verb"),
@@ -223,7 +223,7 @@ fn first_other(
     tables: &mut Tables,
     shape: &Shape,
 ) -> Result<Option<&'static str>, NoMemory> {
-    for (line, becomes) in LINES {
+    for &(line, becomes) in LINES {
         if outcome(alloc, tables, shape, line)? != becomes {
             return Ok(Some(line));
         }

@@ -360,7 +360,7 @@ fn wanted_of(alloc: Global) -> Result<Wanted, StoreFault> {
     })
 }
 
-const WRONGS: [Wrong; 4] = [
+const WRONGS: &[Wrong] = &[
     Wrong::StopsBefore,
     Wrong::StopsBehind,
     Wrong::FailsBefore,
@@ -397,7 +397,7 @@ fn holds(
 
 fn all_hold(alloc: Global, fault: StoreFault) -> Result<bool, StoreFault> {
     let wanted = wanted_of(alloc)?;
-    for wrong in WRONGS {
+    for &wrong in WRONGS {
         for wrong_at in 1..MOST {
             for then_at in 1..MOST {
                 if !holds(alloc, &wanted, wrong_at, then_at, wrong, fault)? {

@@ -53,7 +53,7 @@ fn line(alloc: Global, of: &[&str]) -> Result<TableLine, NoMemory> {
 }
 
 // Lines that come one after another, and whether each fits.
-const STEPS: [(&[&str], bool); 13] = [
+const STEPS: &[(&[&str], bool)] = &[
     (&["+", "Prof"], false),
     (&["table"], true),
     (&["table"], false),
@@ -71,7 +71,7 @@ const STEPS: [(&[&str], bool); 13] = [
 
 // The place of the first step that is another.
 fn first_other(alloc: Global, tables: &mut Tables) -> Result<Option<usize>, NoMemory> {
-    for (place, (step, fits)) in STEPS.into_iter().enumerate() {
+    for (place, &(step, fits)) in STEPS.iter().enumerate() {
         if made(tables, line(alloc, step)?)? != fits {
             return Ok(Some(place));
         }

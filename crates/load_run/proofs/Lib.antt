@@ -1,6 +1,6 @@
 mod GeneratorLemmas
 mod StartLemmas
-pub mod TableLemmas
+mod TableLemmas
 mod RunLemmas
 mod ProfileLemmas
 mod ShelfLemmas

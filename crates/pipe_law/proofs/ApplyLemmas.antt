@@ -14,7 +14,7 @@ use Rattle.change_script.specs.declared.applying.ApplyFault.{ApplyFault}
 use Rattle.change_script.specs.declared.applying.ApplyFault.TheVariants.{KeyLength}
 use Rattle.change_script.specs.Applied.{wrong_key, key_fault, line_fault, unless, applied_line, applied_behind, applied}
 use Rattle.change_script.specs.Reading.{HasKeyText}
-use Rattle.view_answers.specs.Answers.{Said, Tells, Scripts, Syncs}
+use Rattle.opened_view.specs.Answers.{Said, Tells, Scripts, Syncs}
 use Rattle.upkeep_law.specs.Promises.{TakesBy}
 use Rattle.pipe_law.proofs.TellingLemmas.{lines_in}
 

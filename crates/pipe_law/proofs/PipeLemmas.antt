@@ -32,7 +32,7 @@ use Rattle.view_session.specs.Session.{tables_of}
 use Rattle.view_session.proofs.UpkeepLemmas.{meaning_in_order}
 use Rattle.plain_commands.specs.Applying as applying
 use Rattle.plain_commands.specs.Scripts.{script_said}
-use Rattle.view_answers.specs.Answers.{Answer, answer, answers_to, finish}
+use Rattle.opened_view.specs.Answers.{Answer, answer, answers_to, finish}
 use Rattle.plain_commands.specs.Applies.{IsApplied, apply_opening, named_by}
 use Rattle.ss_top.specs.Commands.{Apply}
 use Rattle.course.specs.Course.{by_lines}
@@ -45,7 +45,7 @@ use Rattle.view_stages.specs.Opened.{folder_of, view_at_first}
 use Rattle.ss_top.specs.Runs.{of_view, course_of}
 use Rattle.view_stages.specs.Stages.{DefinitionOrRefusal, files_of_view}
 use Rattle.course.specs.declared.exit.Status.{Status}
-use Rattle.view_answers.proofs.AnswerCases.{answer_query}
+use Rattle.opened_view.proofs.AnswerCases.{answer_query}
 use Rattle.upkeep_law.proofs.TakeLemmas.{definition_of_profile, meaning_fits_form}
 use Rattle.pipe_law.specs.Law.{HavePlainHeaders, IsPiped, PipedViewsFollow}
 use Rattle.pipe_law.proofs.ApplyLemmas.{applied_both, keys_applied, tables_applied, takes_along}

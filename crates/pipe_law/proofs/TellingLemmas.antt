@@ -23,12 +23,12 @@ use Rattle.source_law.proofs.AfterLemmas.{Silent}
 use Rattle.source_law.specs.Synced.{saving}
 use Rattle.ss_print.specs.Printing.{says, lines_text, script_rows, prints_script, prints_synced}
 use Rattle.plain_commands.specs.Scripts.{script_said}
-use Rattle.view_answers.specs.Answers.{Answer, Said, Tells, Scripts, Syncs, answer, syncing, end_effects, end_view, finish}
+use Rattle.opened_view.specs.Answers.{Answer, Said, Tells, Scripts, Syncs, answer, syncing, end_effects, end_view, finish}
 use Rattle.view_stages.specs.Syncs.{sync_effects}
 use Rattle.view_stages.specs.Open.{OpenValue}
 use Rattle.view_stages.specs.Opening.{opening_effects}
 use Rattle.upkeep_law.specs.Promises.{printed_by}
-use Rattle.view_answers.proofs.AnswerCases.{answer_case, end_case}
+use Rattle.opened_view.proofs.AnswerCases.{answer_case, end_case}
 use Rattle.upkeep_law.proofs.KeptLemmas.{printed_append}
 use Rattle.view_session.specs.Session.{tables_of, lines_to, working}
 use Rattle.schema_model.specs.Changes.{after}

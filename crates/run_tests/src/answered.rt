@@ -6,7 +6,7 @@ use outside::{StoreFault, SureSource};
 use std::alloc::Global;
 
 // Changes that are made, and some that the view refuses.
-const CHANGED: [(Row, &str); 6] = [
+const CHANGED: &[(Row, &str)] = &[
     (
         Row {
             words: &["maintain", "AtoB"],
@@ -110,7 +110,7 @@ const CHANGED: [(Row, &str); 6] = [
 ];
 
 // Lines as they are read, and changes that the sources refuse.
-const READ: [(Row, &str); 7] = [
+const READ: &[(Row, &str)] = &[
     (
         Row {
             words: &["maintain", "AtoB"],
@@ -239,12 +239,12 @@ pub fn first_difference(
 
 #[test]
 fn changes_are_answered(rt: HostRuntime) -> Result<(), StoreFault> {
-    assert_eq!(rt; first_difference(rt.alloc(), &CHANGED)?, None);
+    assert_eq!(rt; first_difference(rt.alloc(), CHANGED)?, None);
     Ok(())
 }
 
 #[test]
 fn lines_are_read(rt: HostRuntime) -> Result<(), StoreFault> {
-    assert_eq!(rt; first_difference(rt.alloc(), &READ)?, None);
+    assert_eq!(rt; first_difference(rt.alloc(), READ)?, None);
     Ok(())
 }

@@ -26,7 +26,7 @@ const FOLDER: [File; 2] = [A_TO_B, ("views/AtoB", "salInfo.csv", COLUMNS)];
 const SAME: [(&str, &str); 1] = [("salInfo.csv", COLUMNS)];
 
 // Scripts that are applied.
-const TAKEN: [Applied; 5] = [
+const TAKEN: &[Applied] = &[
     Applied {
         files: &FOLDER,
         input: NEW_DEPARTMENT,
@@ -83,7 +83,7 @@ const TAKEN: [Applied; 5] = [
 ];
 
 // Lines that are refused: all before them changes nothing.
-const REFUSED: [Applied; 12] = [
+const REFUSED: &[Applied] = &[
     Applied {
         files: &[
             A_TO_B,
@@ -214,7 +214,7 @@ fn unwanted(alloc: Global, applied: &Applied) -> Result<&'static str, StoreFault
 #[test]
 fn scripts_are_applied(rt: HostRuntime) -> Result<(), StoreFault> {
     let alloc = rt.alloc();
-    for applied in &TAKEN {
+    for applied in TAKEN {
         let found = unwanted(alloc, applied)?;
         assert_eq!(rt; found, "nothing", "at {}", applied.input);
     }
@@ -224,7 +224,7 @@ fn scripts_are_applied(rt: HostRuntime) -> Result<(), StoreFault> {
 #[test]
 fn refused_scripts_change_nothing(rt: HostRuntime) -> Result<(), StoreFault> {
     let alloc = rt.alloc();
-    for refused in &REFUSED {
+    for refused in REFUSED {
         let found = unwanted(alloc, refused)?;
         assert_eq!(rt; found, "nothing", "at {}", refused.input);
     }

@@ -5,7 +5,7 @@ use outside::StoreFault;
 use std::alloc::Global;
 
 // Definitions that are refused: by their text, and by the kinds of their names.
-const REFUSED: [Row; 6] = [
+const REFUSED: &[Row] = &[
     Row {
         words: &["check", "V"],
         files: &[(
@@ -89,7 +89,7 @@ const REFUSED: [Row; 6] = [
 ];
 
 // Definitions that are refused for their header or for a fold.
-const REFUSED_HEADERS: [Row; 6] = [
+const REFUSED_HEADERS: &[Row] = &[
     Row {
         words: &["check", "V"],
         files: &[(
@@ -177,7 +177,7 @@ const REFUSED_HEADERS: [Row; 6] = [
 ];
 
 // Definitions that are printed, and one that is too deep.
-const CHECKED: [Row; 6] = [
+const CHECKED: &[Row] = &[
     Row {
         words: &["check", "AtoB"],
         files: &[A_TO_B],
@@ -261,7 +261,7 @@ const CHECKED: [Row; 6] = [
 ];
 
 // Folders that hold what they should, and some that do not.
-const VERIFIED: [Row; 5] = [
+const VERIFIED: &[Row] = &[
     Row {
         words: &["verify", "AtoB"],
         files: &[
@@ -390,7 +390,7 @@ const WORDS: [Row; 3] = [
 ];
 
 // Runs of changes that a number and a seed tell, and numbers that are not lawful.
-const LOADED: [Row; 7] = [
+const LOADED: &[Row] = &[
     Row {
         words: &["load", "1000", "7"],
         files: &[],
@@ -464,7 +464,7 @@ const LOADED: [Row; 7] = [
 ];
 
 // More views that are shown, and some that are refused.
-const SHOWN: [Row; 7] = [
+const SHOWN: &[Row] = &[
     Row {
         words: &["show", "BtoA"],
         files: &[
@@ -601,20 +601,20 @@ fn first_difference(
 
 #[test]
 fn definitions_are_refused(rt: HostRuntime) -> Result<(), StoreFault> {
-    assert_eq!(rt; first_difference(rt.alloc(), &REFUSED)?, None);
-    assert_eq!(rt; first_difference(rt.alloc(), &REFUSED_HEADERS)?, None);
+    assert_eq!(rt; first_difference(rt.alloc(), REFUSED)?, None);
+    assert_eq!(rt; first_difference(rt.alloc(), REFUSED_HEADERS)?, None);
     Ok(())
 }
 
 #[test]
 fn definitions_are_checked(rt: HostRuntime) -> Result<(), StoreFault> {
-    assert_eq!(rt; first_difference(rt.alloc(), &CHECKED)?, None);
+    assert_eq!(rt; first_difference(rt.alloc(), CHECKED)?, None);
     Ok(())
 }
 
 #[test]
 fn folders_are_verified(rt: HostRuntime) -> Result<(), StoreFault> {
-    assert_eq!(rt; first_difference(rt.alloc(), &VERIFIED)?, None);
+    assert_eq!(rt; first_difference(rt.alloc(), VERIFIED)?, None);
     Ok(())
 }
 
@@ -626,12 +626,12 @@ fn words_are_refused(rt: HostRuntime) -> Result<(), StoreFault> {
 
 #[test]
 fn runs_of_changes_are_summed_up(rt: HostRuntime) -> Result<(), StoreFault> {
-    assert_eq!(rt; first_difference(rt.alloc(), &LOADED)?, None);
+    assert_eq!(rt; first_difference(rt.alloc(), LOADED)?, None);
     Ok(())
 }
 
 #[test]
 fn more_views_are_shown(rt: HostRuntime) -> Result<(), StoreFault> {
-    assert_eq!(rt; first_difference(rt.alloc(), &SHOWN)?, None);
+    assert_eq!(rt; first_difference(rt.alloc(), SHOWN)?, None);
     Ok(())
 }

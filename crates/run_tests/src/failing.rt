@@ -8,7 +8,7 @@ use std::alloc::Global;
 
 const SOURCE: &str = "category,dept,salFloor\nProf,cs,72000\nProf,math,65000\nAssoc,cs,60000\n";
 
-const FILES: [File; 4] = [
+const FILES: &[File] = &[
     A_TO_C,
     ("sources/univ-A", "salInfo.csv", SOURCE),
     ("views/AtoC", "notes.txt", "keep\n"),
@@ -35,7 +35,7 @@ const UNREAD: Want = Want {
     held: &[("notes.txt", "keep\n"), ("old.csv", "x\n")],
 };
 
-const READS: [(u8, Want); 6] = [
+const READS: &[(u8, Want)] = &[
     (1, UNREAD),
     (2, UNREAD),
     (3, UNREAD),
@@ -45,7 +45,7 @@ const READS: [(u8, Want); 6] = [
 ];
 
 // Where a call that writes fails: two files, of which half is left, and a removal.
-const WRITES: [(u8, Want); 4] = [
+const WRITES: &[(u8, Want)] = &[
     (
         1,
         Want {
@@ -91,7 +91,7 @@ const WRITES: [(u8, Want); 4] = [
 ];
 
 // Where a call that prints fails. The output takes four bytes a call.
-const PRINTS: [(u8, Want); 4] = [
+const PRINTS: &[(u8, Want)] = &[
     (
         1,
         Want {
@@ -134,7 +134,7 @@ fn difference(alloc: Global, world: &mut World, want: &Want) -> Result<&'static 
 }
 
 fn failing(alloc: Global, calls: Calls, call: u8, want: &Want) -> Result<&'static str, StoreFault> {
-    let mut world = World::failing(alloc, &FILES, &[], 4, calls, call)?;
+    let mut world = World::failing(alloc, FILES, &[], 4, calls, call)?;
     let found = difference(alloc, &mut world, want);
     drop(world);
     found
@@ -142,7 +142,7 @@ fn failing(alloc: Global, calls: Calls, call: u8, want: &Want) -> Result<&'stati
 
 #[test]
 fn each_read_fails(rt: HostRuntime) -> Result<(), StoreFault> {
-    for (call, want) in &READS {
+    for (call, want) in READS {
         assert_eq!(rt;
             failing(rt.alloc(), Calls::Reads, *call, want)?,
             "nothing",
@@ -154,7 +154,7 @@ fn each_read_fails(rt: HostRuntime) -> Result<(), StoreFault> {
 
 #[test]
 fn each_write_fails(rt: HostRuntime) -> Result<(), StoreFault> {
-    for (call, want) in &WRITES {
+    for (call, want) in WRITES {
         assert_eq!(rt;
             failing(rt.alloc(), Calls::Writes, *call, want)?,
             "nothing",
@@ -166,7 +166,7 @@ fn each_write_fails(rt: HostRuntime) -> Result<(), StoreFault> {
 
 #[test]
 fn each_print_fails(rt: HostRuntime) -> Result<(), StoreFault> {
-    for (call, want) in &PRINTS {
+    for (call, want) in PRINTS {
         assert_eq!(rt;
             failing(rt.alloc(), Calls::Prints, *call, want)?,
             "nothing",

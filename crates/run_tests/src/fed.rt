@@ -9,7 +9,7 @@ const SAME: &str = "category,cs,math\nAssoc,60000,\nProf,72000,65000\n";
 const PHYSICS: &str = "category,cs,math,physics\nAssoc,60000,,\nProf,72000,65000,70000\n";
 
 // What is replied, and how lines are refused.
-const FED: [(Row, &str); 6] = [
+const FED: &[(Row, &str)] = &[
     // A change that comes again, and one before its turn.
     (
         Row {
@@ -101,6 +101,6 @@ const FED: [(Row, &str); 6] = [
 
 #[test]
 fn feeds_are_answered(rt: HostRuntime) -> Result<(), StoreFault> {
-    assert_eq!(rt; first_difference(rt.alloc(), &FED)?, None);
+    assert_eq!(rt; first_difference(rt.alloc(), FED)?, None);
     Ok(())
 }

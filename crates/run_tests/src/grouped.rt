@@ -7,7 +7,7 @@ use outside::StoreFault;
 const SAME: &str = "category,cs,math\nAssoc,60000,\nProf,72000,65000\n";
 
 // What groups change, and how they are refused.
-const GROUPED: [(Row, &str); 4] = [
+const GROUPED: &[(Row, &str)] = &[
     // A value that would be in conflict half way is exchanged.
     (
         Row {
@@ -71,6 +71,6 @@ const GROUPED: [(Row, &str); 4] = [
 
 #[test]
 fn groups_are_answered(rt: HostRuntime) -> Result<(), StoreFault> {
-    assert_eq!(rt; first_difference(rt.alloc(), &GROUPED)?, None);
+    assert_eq!(rt; first_difference(rt.alloc(), GROUPED)?, None);
     Ok(())
 }

@@ -52,7 +52,7 @@ const MORE_COLUMNS: Held = (
     )],
 );
 
-const RUNS: [Journaled; 11] = [
+const RUNS: &[Journaled] = &[
     // A change is kept, and the sources stay.
     Journaled {
         words: &["journal", "AtoB"],
@@ -247,6 +247,6 @@ fn first_difference(
 
 #[test]
 fn journals_are_kept(rt: HostRuntime) -> Result<(), StoreFault> {
-    assert_eq!(rt; first_difference(rt.alloc(), &RUNS)?, None);
+    assert_eq!(rt; first_difference(rt.alloc(), RUNS)?, None);
     Ok(())
 }

@@ -43,7 +43,7 @@ const WELL: (u8, &str, &str) = (
 
 // The number of the call of the disk that fails, what all bytes in doubt are after the stop, how the run ends, and what a
 // second run shows. The calls are: the entry is written, it is synced, it is opened, that is synced. The call 5 is none.
-const STOPPED: [(u8, u8, (u8, &str, &str), &str); 10] = [
+const STOPPED: &[(u8, u8, (u8, &str, &str), &str)] = &[
     (1, 0, HELD_UP, COLUMNS),
     (1, 1, HELD_UP, COLUMNS),
     (2, 0, HELD_UP, COLUMNS),
@@ -109,7 +109,7 @@ fn stopped(
 
 #[test]
 fn a_stop_keeps_what_was_answered(rt: HostRuntime) -> Result<(), StoreFault> {
-    for (call, fill, end, again) in STOPPED {
+    for &(call, fill, end, again) in STOPPED {
         assert_eq!(rt;
             stopped(rt.alloc(), call, fill, end, again)?,
             "nothing",
@@ -205,7 +205,7 @@ fn failing(
     end
 }
 
-const KINDS: [(Calls, Status); 4] = [
+const KINDS: &[(Calls, Status)] = &[
     (Calls::Reads, Status::ReadFault),
     (Calls::Writes, Status::WriteFault),
     (Calls::Input, Status::ReadFault),
@@ -226,7 +226,7 @@ fn first_unwanted(alloc: Global, calls: Calls, status: Status) -> Result<Option<
 
 #[test]
 fn each_call_fails(rt: HostRuntime) -> Result<(), StoreFault> {
-    for (calls, status) in KINDS {
+    for &(calls, status) in KINDS {
         assert_eq!(rt;
             first_unwanted(rt.alloc(), calls, status)?,
             None,

@@ -14,7 +14,7 @@ const MORE_SOURCE: &str =
 
 const FILES: [File; 2] = [A_TO_C, ("sources/univ-A", "salInfo.csv", SOURCE)];
 // A change, a sync, and a table that comes and goes before the next one.
-const LINES: [&str; 4] = [
+const LINES: &[&str] = &[
     "insert\tuniv-A\tsalInfo\tLect\tmath\t1\n",
     "sync\n",
     "insert\tuniv-A\tsalInfo\tLect\tbio\t2\n",
@@ -60,7 +60,7 @@ const UNREAD: Want = Want {
     held: &[],
 };
 
-const READS: [Failing; 6] = [
+const READS: &[Failing] = &[
     (1, SOURCE, UNREAD),
     (2, SOURCE, UNREAD),
     (3, SOURCE, UNREAD),
@@ -71,7 +71,7 @@ const READS: [Failing; 6] = [
 
 // Where a call that writes fails: two files of the opening, the sources and a file at the sync line, and the sources
 // and a removal at the end.
-const WRITES: [Failing; 7] = [
+const WRITES: &[Failing] = &[
     (
         1,
         SOURCE,
@@ -136,7 +136,7 @@ const WRITES: [Failing; 7] = [
 ];
 
 // Where a read of the input fails: each line comes by a read of its own, and then the end.
-const INPUTS: [Failing; 6] = [
+const INPUTS: &[Failing] = &[
     (
         1,
         SOURCE,
@@ -208,7 +208,7 @@ fn difference(
 
 fn failing_at(alloc: Global, calls: Calls, failing: &Failing) -> Result<&'static str, StoreFault> {
     let (call, source, want) = failing;
-    let mut world = World::failing(alloc, &FILES, &LINES, 7, calls, *call)?;
+    let mut world = World::failing(alloc, &FILES, LINES, 7, calls, *call)?;
     let found = difference(alloc, &mut world, source, want);
     drop(world);
     found
@@ -226,7 +226,7 @@ fn end_of(alloc: Global, world: &mut World) -> Result<u8, StoreFault> {
 
 // How a run ends of which a call that prints fails.
 fn failing_print(alloc: Global, call: u8) -> Result<u8, StoreFault> {
-    let mut world = World::failing(alloc, &FILES, &LINES, 7, Calls::Prints, call)?;
+    let mut world = World::failing(alloc, &FILES, LINES, 7, Calls::Prints, call)?;
     let end = end_of(alloc, &mut world);
     drop(world);
     end
@@ -234,7 +234,7 @@ fn failing_print(alloc: Global, call: u8) -> Result<u8, StoreFault> {
 
 #[test]
 fn each_read_fails(rt: HostRuntime) -> Result<(), StoreFault> {
-    for failing in &READS {
+    for failing in READS {
         assert_eq!(rt;
             failing_at(rt.alloc(), Calls::Reads, failing)?,
             "nothing",
@@ -247,7 +247,7 @@ fn each_read_fails(rt: HostRuntime) -> Result<(), StoreFault> {
 
 #[test]
 fn each_write_fails(rt: HostRuntime) -> Result<(), StoreFault> {
-    for failing in &WRITES {
+    for failing in WRITES {
         assert_eq!(rt;
             failing_at(rt.alloc(), Calls::Writes, failing)?,
             "nothing",
@@ -260,7 +260,7 @@ fn each_write_fails(rt: HostRuntime) -> Result<(), StoreFault> {
 
 #[test]
 fn each_read_of_the_input_fails(rt: HostRuntime) -> Result<(), StoreFault> {
-    for failing in &INPUTS {
+    for failing in INPUTS {
         assert_eq!(rt;
             failing_at(rt.alloc(), Calls::Input, failing)?,
             "nothing",

@@ -172,7 +172,7 @@ const SHOWN: [Row; 10] = [
 ];
 
 // Sources of which there is little, and sources in another dress.
-const SOURCES: [Row; 5] = [
+const SOURCES: &[Row] = &[
     Row {
         words: &["show", "AtoB"],
         files: &[A_TO_B],
@@ -225,7 +225,7 @@ const SOURCES: [Row; 5] = [
 ];
 
 // Sources that are refused. The view folder stays.
-const REFUSED: [Row; 4] = [
+const REFUSED: &[Row] = &[
     Row {
         words: &["show", "AtoB"],
         files: &[

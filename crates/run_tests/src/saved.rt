@@ -9,7 +9,7 @@ use ss_text::{NoMemory, Text};
 use std::alloc::Global;
 
 // A row comes, an attribute gets another name and keeps its place, and a database another name.
-const SAVED: [(Row, &str); 5] = [
+const SAVED: &[(Row, &str)] = &[
     (
         Row {
             words: &["maintain", "AtoB"],
@@ -121,7 +121,7 @@ fn status_at(
 
 #[test]
 fn sources_are_saved(rt: HostRuntime) -> Result<(), StoreFault> {
-    assert_eq!(rt; first_difference(rt.alloc(), &SAVED)?, None);
+    assert_eq!(rt; first_difference(rt.alloc(), SAVED)?, None);
     Ok(())
 }
 

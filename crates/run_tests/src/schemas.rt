@@ -5,7 +5,7 @@ use crate::row::{Row, Want};
 use outside::StoreFault;
 
 // What each changes of the view, and what is refused.
-const SCHEMAS: [(Row, &str); 11] = [
+const SCHEMAS: &[(Row, &str)] = &[
     (
         Row {
             words: &["maintain", "CtoA"],
@@ -182,6 +182,6 @@ const SCHEMAS: [(Row, &str); 11] = [
 
 #[test]
 fn schemas_are_changed(rt: HostRuntime) -> Result<(), StoreFault> {
-    assert_eq!(rt; first_difference(rt.alloc(), &SCHEMAS)?, None);
+    assert_eq!(rt; first_difference(rt.alloc(), SCHEMAS)?, None);
     Ok(())
 }

@@ -48,7 +48,7 @@ const VALUES: &str =
 const MORE_VALUES: &str =
     "category,dept,salFloor\nAssoc,cs,60000\nAssoc,math,\nAssoc,physics,\nProf,cs,72000\nProf,math,65000\nProf,physics,70000\n";
 
-const RUNS: [Stacked; 8] = [
+const RUNS: &[Stacked] = &[
     // A row is a column and a cell of the first view, and two rows of the second.
     Stacked {
         words: &["stack", "AtoB", "Back"],
@@ -214,6 +214,6 @@ fn first_difference(
 
 #[test]
 fn stacks_are_kept(rt: HostRuntime) -> Result<(), StoreFault> {
-    assert_eq!(rt; first_difference(rt.alloc(), &RUNS)?, None);
+    assert_eq!(rt; first_difference(rt.alloc(), RUNS)?, None);
     Ok(())
 }

@@ -71,7 +71,7 @@ const UNREAD: Left = Left {
 
 // What is left where a call that reads fails, by its number: both definitions, the databases, the relations, the relation,
 // and both folders. All of them come before the first write.
-const READS: [(u8, Left); 8] = [
+const READS: &[(u8, Left)] = &[
     (1, UNREAD),
     (2, UNREAD),
     (3, UNREAD),
@@ -84,7 +84,7 @@ const READS: [(u8, Left); 8] = [
 
 // Where a call that writes fails: a file of each level at the opening, the source and a file of each level at the sync line,
 // and at the end the sources, of which nothing is left to save. Half of a file is left.
-const WRITES: [(u8, Left); 7] = [
+const WRITES: &[(u8, Left)] = &[
     (
         1,
         Left {
@@ -149,7 +149,7 @@ const WRITES: [(u8, Left); 7] = [
 ];
 
 // Where a read of the input fails: each line comes by a read of its own, and then the end.
-const INPUTS: [(u8, Left); 4] = [
+const INPUTS: &[(u8, Left)] = &[
     (
         1,
         Left {
@@ -234,7 +234,7 @@ fn failing_print(alloc: Global, call: u8) -> Result<u8, StoreFault> {
 
 #[test]
 fn each_read_fails(rt: HostRuntime) -> Result<(), StoreFault> {
-    for (call, want) in &READS {
+    for (call, want) in READS {
         assert_eq!(rt;
             failing_at(rt.alloc(), Calls::Reads, *call, want)?,
             "nothing",
@@ -246,7 +246,7 @@ fn each_read_fails(rt: HostRuntime) -> Result<(), StoreFault> {
 
 #[test]
 fn each_write_fails(rt: HostRuntime) -> Result<(), StoreFault> {
-    for (call, want) in &WRITES {
+    for (call, want) in WRITES {
         assert_eq!(rt;
             failing_at(rt.alloc(), Calls::Writes, *call, want)?,
             "nothing",
@@ -258,7 +258,7 @@ fn each_write_fails(rt: HostRuntime) -> Result<(), StoreFault> {
 
 #[test]
 fn each_read_of_the_input_fails(rt: HostRuntime) -> Result<(), StoreFault> {
-    for (call, want) in &INPUTS {
+    for (call, want) in INPUTS {
         assert_eq!(rt;
             failing_at(rt.alloc(), Calls::Input, *call, want)?,
             "nothing",

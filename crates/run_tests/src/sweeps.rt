@@ -24,7 +24,7 @@ const COLUMNS: File = (
     "category,cs,math\nAssoc,60000,\nProf,72000,65000\n",
 );
 
-const RUNS: [Swept; 9] = [
+const RUNS: &[Swept] = &[
     Swept {
         words: &["show", "AtoC"],
         files: &[A_TO_C, A, ("views/AtoC", "old.csv", "x\n")],
@@ -126,7 +126,7 @@ const RUNS: [Swept; 9] = [
     },
 ];
 
-const KINDS: [Calls; 4] = [Calls::Reads, Calls::Writes, Calls::Input, Calls::Prints];
+const KINDS: &[Calls] = &[Calls::Reads, Calls::Writes, Calls::Input, Calls::Prints];
 
 // How a run ended: as it does where no call fails, stopped by one and made good, or otherwise.
 enum End {
@@ -204,7 +204,7 @@ fn first_unwanted(
 #[test]
 fn each_call_fails(rt: HostRuntime) -> Result<(), StoreFault> {
     for (place, run) in RUNS.iter().enumerate() {
-        for calls in KINDS {
+        for &calls in KINDS {
             assert_eq!(rt; first_unwanted(rt.alloc(), run, calls)?, None, "at {place}");
         }
     }

@@ -85,9 +85,7 @@ pub fn print_begun<K: Sink>(alloc: Global, output: &mut K) -> Result<(), Stop>
     ensures does { (s : _) → Does (prints_begun ∷ []) (world_of s (K.state output.old)) (world_of s (K.state output.new)) result }
     ensures blames { SinkBlames (K.state output.old) (K.state output.new) result }
 {
-    let row = word_row(alloc, b"begun")?;
-    say(alloc, output, &row)?;
-    Ok(())
+    print(alloc, output, b"begun\n")
 }
 
 /// Prints that a group holds a change.
@@ -96,9 +94,7 @@ pub fn print_held<K: Sink>(alloc: Global, output: &mut K) -> Result<(), Stop>
     ensures does { (s : _) → Does (prints_held ∷ []) (world_of s (K.state output.old)) (world_of s (K.state output.new)) result }
     ensures blames { SinkBlames (K.state output.old) (K.state output.new) result }
 {
-    let row = word_row(alloc, b"held")?;
-    say(alloc, output, &row)?;
-    Ok(())
+    print(alloc, output, b"held\n")
 }
 
 /// Prints that a group is given up.
@@ -107,18 +103,7 @@ pub fn print_aborted<K: Sink>(alloc: Global, output: &mut K) -> Result<(), Stop>
     ensures does { (s : _) → Does (prints_aborted ∷ []) (world_of s (K.state output.old)) (world_of s (K.state output.new)) result }
     ensures blames { SinkBlames (K.state output.old) (K.state output.new) result }
 {
-    let row = word_row(alloc, b"aborted")?;
-    say(alloc, output, &row)?;
-    Ok(())
-}
-
-// A word.
-fn word_row(alloc: Global, word: &[u8]) -> Result<Row, NoMemory>
-    ensures { IfOk result (λ row. row ≡ word.now ∷ []) }
-{
-    let mut row = Vec::new(alloc);
-    row.push(Text::of(alloc, word)?)?;
-    Ok(Row::of(row))
+    print(alloc, output, b"aborted\n")
 }
 
 /// Prints that so many lines were applied, and that a sync wrote and removed so many files.

@@ -24,10 +24,10 @@ use Rattle.plain_commands.specs.Checking.{checked}
 use Rattle.plain_commands.specs.Verifying.{verified}
 use Rattle.plain_commands.specs.Applies.{apply_opening}
 use Rattle.plain_commands.proofs.WithinLemmas.{show_over, apply_over, apply_so_far, verify_over}
-use Rattle.view_answers.specs.Answers.{step, finish}
+use Rattle.opened_view.specs.Answers.{step, finish}
 use Rattle.upkeep_law.specs.Promises.{sources_exempt}
 use Rattle.upkeep_law.proofs.WithinLemmas.{maintain_over, so_far_over}
-use Rattle.view_answers.specs.Steps.{starting}
+use Rattle.opened_view.specs.Steps.{starting}
 use Rattle.stack_answers.specs.Answers as stack
 use Rattle.stack_answers.specs.Opening as stack_opening
 use Rattle.stack_law.specs.Promises.{sources_stacked}

@@ -16,13 +16,13 @@ use Rattle.view_stages.specs.Opening.{opening, done_at_once}
 use Rattle.view_stages.specs.Opened.{folder_of, view_exempt}
 use Rattle.view_stages.specs.Places.{Exempt}
 use Rattle.view_stages.proofs.StoppedLemmas.{Stopped, printed}
-use Rattle.view_answers.specs.Answers.{step, finish}
+use Rattle.opened_view.specs.Answers.{step, finish}
 use Rattle.plain_commands.specs.Verifying.{verified}
 use Rattle.plain_commands.specs.Applies.{apply_opening}
 use Rattle.plain_commands.proofs.StopLemmas.{show_over, check_definition, verify_over, apply_over}
 use Rattle.upkeep_law.specs.Behind.{stages_from}
 use Rattle.upkeep_law.proofs.StopLemmas.{maintain_over}
-use Rattle.view_answers.specs.Steps.{starting}
+use Rattle.opened_view.specs.Steps.{starting}
 use Rattle.stack_answers.specs.Answers as stack
 use Rattle.stack_answers.specs.Opening as stack_opening
 use Rattle.stack_law.specs.Behind.{stack_stages_from}

@@ -13,14 +13,14 @@ use Rattle.course.specs.Idle.{Unchanged}
 use Rattle.course.proofs.RefusedLemmas.{some_refused}
 use Rattle.view_stages.specs.Opening.{opening, done_at_once}
 use Rattle.view_stages.proofs.RefusedLemmas.{opening_unchanged}
-use Rattle.view_answers.specs.Answers.{step, finish}
+use Rattle.opened_view.specs.Answers.{step, finish}
 use Rattle.plain_commands.specs.Checking.{checked}
 use Rattle.plain_commands.specs.Loads.{loaded}
 use Rattle.plain_commands.specs.Verifying.{verified}
 use Rattle.plain_commands.specs.Applies.{apply_opening}
 use Rattle.plain_commands.proofs.RefusedLemmas.{check_unchanged, verify_unchanged, apply_unchanged}
 use Rattle.upkeep_law.proofs.RefusedLemmas.{lines_unrefused}
-use Rattle.view_answers.specs.Steps.{starting}
+use Rattle.opened_view.specs.Steps.{starting}
 use Rattle.stack_answers.specs.Answers as stack
 use Rattle.stack_answers.specs.Opening as stack_opening
 use Rattle.stack_law.proofs.RefusedLemmas.{stack_unchanged}

@@ -18,7 +18,7 @@ use Rattle.course.specs.Idle.{Unchanged}
 use Rattle.view_stages.specs.Opened.{Keeps, view_exempt}
 use Rattle.view_stages.specs.Opening.{IsDefinition, definition_bytes}
 use Rattle.view_stages.specs.Stages.{DefinitionOrRefusal}
-use Rattle.view_answers.specs.Limits.{StepsBy}
+use Rattle.opened_view.specs.Limits.{StepsBy}
 use Rattle.journal_answers.specs.Answers.{step, note, finish}
 use Rattle.journal_answers.specs.Kept.{KeptOpened}
 use Rattle.journal_answers.specs.Limits.{limit}

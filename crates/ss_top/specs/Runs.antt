@@ -10,9 +10,9 @@ use Rattle.plain_commands.specs.Applying as applying
 use Rattle.course.specs.Course.{Course, unread, by_lines}
 use Rattle.view_stages.specs.Stages.{DefinitionOrRefusal}
 use Rattle.view_stages.specs.Opening.{IsDefinition, definition_bytes, opening, done_at_once}
-use Rattle.view_answers.specs.Answers.{step, finish}
-use Rattle.view_answers.specs.Limits.{StepsBehind, StepsBy}
-use Rattle.view_answers.specs.Steps.{starting}
+use Rattle.opened_view.specs.Answers.{step, finish}
+use Rattle.opened_view.specs.Limits.{StepsBehind, StepsBy}
+use Rattle.opened_view.specs.Steps.{starting}
 use Rattle.stack_answers.specs.Answers as stack
 use Rattle.stack_answers.specs.Opening as stack_opening
 use Rattle.feed_answers.specs.Answers as feed

@@ -25,10 +25,10 @@ use Rattle.view_session.specs.declared.fault.HoldRefused.TheVariants as hold
 use Rattle.ss_print.specs.Fields.{escape_fields, first_field, line_fields, group_broken_fields, open_group_fields}
 use Rattle.ss_print.specs.Printing.{refuses, prints_held}
 use Rattle.ss_print.specs.LevelLines.{refuses_at, prints_scripts}
-use Rattle.view_answers.specs.declared.word.Word.{Word}
-use Rattle.view_answers.specs.Answers.{word_in}
-use Rattle.view_answers.specs.Steps.{IsHoldFieldsOf}
-use Rattle.view_answers.proofs.AnswerLemmas.{unread, behind}
+use Rattle.opened_view.specs.declared.word.Word.{Word}
+use Rattle.opened_view.specs.Answers.{word_in}
+use Rattle.opened_view.specs.Steps.{IsHoldFieldsOf}
+use Rattle.opened_view.proofs.AnswerLemmas.{unread, behind}
 use Rattle.stack_levels.specs.Levels.{lines_over, changing_refusal}
 use Rattle.stack_levels.specs.Taking.{AreRefused}
 use Rattle.stack_levels.specs.declared.refusal.LevelRefusal.{LevelRefusal}

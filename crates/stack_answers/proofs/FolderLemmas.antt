@@ -21,7 +21,7 @@ use Rattle.view_folder.specs.Files.{is_named, is_csv_name, file_name, other_name
 use Rattle.view_folder.specs.TableFiles.{table_file, table_files, table_text}
 use Rattle.view_folder.specs.Sync.{has_table, tables_first, label_synced, later_sync, opening_sync, opening_count, written, removed}
 use Rattle.view_folder.proofs.LaterLemmas.{same_file}
-use Rattle.view_answers.proofs.ViewLemmas.{none_open}
+use Rattle.opened_view.proofs.ViewLemmas.{none_open}
 use Rattle.view_stages.specs.Stages.{files_of_view}
 use Rattle.view_stack.specs.Stands.{given_by}
 use Rattle.stack_levels.specs.Levels.{tables_over}

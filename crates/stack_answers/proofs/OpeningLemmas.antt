@@ -17,7 +17,7 @@ use Rattle.view_def.specs.Query.{Query}
 use Rattle.view_stages.specs.Stages.{loaded_or_refused}
 use Rattle.ss_print.specs.Printing.{refuses, prints_synced}
 use Rattle.view_stack.specs.Stands.{given_by}
-use Rattle.view_answers.proofs.AnswerLemmas.{behind}
+use Rattle.opened_view.proofs.AnswerLemmas.{behind}
 use Rattle.stack_levels.specs.Levels.{opening_refusal, tables_over}
 use Rattle.stack_levels.specs.Values.{LevelValue, synced_over}
 use Rattle.stack_levels.specs.States.{LevelState, level_tables, lowest_catalogue, views_of}

@@ -9,7 +9,7 @@ use Rattle.outside.specs.declared.stop.Stop.{Stop}
 use Rattle.outside.specs.declared.stop.Stop.TheVariants as stop
 use Rattle.outside.proofs.EffectLemmas.{partly_more}
 use Rattle.course.proofs.FrontLemmas.{partly_whole}
-use Rattle.view_answers.proofs.AnswerLemmas.{behind}
+use Rattle.opened_view.proofs.AnswerLemmas.{behind}
 
 -- nothing
 pub performs_none : {A : Type 0} (s : StoreState) (a : A) → Performs [] s s (Ok a)

@@ -8,7 +8,7 @@ use Rattle.course.specs.declared.status.Halt.TheVariants as halt
 use Rattle.course.specs.Answering.{Continues, AnsweredSome}
 use Rattle.course.specs.Statuses.{can_maintain}
 use Rattle.course.specs.Course.{verdict_status, status_of}
-use Rattle.view_answers.proofs.MaintainLemmas.{drove_verdict, stopped_can, done_can}
+use Rattle.opened_view.proofs.MaintainLemmas.{drove_verdict, stopped_can, done_can}
 use Rattle.stack_answers.specs.Stack.{StackState}
 use Rattle.stack_answers.specs.Answers.{step, finish, answer, end_stack}
 

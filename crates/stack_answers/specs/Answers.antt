@@ -20,9 +20,9 @@ use Rattle.course.specs.declared.status.Verdict.TheVariants as verdict
 use Rattle.course.specs.Answering.{Reply, Continues, Ending}
 use Rattle.ss_print.specs.Fields.{escape_fields, first_field, line_fields, refusal_fields, group_broken_fields, open_group_fields, in_group_fields, no_group_fields}
 use Rattle.ss_print.specs.Printing.{prints_begun, prints_held, prints_aborted, prints_synced}
-use Rattle.view_answers.specs.declared.word.Word.{Word}
-use Rattle.view_answers.specs.declared.word.Word.TheVariants as word
-use Rattle.view_answers.specs.Answers.{word_in}
+use Rattle.opened_view.specs.declared.word.Word.{Word}
+use Rattle.opened_view.specs.declared.word.Word.TheVariants as word
+use Rattle.opened_view.specs.Answers.{word_in}
 use Rattle.ss_print.specs.LevelLines.{refuses_at, prints_scripts}
 use Rattle.stack_levels.specs.declared.refusal.LevelRefusal.{LevelRefusal}
 use Rattle.stack_levels.specs.Levels.{refused_at, lines_over, changing_refusal}

@@ -6,7 +6,7 @@ use Rattle.schema_model.specs.declared.change.Change.{Change}
 use Rattle.course.specs.Answering.{Reply, effects_of}
 use Rattle.ss_print.specs.Fields.{refusal_fields}
 use Rattle.course.specs.Course.{verdict_status, is_refused_status}
-use Rattle.view_answers.specs.Steps.{Begins, EndsRun}
+use Rattle.opened_view.specs.Steps.{Begins, EndsRun}
 use Rattle.stack_levels.specs.Levels.{refused_at}
 use Rattle.stack_levels.specs.declared.refusal.LevelRefusal.{LevelRefusal}
 use Rattle.stack_levels.specs.declared.refusal.LevelsRefused.{LevelsRefused}

@@ -27,6 +27,7 @@ use change_draft::Draft;
 use change_script::Script;
 use course::{LineHandler, LineStop, NoDisk, Verdict};
 use csv_catalog::save_changed;
+use opened_view::{line_refusal, word_of};
 use outside::{Folders, Sink, Stop};
 use schema_model::Change;
 use ss_print::{escape_fields, print_scripts, print_synced, refusal_fields, refuse_level};
@@ -37,7 +38,6 @@ use std::marker::Model;
 use std::slice::from_ref;
 use std::sync::ledger::Ledger;
 use tab_lines::{LineFault, read_line};
-use view_answers::{line_refusal, word_of};
 
 mod group;
 
@@ -342,7 +342,7 @@ impl OpenStack {
     }
 
     // Answers a change.
-    #[tactic(auto, using(view_answers::proofs::ViewLemmas::none_open))]
+    #[tactic(auto, using(opened_view::proofs::ViewLemmas::none_open))]
     fn change<K: Sink, L: Ledger>(
         &mut self,
         alloc: Global,

@@ -20,7 +20,7 @@ use std::sync::ledger::Ledger;
 
 /// Opens the views of these names, the lowest first, over one another, and answers the lines of the input in turn. Where a
 /// call fails or memory runs out, a front of the answers is there, and what was under way may have broken off.
-#[tactic(auto, using(view_answers::proofs::MaintainLemmas::opening_ended, view_answers::proofs::MaintainLemmas::opening_stopped, view_answers::proofs::MaintainLemmas::opening_drove, view_answers::proofs::MaintainLemmas::ended_enough, view_answers::proofs::MaintainLemmas::some_ended, view_answers::proofs::MaintainLemmas::some_stopped, view_answers::proofs::MaintainLemmas::some_drove, view_answers::proofs::MaintainLemmas::refused_can, view_answers::proofs::MaintainLemmas::stopped_can, view_answers::proofs::MaintainLemmas::ended_whole, course::proofs::DriveLemmas::blamed_later, course::proofs::DriveLemmas::took_nothing, course::proofs::IdleLemmas::idle_drove))]
+#[tactic(auto, using(opened_view::proofs::MaintainLemmas::opening_ended, opened_view::proofs::MaintainLemmas::opening_stopped, opened_view::proofs::MaintainLemmas::opening_drove, opened_view::proofs::MaintainLemmas::ended_enough, opened_view::proofs::MaintainLemmas::some_ended, opened_view::proofs::MaintainLemmas::some_stopped, opened_view::proofs::MaintainLemmas::some_drove, opened_view::proofs::MaintainLemmas::refused_can, opened_view::proofs::MaintainLemmas::stopped_can, opened_view::proofs::MaintainLemmas::ended_whole, course::proofs::DriveLemmas::blamed_later, course::proofs::DriveLemmas::took_nothing, course::proofs::IdleLemmas::idle_drove))]
 pub fn stack<F: Folders, S: Source, K: Sink, L: Ledger>(
     alloc: Global,
     store: &mut F,

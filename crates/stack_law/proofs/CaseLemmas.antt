@@ -14,9 +14,9 @@ use Rattle.schema_model.specs.declared.change.ChangeFault.TheVariants.{FieldCoun
 use Rattle.schema_model.specs.declared.refusal.Refusal.{Refusal}
 use Rattle.source_law.proofs.FormedLemmas.{formed}
 use Rattle.ss_print.specs.Fields.{escape_fields, first_field, line_fields, refusal_fields, group_broken_fields, in_group_fields, no_group_fields}
-use Rattle.view_answers.specs.declared.word.Word.{Word}
-use Rattle.view_answers.specs.declared.word.Word.TheVariants as word
-use Rattle.view_answers.specs.Answers.{word_in}
+use Rattle.opened_view.specs.declared.word.Word.{Word}
+use Rattle.opened_view.specs.declared.word.Word.TheVariants as word
+use Rattle.opened_view.specs.Answers.{word_in}
 use Rattle.stack_levels.specs.declared.refusal.LevelRefusal.{LevelRefusal}
 use Rattle.stack_levels.specs.Levels.{refused_at, changing_refusal}
 use Rattle.stack_answers.specs.Stack.{StackState, queries_of, working}

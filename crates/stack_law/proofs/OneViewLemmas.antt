@@ -39,10 +39,10 @@ use Rattle.view_stages.specs.Open.{OpenValue, just_opened}
 use Rattle.view_stages.specs.Opening as view_opening
 use Rattle.view_stages.specs.Stages.{DefinitionOrRefusal, refusal_of, loaded_or_refused, files_of_view}
 use Rattle.view_stages.specs.Syncs.{sync_effects, sync_count}
-use Rattle.view_answers.specs.declared.word.Word.{Word}
-use Rattle.view_answers.specs.declared.word.Word.TheVariants as word
-use Rattle.view_answers.specs.Answers as view
-use Rattle.view_answers.specs.Answers.{word_in}
+use Rattle.opened_view.specs.declared.word.Word.{Word}
+use Rattle.opened_view.specs.declared.word.Word.TheVariants as word
+use Rattle.opened_view.specs.Answers as view
+use Rattle.opened_view.specs.Answers.{word_in}
 use Rattle.upkeep_law.proofs.KeptLemmas.{labels_stay}
 use Rattle.ss_print.specs.LevelLines.{level_row, line_count, prints_scripts, stack_rows}
 use Rattle.stack_levels.specs.Levels.{refused_at, changing_refusal, opening_refusal}

@@ -10,8 +10,8 @@ use Rattle.ss_print.specs.Printing.{lines_text, script_rows}
 use Rattle.view_stages.specs.Open.{OpenValue, just_opened}
 use Rattle.view_stages.specs.Opening as view_opening
 use Rattle.view_stages.specs.Stages.{DefinitionOrRefusal}
-use Rattle.view_answers.specs.Answers as view
-use Rattle.view_answers.specs.Answers.{Said, Tells, Scripts, Syncs}
+use Rattle.opened_view.specs.Answers as view
+use Rattle.opened_view.specs.Answers.{Said, Tells, Scripts, Syncs}
 use Rattle.ss_print.specs.LevelLines.{level_row}
 use Rattle.stack_answers.specs.Stack.{StackState}
 use Rattle.stack_answers.specs.Answers as stack

@@ -5,7 +5,7 @@ use Rattle.schema_model.specs.Sound.{IsSound}
 use Rattle.schema_model.proofs.SoundAfter.{sound_after_all}
 use Rattle.view_stages.specs.Open.{OpenValue}
 use Rattle.view_stages.specs.Stages.{refusal_of}
-use Rattle.view_answers.specs.Answers.{Said, Tells, Scripts, Syncs, Answer, synced_view}
+use Rattle.opened_view.specs.Answers.{Said, Tells, Scripts, Syncs, Answer, synced_view}
 use Rattle.upkeep_law.specs.Given.{AreAlike, sync_by, MayGive, AreGiven}
 use Rattle.upkeep_law.specs.Lists.{view_after}
 

@@ -54,7 +54,7 @@ use Rattle.view_stages.specs.Stages.{files_of_view}
 use Rattle.view_stages.specs.Syncs.{view_effects, sync_effects, sync_count}
 use Rattle.view_stages.specs.Opened.{opening_writes}
 use Rattle.view_stages.proofs.StageLemmas.{are_view_files}
-use Rattle.view_answers.specs.Answers.{Said, Tells, Scripts, Syncs, Answer, synced_view, syncing, syncing_view}
+use Rattle.opened_view.specs.Answers.{Said, Tells, Scripts, Syncs, Answer, synced_view, syncing, syncing_view}
 use Rattle.upkeep_law.specs.Given.{IsPrint, AreAlike, Prints, IsSync, sync_by, MayGive, AreGiven}
 use Rattle.upkeep_law.specs.Lists.{effects_by, view_after, writes_by, shown_by, last_shown, synced_by, last_synced}
 use Rattle.upkeep_law.specs.Promises.{printed_by, opening_of, TakesTo}

@@ -19,8 +19,8 @@ use Rattle.ss_print.specs.Fields.{open_group_fields}
 use Rattle.view_stages.specs.Open.{OpenValue}
 use Rattle.view_stages.specs.Stages.{refusal_of}
 use Rattle.view_stages.specs.Syncs.{sync_effects}
-use Rattle.view_answers.specs.Answers.{Said, Tells, Scripts, Syncs, Answer, giving_up, changing, committing, syncing, syncing_view, more_broken, answer, answer_by, answers_by, answers_to, by_open, step, finish, end_view}
-use Rattle.view_answers.proofs.AnswerCases.{answer_case}
+use Rattle.opened_view.specs.Answers.{Said, Tells, Scripts, Syncs, Answer, giving_up, changing, committing, syncing, syncing_view, more_broken, answer, answer_by, answers_by, answers_to, by_open, step, finish, end_view}
+use Rattle.opened_view.proofs.AnswerCases.{answer_case}
 use Rattle.upkeep_law.specs.Given.{AreAlike, Prints, Moves, IsSync, sync_by, MayGive, AreGiven}
 use Rattle.upkeep_law.specs.Lists.{effects_by, shown_by, last_shown, synced_by, last_synced}
 use Rattle.upkeep_law.specs.Promises.{end_answers, view_behind, all_answers, saved_behind, saved_at_end}

@@ -4,7 +4,7 @@ use Rattle.outside.specs.Effects.{Effect}
 use Rattle.schema_model.specs.Catalogue.{CatalogueValue}
 use Rattle.source_law.specs.Synced.{Synced}
 use Rattle.view_stages.specs.Open.{OpenValue}
-use Rattle.view_answers.specs.Answers.{Answer}
+use Rattle.opened_view.specs.Answers.{Answer}
 use Rattle.upkeep_law.specs.Given.{AreGiven}
 use Rattle.upkeep_law.specs.Lists.{effects_by, view_after, shown_by, last_shown, synced_by, last_synced}
 

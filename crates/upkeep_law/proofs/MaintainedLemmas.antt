@@ -20,7 +20,7 @@ use Rattle.course.proofs.RunLemmas.{done_finished}
 use Rattle.view_stages.specs.Open.{OpenValue, just_opened}
 use Rattle.view_stages.specs.Stages.{DefinitionOrRefusal, Accepted, loaded_or_refused, refusal_of}
 use Rattle.view_stages.specs.Opening.{IsDefinition, definition_bytes, opening, with_catalogue, with_view}
-use Rattle.view_answers.specs.Answers.{Answer, answers_to, step, finish}
+use Rattle.opened_view.specs.Answers.{Answer, answers_to, step, finish}
 use Rattle.upkeep_law.specs.Given.{AreGiven}
 use Rattle.upkeep_law.specs.Law.{IsStart}
 use Rattle.upkeep_law.specs.Lists.{last_shown, last_synced}

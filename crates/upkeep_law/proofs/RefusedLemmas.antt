@@ -6,7 +6,7 @@ use Rattle.course.specs.declared.status.Verdict.TheVariants as verdict
 use Rattle.course.specs.Answering.{Continues, ending, follow}
 use Rattle.course.specs.Course.{verdict_status, is_refused_status}
 use Rattle.view_stages.specs.Open.{OpenValue}
-use Rattle.view_answers.specs.Answers.{step, finish, answer, end_view}
+use Rattle.opened_view.specs.Answers.{step, finish, answer, end_view}
 
 pub end_unrefused : (b : Bool) → is_refused_status (verdict_status (if b then verdict.SomeRefused else verdict.Done)) ≡ false
 end_unrefused true = refl

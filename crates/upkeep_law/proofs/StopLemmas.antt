@@ -25,8 +25,8 @@ use Rattle.view_folder.specs.Files.{view_folder}
 use Rattle.view_stages.proofs.BetweenLemmas.{AllPlanned}
 use Rattle.view_stages.proofs.SyncLemmas.{Stage, planned_stage, sync_stage}
 use Rattle.view_stages.proofs.StoppedLemmas.{Stopped, in_first, in_later, printed, opening_stops}
-use Rattle.view_answers.specs.Answers.{Said, Tells, Scripts, Syncs, Answer, answers_to, step, finish, end_effects, end_view}
-use Rattle.view_answers.proofs.AnswerCases.{end_case}
+use Rattle.opened_view.specs.Answers.{Said, Tells, Scripts, Syncs, Answer, answers_to, step, finish, end_effects, end_view}
+use Rattle.opened_view.proofs.AnswerCases.{end_case}
 use Rattle.upkeep_law.specs.Behind.{stages_by, stages_behind, stages_from}
 use Rattle.upkeep_law.specs.Given.{IsPrint, MayGive, AreGiven}
 use Rattle.upkeep_law.specs.Lists.{effects_by}

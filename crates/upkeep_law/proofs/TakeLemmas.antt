@@ -32,12 +32,12 @@ use Rattle.view_meaning.specs.Valuations.{valuations}
 use Rattle.view_meaning.specs.Meaning.{facts, fact_of, cell_of_reading, constant_label, shape_of, meaning, given}
 use Rattle.view_session.specs.Session.{tables_of, lines_to}
 use Rattle.view_session.proofs.UpkeepLemmas.{meaning_in_order}
-use Rattle.load_run.proofs.TableLemmas.{all_mapped}
+use Rattle.view_stages.proofs.TableLemmas.{all_mapped}
 use Rattle.ss_print.specs.Fields.{illegal_fields, clash_fields}
 use Rattle.view_stages.specs.Open.{OpenValue}
 use Rattle.view_stages.specs.Stages.{DefinitionOrRefusal, Accepted, ReadsAs, by_typing, typed_or_refused, refusal_of}
 use Rattle.view_stages.specs.Opening.{IsDefinition}
-use Rattle.view_answers.specs.Answers.{Said, Tells, Scripts, Syncs, Answer}
+use Rattle.opened_view.specs.Answers.{Said, Tells, Scripts, Syncs, Answer}
 use Rattle.upkeep_law.specs.Given.{MayGive, AreGiven}
 use Rattle.upkeep_law.specs.Promises.{TakesBy, EachTakes}
 use Rattle.upkeep_law.proofs.GivenLemmas.{sync_alike, first_query, first_unrefused}

@@ -24,7 +24,7 @@ use Rattle.view_stages.specs.Opened.{opening_writes}
 use Rattle.view_stages.proofs.PlaceLemmas.{StaysIn, AllWithin, stays_told, at_first_stays, performed_stays}
 use Rattle.view_stages.proofs.StageLemmas.{are_view_files}
 use Rattle.view_stages.proofs.WithinLemmas.{grows_itself, both_within, all_opening_within}
-use Rattle.view_answers.specs.Answers.{Answer}
+use Rattle.opened_view.specs.Answers.{Answer}
 use Rattle.upkeep_law.specs.Given.{AreGiven}
 use Rattle.upkeep_law.specs.Law.{IsStart}
 use Rattle.upkeep_law.specs.Lists.{effects_by, view_after, writes_by, last_shown, last_synced}

@@ -22,7 +22,7 @@ use Rattle.view_stages.specs.Opened.{folder_of}
 use Rattle.view_stages.specs.Syncs.{view_effects}
 use Rattle.view_stages.proofs.PlaceLemmas.{AllWithin}
 use Rattle.view_stages.proofs.WithinLemmas.{both_within, later_within, Grows, grows_itself, grows_then, grows_synced, sync_within, opened_within}
-use Rattle.view_answers.specs.Answers.{Said, Tells, Scripts, Syncs, Answer, answers_to, step, finish}
+use Rattle.opened_view.specs.Answers.{Said, Tells, Scripts, Syncs, Answer, answers_to, step, finish}
 use Rattle.upkeep_law.specs.Given.{IsPrint, sync_by, MayGive, AreGiven}
 use Rattle.upkeep_law.specs.Lists.{effects_by, synced_by, last_synced}
 use Rattle.upkeep_law.specs.Promises.{view_behind, all_answers, saved_behind, saved_at_end, sources_exempt}

@@ -3,7 +3,7 @@ use Rattle.std.specs.Prelude.{ℕ, List, [], ◌∷◌}
 use Rattle.outside.specs.Effects.{Effect}
 use Rattle.course.specs.Answering.{Reply, Continues, Finishes}
 use Rattle.view_stages.specs.Open.{OpenValue}
-use Rattle.view_answers.specs.Answers.{Answer, answers_to, finish}
+use Rattle.opened_view.specs.Answers.{Answer, answers_to, finish}
 use Rattle.upkeep_law.specs.Lists.{view_after}
 
 -- each answer, and the end: each makes one sync, or none

@@ -10,7 +10,7 @@ use Rattle.flow_law.specs.declared.line.TableLine.{TableLine}
 use Rattle.view_session.specs.Session.{made, lines_to}
 use Rattle.view_stages.specs.Open.{OpenValue}
 use Rattle.view_stages.specs.Stages.{refusal_of}
-use Rattle.view_answers.specs.Answers.{Said, Tells, Scripts, Syncs, Answer, syncing, syncing_view}
+use Rattle.opened_view.specs.Answers.{Said, Tells, Scripts, Syncs, Answer, syncing, syncing_view}
 
 abbrev pub IsPrint : Effect → Type 0
 IsPrint (Print bytes) = Unit {0}

@@ -16,7 +16,7 @@ use Rattle.course.specs.Course.{Did, GaveOutStatus, by_lines, is_done_status}
 use Rattle.view_stages.specs.Open.{just_opened}
 use Rattle.view_stages.specs.Stages.{DefinitionOrRefusal, loaded_or_refused, refusal_of}
 use Rattle.view_stages.specs.Opening.{IsDefinition, definition_bytes, opening}
-use Rattle.view_answers.specs.Answers.{Answer, step, finish}
+use Rattle.opened_view.specs.Answers.{Answer, step, finish}
 use Rattle.upkeep_law.specs.Given.{AreGiven}
 use Rattle.upkeep_law.specs.Lists.{last_shown, last_synced}
 use Rattle.upkeep_law.specs.Promises.{IsUpheld, IsMaintained, IsCutOff, TakesTo, effects_so_far}

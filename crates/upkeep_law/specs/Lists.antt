@@ -7,7 +7,7 @@ use Rattle.view_session.specs.Session.{SessionState}
 use Rattle.source_law.specs.Counted.{tree_after}
 use Rattle.source_law.specs.Synced.{Synced, synced}
 use Rattle.view_stages.specs.Open.{OpenValue}
-use Rattle.view_answers.specs.Answers.{Said, Syncs, Answer}
+use Rattle.opened_view.specs.Answers.{Said, Syncs, Answer}
 
 -- what they do
 abbrev pub effects_by : List Answer → List Effect

@@ -27,7 +27,7 @@ use Rattle.view_stages.specs.Opening.{opening_effects}
 use Rattle.view_stages.specs.Places.{Exempt, CsvFiles, OthersStay, sources_of}
 use Rattle.view_stages.specs.Stages.{DefinitionOrRefusal, files_of_view}
 use Rattle.view_stages.specs.Opened.{IsOpened, view_at_first, opening_writes}
-use Rattle.view_answers.specs.Answers.{Said, Scripts, Answer, answers_to, last_answer, end_view, syncing, step, finish}
+use Rattle.opened_view.specs.Answers.{Said, Scripts, Answer, answers_to, last_answer, end_view, syncing, step, finish}
 use Rattle.upkeep_law.specs.Lists.{effects_by, view_after, writes_by, last_synced}
 
 -- what effects print, one after the other

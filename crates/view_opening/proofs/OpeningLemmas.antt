@@ -16,7 +16,7 @@ use Rattle.flow_law.specs.declared.refused.EvalFault.{EvalFault}
 use Rattle.flow_law.specs.declared.refused.EvalFault.TheVariants as eval
 use Rattle.flow_law.specs.Faults.{IsFault}
 use Rattle.view_meaning.specs.Refusal.{refusal}
-use Rattle.view_answers.specs.Steps.{IsFaultFieldsOf}
+use Rattle.opened_view.specs.Steps.{IsFaultFieldsOf}
 use Rattle.view_opening.specs.Opens.{Opens, Views}
 use Rattle.view_opening.specs.declared.opening.Viewing.TheVariants as viewing
 use Rattle.view_opening.specs.declared.opening.Opened.{Opened}

@@ -8,7 +8,7 @@ use Rattle.outside.specs.declared.stop.Stop.{Stop}
 use Rattle.course.specs.Answering.{Reply, effects_of}
 use Rattle.course.specs.Course.{verdict_status, is_refused_status}
 use Rattle.view_stages.specs.Open.{OpenValue, just_opened}
-use Rattle.view_answers.specs.Steps.{Begins, EndsRun}
+use Rattle.opened_view.specs.Steps.{Begins, EndsRun}
 use Rattle.view_opening.specs.declared.opening.Viewing.{Viewing}
 use Rattle.view_opening.specs.declared.opening.Viewing.TheVariants as viewing
 use Rattle.view_opening.specs.declared.opening.Opened.{Opened}

@@ -6,8 +6,8 @@ ghost use Rattle.tab_lines.specs.Lines.{lines_of};
 ghost use Rattle.course.specs.Answering.{BlamesRun, is_too_long};
 ghost use Rattle.view_stages.specs.Stages.{DefinitionOrRefusal};
 ghost use Rattle.view_stages.specs.Opening.{IsDefinition, definition_bytes, opening};
-ghost use Rattle.view_answers.specs.Answers.{step, finish};
-ghost use Rattle.view_answers.specs.Limits.{StepsBehind};
+ghost use Rattle.opened_view.specs.Answers.{step, finish};
+ghost use Rattle.opened_view.specs.Limits.{StepsBehind};
 ghost use Rattle.course.specs.Statuses.{can_maintain};
 ghost use Rattle.course.specs.Idle.{IdleRun};
 ghost use Rattle.course.specs.Course.{RanBy, RanSome, Took, TookEnough, by_lines, status_of, IsWholeInput};
@@ -18,10 +18,11 @@ use outside::{Folders, Sink, Source};
 use ss_text::{Steps, Text};
 use std::alloc::Global;
 use std::sync::ledger::Ledger;
+use view_answers::Answering;
 
 /// Opens the view of this name, and answers the lines of the input in turn. Where a call fails or memory runs out, a
 /// front of the answers is there, and what was under way may have broken off.
-#[tactic(auto, using(view_answers::proofs::MaintainLemmas::opening_ended, view_answers::proofs::MaintainLemmas::opening_stopped, view_answers::proofs::MaintainLemmas::opening_drove, view_answers::proofs::MaintainLemmas::drove_whole, view_answers::proofs::MaintainLemmas::ended_whole, view_answers::proofs::MaintainLemmas::ended_enough, course::proofs::DriveLemmas::blamed_later, view_answers::proofs::MaintainLemmas::some_ended, view_answers::proofs::MaintainLemmas::some_stopped, view_answers::proofs::MaintainLemmas::some_drove, course::proofs::DriveLemmas::took_nothing, view_answers::proofs::MaintainLemmas::refused_can, view_answers::proofs::MaintainLemmas::stopped_can, course::proofs::IdleLemmas::idle_drove))]
+#[tactic(auto, using(opened_view::proofs::MaintainLemmas::opening_ended, opened_view::proofs::MaintainLemmas::opening_stopped, opened_view::proofs::MaintainLemmas::opening_drove, opened_view::proofs::MaintainLemmas::drove_whole, opened_view::proofs::MaintainLemmas::ended_whole, opened_view::proofs::MaintainLemmas::ended_enough, course::proofs::DriveLemmas::blamed_later, opened_view::proofs::MaintainLemmas::some_ended, opened_view::proofs::MaintainLemmas::some_stopped, opened_view::proofs::MaintainLemmas::some_drove, course::proofs::DriveLemmas::took_nothing, opened_view::proofs::MaintainLemmas::refused_can, opened_view::proofs::MaintainLemmas::stopped_can, course::proofs::IdleLemmas::idle_drove))]
 pub fn maintain<F: Folders, S: Source, K: Sink, L: Ledger>(
     alloc: Global,
     store: &mut F,
@@ -54,9 +55,18 @@ pub fn maintain<F: Folders, S: Source, K: Sink, L: Ledger>(
         → StepsBehind (opening t d) (lines_of bytes) steps.old steps.new }
 {
     match open(alloc, store, output, name, steps)? {
-        Opened::Open(mut view) => {
-            let ending = answer_lines(alloc, &mut view, store, input, output, &mut NoDisk, steps);
-            drop(view);
+        Opened::Open(view) => {
+            let mut answering = Answering { view };
+            let ending = answer_lines(
+                alloc,
+                &mut answering,
+                store,
+                input,
+                output,
+                &mut NoDisk,
+                steps,
+            );
+            drop(answering);
             ending
         }
         Opened::Ended(verdict) => Ok(verdict),

@@ -11,13 +11,13 @@ ghost use Rattle.view_opening.specs.Opens.{Opens, Views, IsFresh, IsRefusal};
 ghost use Rattle.course.specs.Idle.{IdleUnread};
 
 use course::Verdict;
+use opened_view::{OpenView, fault_fields};
 use outside::{Folders, Sink, Stop};
 use schema_model::Catalogue;
 use ss_print::refuse;
 use ss_text::{NoMemory, Row, Steps, Text};
 use std::alloc::Global;
 use std::sync::ledger::Ledger;
-use view_answers::{OpenView, fault_fields};
 use view_session::Session;
 use view_stages::{Definition, Loading, Understood, load_sources, read_definition};
 

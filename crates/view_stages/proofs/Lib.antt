@@ -7,3 +7,4 @@ pub mod StageLemmas
 pub mod StoppedLemmas
 pub mod SyncLemmas
 pub mod WithinLemmas
+pub mod TableLemmas

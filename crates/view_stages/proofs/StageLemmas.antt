@@ -15,7 +15,7 @@ use Rattle.ss_print.specs.Fields.{illegal_fields, clash_fields}
 use Rattle.flow_law.specs.declared.refused.IllegalLabel.{IllegalLabel}
 use Rattle.flow_law.specs.declared.refused.Clash.{Clash}
 use Rattle.view_session.proofs.UpkeepLemmas.{meaning_in_order}
-use Rattle.load_run.proofs.TableLemmas.{meaning_fits as fits}
+use Rattle.view_stages.proofs.TableLemmas.{meaning_fits as fits}
 use Rattle.view_stages.specs.Stages.{files_of_view, refusal_of}
 use Rattle.view_stages.specs.Records.{HasRecords}
 

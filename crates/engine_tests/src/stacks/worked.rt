@@ -34,7 +34,7 @@ const BACK: Named = (
     "create view Back::salInfo(category, dept, salFloor) as select T.category, D, T.D from AtoB::salInfo -> D, AtoB::salInfo T where D <> 'category'",
 );
 
-const OFFICE: [&str; 5] = [
+const OFFICE: &[&str] = &[
     "create-database univ-A",
     "create-relation univ-A salInfo category dept salFloor",
     "insert univ-A salInfo Prof cs 72000",
@@ -42,11 +42,11 @@ const OFFICE: [&str; 5] = [
     "insert univ-A salInfo Assoc cs 60000",
 ];
 
-const WORKED: [Worked; 4] = [
+const WORKED: &[Worked] = &[
     // Values that become columns, and back.
     Worked {
         views: &[A_TO_B, BACK],
-        before: &OFFICE,
+        before: OFFICE,
         groups: &[
             (
                 &["insert univ-A salInfo Prof physics 70000"],
@@ -142,7 +142,7 @@ const WORKED: [Worked; 4] = [
                 "create view Top::t(dept, category) as select T.dept, T.category from Back::salInfo T where T.salFloor <> ''",
             ),
         ],
-        before: &OFFICE,
+        before: OFFICE,
         groups: &[
             (
                 &["insert univ-A salInfo Prof physics 70000"],

@@ -39,7 +39,7 @@ fn left(alloc: Global, failing: u8, fill: u8) -> Result<Vec<u8>, Fail> {
 
 // The number of the call that fails, what all bytes in doubt are afterwards, and what the journal says. The calls for each
 // group are: the entry is written, it is synced, it is opened, that is synced. The call 9 is none of them.
-const LEFT: [(u8, u8, &[u8]); 11] = [
+const LEFT: &[(u8, u8, &[u8])] = &[
     (1, 0, b""),
     (1, 1, b""),
     (2, 0, b""),
@@ -55,7 +55,7 @@ const LEFT: [(u8, u8, &[u8]); 11] = [
 
 #[test]
 fn a_stop_leaves_what_was_answered(rt: HostRuntime) -> Result<(), Fail> {
-    for (failing, fill, wanted) in LEFT {
+    for &(failing, fill, wanted) in LEFT {
         let said = left(rt.alloc(), failing, fill)?;
         assert!(rt;
             said.as_slice() == wanted,

@@ -230,7 +230,7 @@ const AFTER: Option<Said> = Some(Said::After);
 
 // What is said behind each step where the call with a number fails. The steps are: the entry is written, it is synced, it
 // is opened, that is synced. A sync that fails is no step.
-const FAILING: [(u8, &[Option<Said>]); 5] = [
+const FAILING: &[(u8, &[Option<Said>])] = &[
     (1, &[BEFORE, BEFORE]),
     (2, &[BEFORE, BEFORE]),
     (3, &[BEFORE, BEFORE, BEFORE, EITHER]),
@@ -248,7 +248,7 @@ fn added_moments(alloc: Global, added: &Added, failing: u8) -> Result<Vec<Option
 #[test]
 fn each_image_has_the_groups_from_before_or_the_new_one_too(rt: HostRuntime) -> Result<(), Fail> {
     let alloc = rt.alloc();
-    for (failing, wanted) in FAILING {
+    for &(failing, wanted) in FAILING {
         for (i, added) in ADDED.iter().enumerate() {
             let got = added_moments(alloc, added, failing)?;
             assert!(rt;

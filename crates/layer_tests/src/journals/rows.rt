@@ -56,7 +56,7 @@ fn fault_of(alloc: Global, bytes: &[u8]) -> Result<Option<JournalFault>, Fail> {
 }
 
 // Where each of these says nothing.
-const BAD: [(&[u8], u64); 13] = [
+const BAD: &[(&[u8], u64)] = &[
     (b"", 0),
     (b"\x01", 0),
     (b"\x01\x00\x00\x00", 0),
@@ -81,7 +81,7 @@ const BAD: [(&[u8], u64); 13] = [
 ];
 
 // What these say ends at a byte 0, and what is behind it means nothing.
-const GOOD: [&[u8]; 4] = [
+const GOOD: &[&[u8]] = &[
     b"\x00",
     b"\x00\x01\x00",
     b"\xff\x00\x00\x00\x0fdrop-database\tz\x00",
@@ -91,14 +91,14 @@ const GOOD: [&[u8]; 4] = [
 #[test]
 fn a_journal_is_refused_at_the_place_where_it_says_nothing(rt: HostRuntime) -> Result<(), Fail> {
     let alloc = rt.alloc();
-    for (bytes, at) in BAD {
+    for &(bytes, at) in BAD {
         assert_eq!(rt;
             fault_of(alloc, bytes)?,
             Some(JournalFault::BadJournal { at }),
             "{bytes:?}"
         );
     }
-    for bytes in GOOD {
+    for &bytes in GOOD {
         assert_eq!(rt; fault_of(alloc, bytes)?, None, "{bytes:?}");
     }
     Ok(())

@@ -7,7 +7,7 @@ ghost use Rattle.schema_model.specs.Refusals.{fault};
 ghost use Rattle.change_draft.specs.Drafts.{StandsOver};
 ghost use Rattle.ss_print.specs.Fields.{in_group_fields, no_group_fields};
 ghost use Rattle.view_session.specs.Session.{IsNotHeld};
-ghost use Rattle.view_answers.specs.declared.word.Word.TheVariants as word;
+ghost use Rattle.opened_view.specs.declared.word.Word.TheVariants as word;
 ghost use Rattle.stack_levels.specs.Levels.{refused_at};
 ghost use Rattle.stack_answers.specs.Stack.{working};
 ghost use Rattle.stack_answers.specs.Steps.{IsOfLevels, IsRefusedBy};
@@ -15,6 +15,7 @@ ghost use Rattle.stack_answers.specs.Answers.{by_fields, by_word, by_broken, by_
 
 use crate::open_stack::OpenStack;
 use change_draft::Draft;
+use opened_view::{Word, held_fields};
 use outside::{Folders, Sink, Stop};
 use schema_model::{Catalogue, Change, ChangeFault};
 use ss_print::{
@@ -25,7 +26,6 @@ use ss_text::{NoMemory, Row, Steps};
 use stack_levels::{LevelRefusal, LevelsRefused};
 use std::alloc::Global;
 use std::sync::ledger::Ledger;
-use view_answers::{Word, held_fields};
 use view_session::HoldRefused;
 
 impl OpenStack {
@@ -220,7 +220,7 @@ impl OpenStack {
     }
 
     // Answers `begin` alone.
-    #[tactic(auto, using(outside::proofs::Following::following, view_answers::proofs::ViewLemmas::none_open))]
+    #[tactic(auto, using(outside::proofs::Following::following, opened_view::proofs::ViewLemmas::none_open))]
     fn begin_line<K: Sink>(&mut self, alloc: Global, output: &mut K, row: &Row) -> Result<(), Stop>
         ensures does { (s : _) → Does (by_word self.old row.now word.Begin).effects (world_of s (K.state output.old)) (world_of s (K.state output.new)) result }
         ensures stack { OnOk result (self.new ≡ (by_word self.old row.now word.Begin).stack) }

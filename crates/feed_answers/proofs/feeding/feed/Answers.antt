@@ -3,9 +3,9 @@ use Rattle.outside.specs.Effects.{world_of}
 use Rattle.tab_lines.specs.Lines.{lines_of}
 use Rattle.course.proofs.KeepingLemmas.{never_held_up}
 use Rattle.view_stages.specs.Opening.{opening}
-use Rattle.view_answers.specs.Steps.{starting}
-use Rattle.view_answers.proofs.LimitLemmas.{unspent}
-use Rattle.view_answers.proofs.MaintainLemmas.{drove_whole}
+use Rattle.opened_view.specs.Steps.{starting}
+use Rattle.opened_view.proofs.LimitLemmas.{unspent}
+use Rattle.opened_view.proofs.MaintainLemmas.{drove_whole}
 use Rattle.feed_answers.specs.Answers.{step, finish, at_first}
 use Rattle.feed_answers.specs.Limits.{limit}
 use Rattle.feed_answers.proofs.FeedLemmas.{goes, fed_drove, fed_some, fed_took, fed_enough, fed_reads, fed_within, fed_ended, some_fed, enough_fed, fed_stopped, some_fed_stopped, drove_can}

@@ -4,8 +4,8 @@ use Rattle.outside.specs.Effects.{world_of}
 use Rattle.tab_lines.specs.Lines.{lines_of}
 use Rattle.journal_log.specs.Logs.{log_of}
 use Rattle.course.specs.Course.{by_lines, is_done}
-use Rattle.view_answers.proofs.LimitLemmas.{unspent, drove_steps}
-use Rattle.view_answers.proofs.MaintainLemmas.{opening_stopped, opening_ended, opening_drove, took_answering, enough_answering, ended_enough, open_reads, some_ended, some_stopped, some_drove}
+use Rattle.opened_view.proofs.LimitLemmas.{unspent, drove_steps}
+use Rattle.opened_view.proofs.MaintainLemmas.{opening_stopped, opening_ended, opening_drove, took_answering, enough_answering, ended_enough, open_reads, some_ended, some_stopped, some_drove}
 use Rattle.journal_answers.specs.Answers.{step, note, finish}
 use Rattle.journal_answers.specs.Limits.{limit}
 use Rattle.journal_answers.specs.Opening.{opening}

@@ -1,7 +1,7 @@
 use Rattle.std.proofs.Common.{refl, sym, subst}
 use Rattle.outside.specs.Effects.{world_of}
 use Rattle.view_def.specs.Query.{query_of}
-use Rattle.view_answers.specs.Steps.{Begins}
+use Rattle.opened_view.specs.Steps.{Begins}
 use Rattle.journal_answers.specs.declared.view.JournalView.{JournalView}
 use Rattle.journal_answers.specs.Opening.{with_replay}
 use Rattle.journal_answers.proofs.OpeningLemmas.{filled}

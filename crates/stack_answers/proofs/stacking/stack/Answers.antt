@@ -3,7 +3,7 @@ use Rattle.outside.specs.Effects.{world_of}
 use Rattle.course.proofs.KeepingLemmas.{never_held_up}
 use Rattle.stack_answers.specs.Opening.{opening}
 use Rattle.stack_answers.specs.Answers.{step, finish}
-use Rattle.view_answers.proofs.MaintainLemmas.{opening_stopped, drove_whole, took_answering, enough_answering, open_reads}
+use Rattle.opened_view.proofs.MaintainLemmas.{opening_stopped, drove_whole, took_answering, enough_answering, open_reads}
 use Rattle.stack_answers.proofs.StackingLemmas.{goes, drove_can}
 use Rattle.stack_answers.proofs.stacking.stack.Goals as goal
 

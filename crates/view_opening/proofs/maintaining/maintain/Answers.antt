@@ -3,10 +3,10 @@ use Rattle.outside.specs.Effects.{world_of}
 use Rattle.tab_lines.specs.Lines.{lines_of}
 use Rattle.course.proofs.KeepingLemmas.{never_held_up}
 use Rattle.view_stages.specs.Opening.{opening}
-use Rattle.view_answers.specs.Answers.{step, finish}
-use Rattle.view_answers.specs.Limits.{limit}
-use Rattle.view_answers.proofs.LimitLemmas.{unspent, drove_steps}
-use Rattle.view_answers.proofs.MaintainLemmas.{opening_stopped, drove_whole, drove_can, took_answering, enough_answering, open_reads, goes}
+use Rattle.opened_view.specs.Answers.{step, finish}
+use Rattle.opened_view.specs.Limits.{limit}
+use Rattle.opened_view.proofs.LimitLemmas.{unspent, drove_steps}
+use Rattle.opened_view.proofs.MaintainLemmas.{opening_stopped, drove_whole, drove_can, took_answering, enough_answering, open_reads, goes}
 use Rattle.view_opening.proofs.maintaining.maintain.Goals as goal
 
 pub returns-in_err-view-clause-ran : goal.returns-in_err-view-clause-ran

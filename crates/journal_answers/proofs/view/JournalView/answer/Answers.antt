@@ -1,7 +1,7 @@
 use Rattle.std.proofs.Common.{[], Ok, Err, refl, subst}
 use Rattle.outside.specs.Effects.{world_of}
 use Rattle.ss_text.specs.Texts.{Row}
-use Rattle.view_answers.specs.Answers.{refusing}
+use Rattle.opened_view.specs.Answers.{refusing}
 use Rattle.journal_answers.specs.Answers.{answer, made}
 use Rattle.journal_answers.specs.Steps.{Acts}
 use Rattle.journal_answers.proofs.ActLemmas.{line_acts, quietly, lacked, sink_blames, sink_unread}

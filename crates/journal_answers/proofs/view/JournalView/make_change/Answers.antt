@@ -1,6 +1,6 @@
 use Rattle.std.proofs.Common.{[], ◌∷◌, refl}
 use Rattle.outside.specs.Effects.{world_of}
-use Rattle.view_answers.specs.Answers.{refusing}
+use Rattle.opened_view.specs.Answers.{refusing}
 use Rattle.journal_answers.specs.Answers.{made_by}
 use Rattle.journal_answers.specs.Steps.{judging}
 use Rattle.journal_answers.proofs.ActLemmas.{scripted, refused, stopped, sink_blames, sink_unread}

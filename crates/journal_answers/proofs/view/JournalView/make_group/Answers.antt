@@ -2,7 +2,7 @@ use Rattle.std.proofs.Common.{true, [], refl}
 use Rattle.std.specs.Prelude.{unwrap_or}
 use Rattle.outside.specs.Effects.{world_of}
 use Rattle.view_session.specs.Session.{closed}
-use Rattle.view_answers.specs.Answers.{giving_up}
+use Rattle.opened_view.specs.Answers.{giving_up}
 use Rattle.journal_answers.specs.Answers.{made_by}
 use Rattle.journal_answers.specs.Steps.{ending_group}
 use Rattle.journal_answers.proofs.ActLemmas.{scripted, refused, stopped, sink_blames, sink_unread}

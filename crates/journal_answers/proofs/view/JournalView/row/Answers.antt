@@ -1,7 +1,7 @@
 use Rattle.std.proofs.Common.{[], ◌∷◌, Ok, refl, sym, ap, ◌∙◌}
 use Rattle.std.specs.Prelude.{unwrap_or}
 use Rattle.outside.specs.Effects.{world_of}
-use Rattle.view_answers.specs.Answers.{Answer, by_row, syncing, syncing_view}
+use Rattle.opened_view.specs.Answers.{Answer, by_row, syncing, syncing_view}
 use Rattle.journal_answers.specs.Answers.{asked_of, made_by}
 use Rattle.journal_answers.specs.Steps.{ending_group, judging, is_script}
 use Rattle.journal_answers.proofs.ActLemmas.{acts_as, quietly, lacked, within_as, unbounded}
@@ -52,10 +52,10 @@ returns-in-Ok-Other-clause-acts g c =
     let asks = rw c.in-Ok-Other.field-0-is at c.in-Ok-Other.ensures in
     let saving = by_row syncing c.args.self.now.view c.args.row.now in
     acts_as g.D.Disk.state g.D.Disk.left_since c.args.self.now (by_row syncing_view c.args.self.now.view c.args.row.now) saving (asked_of c.args.self.now.view (Ok c.args.row.now)) (asked_of c.args.self.now.view (Ok c.args.row.now)) c.args.disk.now c.args.disk.now
-    (world_of (g.F.Folders.state c.args.store.now) (g.K.Sink.state c.args.output.now)) (world_of (g.F.Folders.state c.row.new.store) (g.K.Sink.state c.row.new.output)) (record { view = c.row.new.self; journal = c.args.self.now.journal }) c.said-in-Ok-Other.result asks.alike refl
-    (quietly g.D.Disk.state g.D.Disk.left_since c.args.self.now saving (made_by saving.said (asked_of c.args.self.now.view (Ok c.args.row.now))) c.args.disk.now (world_of (g.F.Folders.state c.args.store.now) (g.K.Sink.state c.args.output.now)) (world_of (g.F.Folders.state c.row.new.store) (g.K.Sink.state c.row.new.output)) (record { view = c.row.new.self; journal = c.args.self.now.journal }) c.row.result c.said-in-Ok-Other.result c.said-in-Ok-Other.ensures
+    (world_of (g.F.Folders.state c.args.store.now) (g.K.Sink.state c.args.output.now)) (world_of (g.F.Folders.state c.answer_row.new.store) (g.K.Sink.state c.answer_row.new.output)) (record { view = c.answer_row.new.view; journal = c.args.self.now.journal }) c.said-in-Ok-Other.result asks.alike refl
+    (quietly g.D.Disk.state g.D.Disk.left_since c.args.self.now saving (made_by saving.said (asked_of c.args.self.now.view (Ok c.args.row.now))) c.args.disk.now (world_of (g.F.Folders.state c.args.store.now) (g.K.Sink.state c.args.output.now)) (world_of (g.F.Folders.state c.answer_row.new.store) (g.K.Sink.state c.answer_row.new.output)) (record { view = c.answer_row.new.view; journal = c.args.self.now.journal }) c.answer_row.result c.said-in-Ok-Other.result c.said-in-Ok-Other.ensures
     (none_made saving.said (asked_of c.args.self.now.view (Ok c.args.row.now)) (ap (λ (a : Answer). is_script a.said) (sym asks.alike) ∙ asks.quiet))
-    c.requires.ready c.row.ensures.does c.row.ensures.view refl c.row.ensures.no_read c.row.ensures.blames)
+    c.requires.ready c.answer_row.ensures.does c.answer_row.ensures.view refl c.answer_row.ensures.no_read c.answer_row.ensures.blames)
 
 pub returns-in-Err-clause-acts : goal.returns-in-Err-clause-acts
 returns-in-Err-clause-acts g c = lacked g.D.Disk.state g.D.Disk.left_since c.args.self.now (by_row syncing_view c.args.self.now.view c.args.row.now) (made_by (by_row syncing_view c.args.self.now.view c.args.row.now).said (asked_of c.args.self.now.view (Ok c.args.row.now))) c.args.disk.now (world_of (g.F.Folders.state c.args.store.now) (g.K.Sink.state c.args.output.now)) c.args.self.now

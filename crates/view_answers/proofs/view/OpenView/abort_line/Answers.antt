@@ -1,8 +1,0 @@
-use Rattle.std.proofs.Common.{sym, ◌∙◌}
-use Rattle.view_answers.proofs.view.OpenView.abort_line.Goals as goal
-
-pub returns-then-in_group-clause-does : goal.returns-then-in_group-clause-does
-returns-then-in_group-clause-does g c = λ s. rw (sym c.in_group.ensures ∙ c.if-in_group.true) (c.abort_group.ensures.does s)
-
-pub returns-else-in_group-clause-does : goal.returns-else-in_group-clause-does
-returns-else-in_group-clause-does g c = λ s. rw (sym c.in_group.ensures ∙ c.if-in_group.false) (c.refuse_outside.ensures.does s)

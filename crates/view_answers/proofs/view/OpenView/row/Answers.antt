@@ -1,8 +1,0 @@
-use Rattle.view_answers.proofs.AnswerLemmas.{words_does, changes_does}
-use Rattle.view_answers.proofs.view.OpenView.row.Goals as goal
-
-pub returns-in-Some-clause-does : goal.returns-in-Some-clause-does
-returns-in-Some-clause-does g c = words_does _ _ _ c.args.self.now c.args.row.now c.word_of.result c.in-Some.word c.word_of.ensures c.in-Some.is c.word_line.ensures.does
-
-pub returns-in-None-clause-does : goal.returns-in-None-clause-does
-returns-in-None-clause-does g c = changes_does _ _ _ c.args.self.now c.args.row.now c.word_of.result c.word_of.ensures c.in-None.is (c.change_line.ensures.does _)
