@@ -41,7 +41,7 @@ const BEFORE: &[&str] = &[
     "insert d s x q",
 ];
 
-const WORKED: &[Worked] = &[
+const WORKED: [Worked; 6] = [
     // Both sides of a join are moved, and a renamed attribute takes all facts away.
     Worked {
         view: "create view V::t(k, b) as select T.k, S.b from d::r T, d::s S where T.a = S.a",
@@ -350,7 +350,7 @@ fn is_as_worked(alloc: Global, worked: &Worked) -> Result<bool, Fail> {
 
 #[test]
 fn changes_move_facts(rt: HostRuntime) -> Result<(), Fail> {
-    for worked in WORKED {
+    for worked in &WORKED {
         assert!(rt; is_as_worked(rt.alloc(), worked)?, "at {}", worked.view);
     }
     Ok(())
