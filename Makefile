@@ -29,6 +29,7 @@ try: $(UNPROVED)
 	@echo "    alias schemasql=\"\$$PWD/../$(notdir $(UNPROVED))\""
 	@echo
 	@echo "\`make\` proves the program."
+	@echo "\`make try\` makes the examples anew, and \`make clean\` deletes all of build: keep your own data elsewhere."
 
 # The same by the proved program, over changes too; the sales of some months in one table; two shops whose lines are lost,
 # repeated and out of order; a view over a view; and orders that are kept where the program is killed.
@@ -72,6 +73,7 @@ bench-journal: $(PARTS)
 install: $(PROGRAM)
 	install -D $(PROGRAM) $(DESTDIR)$(PREFIX)/bin/schemasql
 	install -D -m 644 man/schemasql.1 $(DESTDIR)$(PREFIX)/share/man/man1/schemasql.1
+	install -D -m 644 -t $(DESTDIR)$(PREFIX)/share/doc/schemasql README.md docs/LANGUAGE.md docs/FORMATS.md docs/PROMISES.md
 
 clean:
 	rm -rf crates/*/out build
