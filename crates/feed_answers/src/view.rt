@@ -8,14 +8,13 @@ ghost use Rattle.apply_law.specs.Standing.{tables_of};
 ghost use Rattle.apply_law.specs.Verdicts.{Makes};
 ghost use Rattle.opened_view.specs.Limits.{IsWithin};
 ghost use Rattle.feed_core.specs.Arrivals.{handled_at};
-ghost use Rattle.feed_answers.specs.Lines.{said_by_line};
 ghost use Rattle.feed_answers.specs.declared.line.FeedLine.TheVariants.{Arrives};
 ghost use Rattle.feed_answers.specs.Answers.{answer, by_line, fed, fed_by, repeating, told_by};
 ghost use Rattle.feed_answers.specs.Steps.{TakesArrival};
 ghost use Rattle.feed_answers.specs.Limits as limits;
 
 use crate::fields::{line_fault_fields, reply_refused_fields};
-use crate::{FeedFault, FeedLine, read_feed_line};
+use crate::{FeedLine, read_feed_line};
 use apply_law::Applies;
 use course::{LineHandler, LineStop, NoDisk, Verdict};
 use feed_core::{Arrival, Feeds, Handled, Outcome};

@@ -77,7 +77,7 @@ impl Model for OpenView {
 
 impl OpenView {
     ghost use Rattle.std.specs.Prelude.{◌≡◌, IfOk};
-    ghost use Rattle.view_session.specs.Session.{SessionState, opened};
+    ghost use Rattle.view_session.specs.Session.{opened};
     ghost use Rattle.view_stages.specs.Open.{just_opened};
 
     /// The view that was just opened, of this view database.

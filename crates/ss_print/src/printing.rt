@@ -1,7 +1,7 @@
 //! What is printed.
-ghost use Rattle.std.specs.Prelude.{◌≡◌, ◌≢◌, ◌++◌, [], ◌∷◌, IfOk, codes, decimal, flat_map};
+ghost use Rattle.std.specs.Prelude.{◌≡◌, ◌≢◌, ◌++◌, [], ◌∷◌, IfOk, OnOk, codes, decimal};
 ghost use Rattle.tab_lines.specs.Spelling.{spell};
-ghost use Rattle.outside.specs.Effects.{Print, Does, world_of};
+ghost use Rattle.outside.specs.Effects.{Does, world_of};
 ghost use Rattle.outside.specs.Blame.{SinkBlames};
 ghost use Rattle.std.specs.List.{All};
 ghost use Rattle.ss_print.specs.Printing.{says, refuses, prints_synced, prints_reply, prints_begun, prints_held, prints_aborted, prints_script, prints_applied, applied_rows, script_rows, lines_text, prints_same, prints_difference, length_text};
@@ -11,7 +11,7 @@ use itoa::Buffer;
 use outside::{Sink, Stop, print};
 use ss_text::{NoMemory, Row, Text};
 use std::alloc::Global;
-use tab_lines::write_line;
+use tab_lines::push_line;
 
 /// A number in decimal.
 pub fn number_text(alloc: Global, number: usize) -> Result<Text, NoMemory>
@@ -21,14 +21,23 @@ pub fn number_text(alloc: Global, number: usize) -> Result<Text, NoMemory>
     Text::of(alloc, buffer.format(number).as_bytes())
 }
 
+// Puts the line of a row, with its LF, behind this text.
+fn push_row(text: &mut Vec<u8>, row: &Row) -> Result<(), NoMemory>
+    requires { row.now ≢ [] }
+    ensures { OnOk result (text.new.items ≡ text.old.items ++ spell row.now ++ 10 ∷ []) }
+{
+    push_line(text, row)?;
+    text.push(b'\n')?;
+    Ok(())
+}
+
 // The line of a row, with its LF.
 fn line_of(alloc: Global, row: &Row) -> Result<Vec<u8>, NoMemory>
     requires { row.now ≢ [] }
     ensures { IfOk result (λ line. line.items ≡ spell row.now ++ 10 ∷ []) }
 {
-    let text = write_line(alloc, row)?;
-    let mut line = Vec::from_slice(alloc, text.as_slice())?;
-    line.push(b'\n')?;
+    let mut line = Vec::new(alloc);
+    push_row(&mut line, row)?;
     Ok(line)
 }
 
@@ -172,13 +181,14 @@ pub fn print_script<K: Sink>(alloc: Global, output: &mut K, script: &Script) -> 
 }
 
 // The lines of a script, and how many they are.
-#[tactic(auto, using(crate::proofs::PrintingLemmas::rows_have_fields))]
 fn script_text(alloc: Global, script: &Script) -> Result<Vec<u8>, NoMemory>
     ensures { IfOk result (λ text. text.items ≡ lines_text (script_rows script.now)) }
 {
-    let mut rows = script_lines(alloc, script)?;
-    rows.push(counted_row(alloc, b"done", script.lines().len())?)?;
-    lines_text(alloc, &rows)
+    let rows = script_lines(alloc, script)?;
+    let mut text = lines_text(alloc, &rows)?;
+    let last = counted_row(alloc, b"done", script.lines().len())?;
+    push_row(&mut text, &last)?;
+    Ok(text)
 }
 
 // Rows as lines, each with its LF.
@@ -188,7 +198,7 @@ pub(crate) fn lines_text(alloc: Global, rows: &[Row]) -> Result<Vec<u8>, NoMemor
 {
     let mut text = Vec::new(alloc);
     for row in rows {
-        text.extend_from_slice(line_of(alloc, row)?.as_slice())?;
+        push_row(&mut text, row)?;
     }
     Ok(text)
 }

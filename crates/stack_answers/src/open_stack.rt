@@ -20,7 +20,7 @@ ghost use Rattle.stack_answers.specs.Stack.{queries_of, stack_tables, working};
 ghost use Rattle.stack_answers.specs.Held.{stack_state};
 ghost use Rattle.stack_answers.specs.Opening.{folders_opened, opening_sum};
 ghost use Rattle.stack_answers.specs.Steps.{IsRefusalOf};
-ghost use Rattle.stack_answers.specs.Answers.{finish, answer, by_row, by_change, by_fault, in_group, more_broken, refusing, plainly, making, folder_effects, sync_count, sync_effects, syncing, synced_stack, end_stack};
+ghost use Rattle.stack_answers.specs.Answers.{finish, answer, by_row, by_change, by_fault, in_group, more_broken, refusing, plainly, making, folder_effects, sync_count, sync_effects, syncing, end_stack};
 
 use crate::folders::{file_count, plan_folders, sync_folders, write_tables};
 use change_draft::Draft;

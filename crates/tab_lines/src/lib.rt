@@ -11,4 +11,4 @@ mod window;
 
 pub use lines::{Lines, Next, ReadStop};
 pub use parts::split_once;
-pub use spelling::{LineFault, read_line, write_line};
+pub use spelling::{LineFault, push_line, read_line, write_line};

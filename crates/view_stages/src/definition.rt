@@ -1,5 +1,5 @@
 //! The definition of a view.
-ghost use Rattle.std.specs.Prelude.{◌≡◌, ◌≢◌, ◌∷◌, ◌++◌, [], OnOk, List, ℕ, Some, IfOk, codes};
+ghost use Rattle.std.specs.Prelude.{◌≡◌, ◌≢◌, ◌∷◌, ◌++◌, [], OnOk, Some, IfOk, codes};
 ghost use Rattle.ss_text.specs.Texts.{Row};
 ghost use Rattle.outside.specs.Reading.{OnlyRead};
 ghost use Rattle.outside.specs.Tree.{Tree};
@@ -22,7 +22,7 @@ use ss_print::{parse_fields, type_fields};
 use ss_text::{NoMemory, Row, Text};
 use std::alloc::Global;
 use var_typing::{TypeFault, type_view};
-use view_def::{View, ViewText};
+use view_def::ViewText;
 
 /// What a definition is: accepted, or refused with these fields.
 #[derive(Drop)]

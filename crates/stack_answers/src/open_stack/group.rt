@@ -11,7 +11,7 @@ ghost use Rattle.opened_view.specs.declared.word.Word.TheVariants as word;
 ghost use Rattle.stack_levels.specs.Levels.{refused_at};
 ghost use Rattle.stack_answers.specs.Stack.{working};
 ghost use Rattle.stack_answers.specs.Steps.{IsOfLevels, IsRefusedBy};
-ghost use Rattle.stack_answers.specs.Answers.{by_fields, by_word, by_broken, by_fault, judged, beginning, keeping, aborting, giving_up, refusing, plainly, refusal_effects, end_effects, end_stack};
+ghost use Rattle.stack_answers.specs.Answers.{by_fields, by_word, by_broken, by_fault, judged, beginning, keeping, aborting, giving_up, refusing, plainly, end_effects, end_stack};
 
 use crate::open_stack::OpenStack;
 use change_draft::Draft;
