@@ -1,7 +1,7 @@
 #!/usr/bin/env python3
 """What a line of `maintain` takes, by its kind, among few and among many rows of one relation: accepted, refused, held and
-aborted, held and committed; schema changes of a small relation beside the large one; columns that come and go; tables that
-come and go.
+aborted, held and committed; schema changes of a small relation beside the large one, also where a view has its columns as
+values; columns that come and go; tables that come and go.
 
 usage: bench/lines.py [PROGRAM [LINES [MANY]]]
 
@@ -36,6 +36,8 @@ TIMES, GROUP_TIMES = 1.5, 1.3
 VIEW = "create view V::t(k, D) as select T.k, T.v from g::r T, T.d D"
 # A view with a table of each relation, the large one and a small one.
 EACH = "create view V::R(k, D) as select T.k, T.v from g -> R, g::R T, T.d D"
+# A view of the columns of a small relation as values, beside the large one.
+COLUMNS_AS_VALUES = "create view V::t(k, n, v) as select T.k, D, T.D from g::one -> D, g::one T where D <> 'k'"
 # A view with a table for each text of `d`, of which the small relation brings one that comes and goes.
 TABLES = "create view V::D(k, v) as select T.k, T.v from g -> R, g::R T, T.d D"
 
@@ -104,6 +106,11 @@ def delete_old(rows, step):
 def moved(*kinds):
     """The same kinds, which move rows of the large relation."""
     return [kind._replace(still=False) for kind in kinds]
+
+
+def seldom(*kinds):
+    """The same kinds, of which fewer steps are made, since one of them takes long."""
+    return [kind._replace(one_in=200) for kind in kinds]
 
 
 def refused(number, name, line, *others):
@@ -190,6 +197,16 @@ LIMIT_LINES = [
     refused(12, "limit", plain("add-attribute\tg\tfull\tz\t")),
 ]
 
+# Those over a view of the columns of the small relation.
+COLUMN_LINES = [
+    *pairs("row of a small relation, come and gone", "insert\tg\tone\tb\t1\t2", "delete\tg\tone\tb\t1\t2"),
+    *seldom(
+        *pairs("its attribute of values, renamed", "rename-attribute\tg\tone\ta\tz", "rename-attribute\tg\tone\tz\ta"),
+        *pairs("its attribute, added and dropped", "add-attribute\tg\tone\tz\t", "drop-attribute\tg\tone\tz"),
+        *pairs("small relation, renamed", "rename-relation\tg\tone\ttwo", "rename-relation\tg\ttwo\tone"),
+    ),
+]
+
 # Those among few and among many tables.
 TABLE_LINES = [
     *pairs("table, come and gone", "insert\tg\tone\tzz\tnew\t1", "delete\tg\tone\tzz\tnew\t1"),
@@ -272,6 +289,7 @@ def main():
     count = int(sys.argv[2]) if len(sys.argv) > 2 else 20_000
     many = int(sys.argv[3]) if len(sys.argv) > 3 else MANY
     one = ["k,d,v\n", "a,d0,1\n"]
+    wide = ["k,a,b\n", "a,1,2\n"]
     full = [",".join(f"a{place}" for place in range(ATTRIBUTES)) + "\n"]
     small = {"g/one": ["k\n", "a\n"], "h1/one": ["k\n", "a\n"]}
     tables = min(MANY_TABLES, many)
@@ -279,6 +297,7 @@ def main():
         *table(VIEW, LINES, {rows: {"g/r": tall(rows), **small} for rows in (FEW, many)}, count, "rows"),
         *table(VIEW, LIMIT_LINES, {rows: {"g/r": tall(rows), "g/full": full} for rows in (FEW, many)}, count, "rows"),
         *table(EACH, EACH_LINES, {rows: {"g/r": tall(rows), "g/one": one} for rows in (FEW, many)}, count, "rows"),
+        *table(COLUMNS_AS_VALUES, COLUMN_LINES, {rows: {"g/r": tall(rows), "g/one": wide} for rows in (FEW, many)}, count, "rows"),
         *table(TABLES, TABLE_LINES, {rows: {"g/r": tall(rows, rows), "g/one": one} for rows in (FEW_TABLES, tables)}, count, "tables"),
     ]
     for line in longer:

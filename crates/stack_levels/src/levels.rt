@@ -135,6 +135,7 @@ impl Levels {
     pub fn note_synced(&mut self, labels: Vec<TableLabels>)
         requires levels { AreLevels self.old }
         requires labels { labels.items ≡ map level_labels self.old }
+        ensures all { self.new ≡ map level_synced self.old }
         ensures levels { AreLevels self.new }
         ensures fresh { AreFresh self.new (lowest_catalogue self.old) (views_of self.old) }
     {

@@ -12,6 +12,12 @@ invariant_of-self c =
     let is = take_at new (drop (length new) own.items) own.len (c.note_all.auto.levels ∙ c.deref_mut.ensures.len) ∙ c.note_all.ensures ∙ ap (map level_synced) c.deref_mut.ensures.value in
     c.self.invariant ∙ sym (databases_synced own.items) ∙ ap databases_of (sym is)
 
+pub returns-clause-all : goal.returns-clause-all
+returns-clause-all c =
+    let own = c.self.inside.levels in
+    let new = c.note_all.new.levels in
+    take_at new (drop (length new) own.items) own.len (c.note_all.auto.levels ∙ c.deref_mut.ensures.len) ∙ c.note_all.ensures ∙ ap (map level_synced) (c.deref_mut.ensures.value ∙ c.self.view_is)
+
 pub returns-clause-levels : goal.returns-clause-levels
 returns-clause-levels c =
     let own = c.self.inside.levels in
