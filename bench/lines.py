@@ -108,11 +108,6 @@ def moved(*kinds):
     return [kind._replace(still=False) for kind in kinds]
 
 
-def seldom(*kinds):
-    """The same kinds, of which fewer steps are made, since one of them takes long."""
-    return [kind._replace(one_in=200) for kind in kinds]
-
-
 def refused(number, name, line, *others):
     """Lines that are refused, by a refusal of this number and name behind the others."""
     return Kind(f"refused, {number}: {name}", line, (*others, name))
@@ -200,11 +195,9 @@ LIMIT_LINES = [
 # Those over a view of the columns of the small relation.
 COLUMN_LINES = [
     *pairs("row of a small relation, come and gone", "insert\tg\tone\tb\t1\t2", "delete\tg\tone\tb\t1\t2"),
-    *seldom(
-        *pairs("its attribute of values, renamed", "rename-attribute\tg\tone\ta\tz", "rename-attribute\tg\tone\tz\ta"),
-        *pairs("its attribute, added and dropped", "add-attribute\tg\tone\tz\t", "drop-attribute\tg\tone\tz"),
-        *pairs("small relation, renamed", "rename-relation\tg\tone\ttwo", "rename-relation\tg\ttwo\tone"),
-    ),
+    *pairs("its attribute of values, renamed", "rename-attribute\tg\tone\ta\tz", "rename-attribute\tg\tone\tz\ta"),
+    *pairs("its attribute, added and dropped", "add-attribute\tg\tone\tz\t", "drop-attribute\tg\tone\tz"),
+    *pairs("small relation, renamed", "rename-relation\tg\tone\ttwo", "rename-relation\tg\ttwo\tone"),
 ]
 
 # Those among few and among many tables.

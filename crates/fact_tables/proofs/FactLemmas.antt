@@ -11,12 +11,12 @@ use Rattle.std.specs.declared.cmp.Ordering.TheVariants.{Less, Equal, Greater}
 use Rattle.std.specs.Ordering.{ordering_then, is_eq}
 use Rattle.ss_text.specs.Texts.{Text, Row, text_cmp, row_cmp, row_eq}
 use Rattle.fact_tables.specs.Parts.{fact_value}
-use Rattle.flow_law.specs.FactOrder.{cell_cmp, fact_cmp}
+use Rattle.flow_law.specs.FactOrder.{cell_cmp, by_key as in_table, fact_cmp}
 
 module _ (l m : Text) (j k : Row) (p q : Option (Text × Text)) (r : Ordering) where
-  -- where the labels are the same, keys that are not decide
-  pub by_key : text_cmp l m ≡ Equal → r ≡ row_cmp j k → (r ≡ Equal → ⊥) → r ≡ fact_cmp (fact_value l j p) (fact_value m k q)
-  by_key same e differs = rw same (e ∙ decided (row_cmp j k) _ (λ s. differs (e ∙ s)))
+  -- in a table, keys that are not the same decide
+  pub by_key : r ≡ row_cmp j k → (r ≡ Equal → ⊥) → r ≡ in_table (fact_value l j p) (fact_value m k q)
+  by_key e differs = e ∙ decided (row_cmp j k) _ (λ s. differs (e ∙ s))
     where
       decided : (o s : Ordering) → (o ≡ Equal → ⊥) → o ≡ ordering_then o s
       decided Less s d = refl
@@ -24,8 +24,12 @@ module _ (l m : Text) (j k : Row) (p q : Option (Text × Text)) (r : Ordering) w
       decided Greater s d = refl
 
   -- and else the cells
-  pub by_cell : text_cmp l m ≡ Equal → row_cmp j k ≡ Equal → r ≡ cell_cmp p q → r ≡ fact_cmp (fact_value l j p) (fact_value m k q)
-  by_cell same also e = rw (same, also) e
+  pub by_cell : row_cmp j k ≡ Equal → r ≡ cell_cmp p q → r ≡ in_table (fact_value l j p) (fact_value m k q)
+  by_cell same e = rw same e
+
+-- where the labels are the same, the order in their table decides
+pub by_table : (f g : Fact) (r : Ordering) → text_cmp f.label g.label ≡ Equal → r ≡ in_table f g → r ≡ fact_cmp f g
+by_table f g r same e = rw same e
 
 -- a fact has its own key
 pub first_counts : (first : Fact) (fs : List Fact) (n : ℕ) → Some first ≡ slice_get fs 0 → 0 < length fs → n ≡ prefix_len (λ (f : Fact). row_eq first.key f.key) (take (length fs - 1) (drop 1 fs))

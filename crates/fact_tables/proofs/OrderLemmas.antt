@@ -1,11 +1,16 @@
 -- What facts in order say of the tables and the refusal of the same facts in any order.
-use Rattle.std.proofs.Common.{◌≡◌, List, [], ◌∷◌, ◌++◌, Option, Some, None, refl, sym, ap, subst, ◌∙◌}
+use Rattle.std.proofs.Common.{◌≡◌, ◌+◌, arith, get_or, List, [], ◌∷◌, ◌++◌, Option, Some, None, refl, sym, ap, subst, ◌∙◌}
 use Rattle.std.specs.Prelude.{option_map}
-use Rattle.std.specs.Ordering.{eq_by_cmp}
-use Rattle.std.specs.List.{AllByRecursion}
+use Rattle.std.specs.declared.cmp.Ordering.{Ordering}
+use Rattle.std.specs.declared.cmp.Ordering.TheVariants.{Less, Equal, Greater}
+use Rattle.std.specs.Ordering.{eq_by_cmp, is_lt, ordering_reverse}
+use Rattle.std.specs.Cmp.{IsTotalOrder, on_total, then_total}
+use Rattle.std.specs.Cmp.Lexicographic.{nat_list_cmp_total, lists_total}
+use Rattle.std.specs.List.{All, AllByRecursion}
 use Rattle.std.specs.List.Retain.{IsFiltered, DiffersFromLast}
 use Rattle.std.specs.List.Sorted.{IsPermutation, IsSorted, IsStrictlySortedBy}
-use Rattle.std.proofs.lemmas.List.Sorted.{IsPermutation-refl, list_any-IsPermutation}
+use Rattle.std.proofs.lemmas.List.Sorted.{IsPermutation-refl, All-permutation, list_any-IsPermutation}
+use Rattle.std.proofs.lemmas.List.Elements.{All-from_recursion}
 use Rattle.ss_text.specs.Texts.{Text}
 use Rattle.ss_text.specs.Ascending.{ascending}
 use Rattle.ss_text.proofs.AscendingLemmas.{sorted_once}
@@ -17,9 +22,9 @@ use Rattle.flow_law.specs.declared.refused.Clash.{Clash}
 use Rattle.flow_law.specs.declared.refused.EvalFault.{EvalFault}
 use Rattle.flow_law.specs.declared.refused.EvalFault.TheVariants.{Illegal, Conflict, NoMemory}
 use Rattle.flow_law.specs.Facts.{Fact, illegal, conflict, first_refusal, refusal_by}
-use Rattle.flow_law.specs.FactOrder.{fact_cmp, fact_total}
+use Rattle.flow_law.specs.FactOrder.{cell_total, by_key, fact_cmp, fact_total}
 use Rattle.flow_law.specs.FactTables.{tables}
-use Rattle.flow_law.specs.Labelled.{BearLabel}
+use Rattle.flow_law.specs.Labelled.{AllBear, BearLabel}
 use Rattle.flow_law.specs.Faults.{IsFaultOf}
 use Rattle.flow_law.proofs.SameFacts.{fact_same, in_order, tables_same, conflict_same}
 use Rattle.fact_tables.specs.Conflicts.{IsConflict}
@@ -84,3 +89,24 @@ strict_left all left last is h = strict_front fact_cmp left (last ∷ []) (subst
 pub bear_left : (label : Option Text) (all left : List Fact) (last : Fact) → all ≡ left ++ last ∷ [] → BearLabel label all → BearLabel label left
 bear_left None all left last is h = tt
 bear_left (Some label) all left last is h = all_front (λ (f : Fact). f.label ≡ label) left (last ∷ []) (subst (AllByRecursion (λ (f : Fact). f.label ≡ label)) is h)
+
+self_equal : {K : Type 0} {R : K → K → Ordering} → IsTotalOrder R → (x : K) → R x x ≡ Equal
+self_equal {K} {R} o x = by_case (R x x) (o.antisymm x x)
+  where
+    by_case : (r : Ordering) → r ≡ ordering_reverse r → r ≡ Equal
+    by_case Less e = absurd (cc)
+    by_case Equal e = refl
+    by_case Greater e = absurd (cc)
+
+-- facts of one table are in order by key and cell
+pub in_table_total : IsTotalOrder by_key
+in_table_total = then_total (on_total (λ (f : Fact). f.key) (lists_total nat_list_cmp_total)) (on_total (λ (f : Fact). f.cell) cell_total)
+
+same_label : (label : Text) (f g : Fact) → f.label ≡ label → g.label ≡ label → fact_cmp f g ≡ by_key f g
+same_label label f g d e = rw (d, e, self_equal nat_list_cmp_total label) refl
+
+-- and so are facts that bear one label
+pub sorted_in_table : (label : Text) (fs gs : List Fact) → AllBear label fs → IsPermutation fs gs → IsSorted by_key gs → IsSorted fact_cmp gs
+sorted_in_table label fs gs bear same sorted =
+    let each : All (λ (f : Fact). f.label ≡ label) gs = All-permutation (λ (f : Fact). f.label ≡ label) fs gs same (All-from_recursion (λ (f : Fact). f.label ≡ label) fs bear) in
+    λ k d low high. ap is_lt (same_label label (get_or gs (k + 1) d) (get_or gs k d) (each (k + 1) d high) (each k d (omega arith))) ∙ sorted k d low high

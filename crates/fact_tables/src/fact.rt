@@ -7,7 +7,7 @@ ghost use Rattle.std.specs.Ordering.{eq_by_cmp, as_partial_cmp};
 ghost use Rattle.std.specs.Cmp.{partial_equiv_from_equiv, partial_order_from_agreeing_total, eq_by_cmp_equiv};
 ghost use Rattle.fact_tables.specs.Parts.{fact_value};
 ghost use Rattle.fact_tables.specs.Cells.{is_past};
-ghost use Rattle.flow_law.specs.FactOrder.{fact_cmp, fact_total};
+ghost use Rattle.flow_law.specs.FactOrder.{by_key, fact_cmp, fact_total};
 
 use crate::fact_cell::FactCell;
 use crate::key::Key;
@@ -138,6 +138,16 @@ impl<'a, C: FactCell> Fact<'a, C> {
         }
     }
 
+    /// How it stands to another of its table: by key, and then by cell. No label is read.
+    pub(crate) fn order_in_table(&self, other: &Fact<'a, C>) -> Ordering
+        ensures { result ≡ by_key self.now other.now }
+    {
+        match self.key.cmp(&other.key) {
+            Ordering::Equal => self.cell.order(&other.cell),
+            differs => differs,
+        }
+    }
+
     /// Whether it has the key of another.
     pub(crate) fn has_key_of(&self, other: &Fact<'a, C>) -> bool
         ensures { result ≡ row_eq self.now.key other.now.key }
@@ -237,10 +247,7 @@ impl<'a, C: FactCell> Ord for Fact<'a, C> {
 
     fn cmp(&self, other: &Self) -> Ordering {
         match self.label.cmp(&other.label) {
-            Ordering::Equal => match self.key.cmp(&other.key) {
-                Ordering::Equal => self.cell.order(&other.cell),
-                differs => differs,
-            },
+            Ordering::Equal => self.order_in_table(other),
             differs => differs,
         }
     }

@@ -91,8 +91,20 @@ pub(crate) fn sort_legal<'a, C: FactCell>(
     if let Some(label) = illegal(shape, facts)? {
         return Err(EvalFault::Illegal(label));
     }
-    facts.sort_unstable();
+    sort(shape, facts);
     Ok(())
+}
+
+// Sorts facts. Where all bear one label it is not read.
+fn sort<'a, C: FactCell>(shape: &Shape, facts: &mut Vec<Fact<'a, C>>)
+    requires { BearLabel shape.now.label facts.old.items }
+    ensures same { IsPermutation facts.old.items facts.new.items }
+    ensures sorted { IsSorted fact_cmp facts.new.items }
+{
+    match &shape.label {
+        Some(_) => facts.sort_unstable_by(|fact, other| fact.order_in_table(other)),
+        None => facts.sort_unstable(),
+    }
 }
 
 /// Leaves each of sorted facts once, unless two of them conflict. It is done in place, since a copy of all facts would take

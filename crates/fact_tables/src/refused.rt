@@ -109,7 +109,7 @@ fn clash_between<'a, C: FactCell>(
     let (Some((column, first)), Some((named, second))) = (fact.cell(), next.cell()) else {
         return Ok(None);
     };
-    let same = fact.label() == next.label() && fact.has_key_of(next) && column == named;
+    let same = column == named && fact.label() == next.label() && fact.has_key_of(next);
     if !same || first.is_empty() {
         return Ok(None);
     }

@@ -7,7 +7,7 @@ ghost use Rattle.schema_delta.specs.Flat.{flat, whole, part, own};
 
 use crate::FlatSpec;
 use crate::inside::one;
-use crate::part::push_part;
+use crate::part::{goes_over, push_part};
 use schema_model::{Catalogue, Database, Relation};
 use ss_text::{NoMemory, Row, Text};
 use std::alloc::Global;
@@ -51,7 +51,8 @@ pub(crate) fn own_rows(alloc: Global, name: &Text, spec: &FlatSpec) -> Result<Ve
     Ok(rows)
 }
 
-// Adds what a relation contributes under this name.
+// Adds what a relation contributes under this name. Its rows are walked where the declaration goes through them, and only
+// there.
 fn push_relation(
     alloc: Global,
     rows: &mut Vec<Row>,
@@ -62,9 +63,19 @@ fn push_relation(
 ) -> Result<(), NoMemory>
     ensures { OnOk result (rows.new.items ≡ rows.old.items ++ part spec.now db.now (record (plain_relation relation.now) { name = name.now })) }
 {
-    let kept = relation.rows(alloc)?;
-    push_part(alloc, rows, spec, db, name, relation.attributes(), &kept)?;
-    Ok(())
+    if !goes_over(&spec.range, db, name) {
+        return Ok(());
+    }
+    let attributes = relation.attributes();
+    match &spec.range {
+        Range::Tuples(..) | Range::Values(..) => {
+            let kept = relation.rows(alloc)?;
+            push_part(alloc, rows, spec, db, name, attributes, &kept)
+        }
+        Range::Databases | Range::Relations(..) | Range::Attributes(..) | Range::Alias(..) => {
+            push_part(alloc, rows, spec, db, name, attributes, &[])
+        }
+    }
 }
 
 /// What a relation contributes under this name.

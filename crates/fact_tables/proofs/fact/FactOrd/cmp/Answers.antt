@@ -1,15 +1,10 @@
-use Rattle.std.proofs.Common.{◌∙◌, sym}
-use Rattle.fact_tables.proofs.FactLemmas.{by_key, by_cell}
+use Rattle.std.proofs.Common.{◌≡◌, ◌∙◌, sym}
+use Rattle.std.specs.declared.cmp.Ordering.TheVariants.{Equal}
+use Rattle.ss_text.specs.Texts.{text_cmp}
+use Rattle.fact_tables.proofs.FactLemmas.{by_table}
 use Rattle.fact_tables.proofs.fact.FactOrd.cmp.Goals as goal
 
-pub returns-in-Equal-cmp : goal.returns-in-Equal-cmp
-returns-in-Equal-cmp t c =
-    let a = c.self.inside in
-    let b = c.other.inside in
-    rw (← c.self.view_is, ← c.other.view_is) (by_cell a.label b.label a.key b.key (t.C.FactCell.cell a.cell) (t.C.FactCell.cell b.cell) _ (sym c.cmp.ensures ∙ c.in-Equal.is) (sym c.cmp-in-Equal.ensures ∙ c.in-Equal-cmp.is) c.order.ensures)
-
-pub returns-in_default-cmp : goal.returns-in_default-cmp
-returns-in_default-cmp t c =
-    let a = c.self.inside in
-    let b = c.other.inside in
-    rw (← c.self.view_is, ← c.other.view_is) (by_key a.label b.label a.key b.key (t.C.FactCell.cell a.cell) (t.C.FactCell.cell b.cell) _ (sym c.cmp.ensures ∙ c.in-Equal.is) c.cmp-in-Equal.ensures c.in_default-cmp.not-Equal)
+pub returns-in-Equal : goal.returns-in-Equal
+returns-in-Equal t c =
+    let same : text_cmp c.args.self.now.label c.args.other.now.label ≡ Equal = rw (← c.self.view_is, ← c.other.view_is) (sym c.cmp.ensures ∙ c.in-Equal.is) in
+    by_table c.args.self.now c.args.other.now _ same c.order_in_table.ensures
