@@ -11,7 +11,8 @@ use Rattle.ss_text.specs.Ascending.{ascending}
 use Rattle.ss_text.proofs.KeyLemmas.{row_order, equal_is}
 use Rattle.ss_text.proofs.PairLemmas.{turned, any_ascending}
 use Rattle.counts.specs.declared.moves.Move.{Move}
-use Rattle.counts.specs.Counted.{counted, come as keys_come, go as keys_go, after, positive, new_counts, changed_get, IsNet, CanMove}
+use Rattle.counts.specs.declared.tally.Tally.{Tally}
+use Rattle.counts.specs.Counted.{counted, keys_of, come as keys_come, go as keys_go, after, positive, new_counts, changed_get, IsNet, CanMove}
 use Rattle.operator_law.specs.declared.delta.Signed.{Signed}
 use Rattle.operator_law.specs.Bags.{weigh, come, go, is, MovesBag}
 use Rattle.other_operators.specs.RowCounts.{row_move, row_moves, AreCountsOf, CanBeCounted, MovesRowCounts}
@@ -65,14 +66,14 @@ none_moves q (m ∷ ms) h = by_test (row_eq q m.row) refl (λ rest. none_moves q
         (omega (arith, r.0, n.0), omega (arith, r.1, n.1))
 
 -- what moves come to
-module _ {S : Type 0} (count : Row → ℕ) (ms : List Signed) (ups downs : IndexMap Row ℕ S) (net : IsNet row_eq (row_moves ms) ups downs) where
-  pub can_move : CanBeCounted count ms → CanMove row_eq count ups downs
+module _ (count : Row → ℕ) (ms : List Signed) (ts : List (Tally Row)) (net : IsNet row_eq (row_moves ms) ts) where
+  pub can_move : CanBeCounted count ms → CanMove row_eq count ts
   can_move h = record {
     enough = λ q. omega (arith, h.counts q, h.moves (is q), net.come q, net.go q, come_is q ms, go_is q ms);
     small = λ q. omega (arith, h.counts q, h.moves (is q), net.come q, net.go q, come_is q ms, go_is q ms, h.few, few_counted q h.new);
   }
 
-  after_is : (old new : List Row) → AreCountsOf count old → MovesBag old ms new → (q : Row) → after row_eq count ups downs q ≡ weigh (is q) new
+  after_is : (old new : List Row) → AreCountsOf count old → MovesBag old ms new → (q : Row) → after row_eq count ts q ≡ weigh (is q) new
   after_is old new h moves q = omega (arith, h q, moves (is q), net.come q, net.go q, come_is q ms, go_is q ms)
 
 -- a map of some keys, over what was there
@@ -94,17 +95,17 @@ positive_is zero = refl
 positive_is (suc n) = rw (some_more n) refl
 
 -- the new counts, stored over the old ones, are those of the rows after the moves
-pub moved : {S T : Type 0} (kept : IndexMap Row ℕ S) (ms : List Signed) (ups downs : IndexMap Row ℕ T) (named : List Row) (ready : List (Row × Option ℕ)) → IsNet row_eq (row_moves ms) ups downs
-    → named ≡ ascending row_cmp (map (λ (m : Move Row). m.key) (row_moves ms)) → ready ≡ new_counts row_eq (counted row_eq kept) ups downs named
+pub moved : {S : Type 0} (kept : IndexMap Row ℕ S) (ms : List Signed) (ts : List (Tally Row)) (ready : List (Row × Option ℕ)) → IsNet row_eq (row_moves ms) ts
+    → keys_of ts ≡ ascending row_cmp (map (λ (m : Move Row). m.key) (row_moves ms)) → ready ≡ new_counts row_eq (counted row_eq kept) ts
     → MovesRowCounts (get row_eq kept) ms (changed_get row_eq ready (get row_eq kept))
-moved kept ms ups downs named ready net named_are ready_are old new h moves q =
+moved kept ms ts ready net named_are ready_are old new h moves q =
     ap (λ (v : Option ℕ). unwrap_or v 0)
     (ap (λ (cs : List (Row × Option ℕ)). changed_get row_eq cs (get row_eq kept) q) ready_are
-    ∙ stored (λ k. positive (after row_eq (counted row_eq kept) ups downs k)) named (get row_eq kept) q)
-    ∙ by_test (list_any (row_eq q) named) refl
+    ∙ stored (λ k. positive (after row_eq (counted row_eq kept) ts k)) (keys_of ts) (get row_eq kept) q)
+    ∙ by_test (list_any (row_eq q) (keys_of ts)) refl
   where
-    by_test : (b : Bool) → list_any (row_eq q) named ≡ b → unwrap_or (cond b (positive (after row_eq (counted row_eq kept) ups downs q)) (get row_eq kept q)) 0 ≡ weigh (is q) new
-    by_test true e = positive_is (after row_eq (counted row_eq kept) ups downs q) ∙ after_is (counted row_eq kept) ms ups downs net old new h moves q
+    by_test : (b : Bool) → list_any (row_eq q) (keys_of ts) ≡ b → unwrap_or (cond b (positive (after row_eq (counted row_eq kept) ts q)) (get row_eq kept q)) 0 ≡ weigh (is q) new
+    by_test true e = positive_is (after row_eq (counted row_eq kept) ts q) ∙ after_is (counted row_eq kept) ms ts net old new h moves q
     by_test false e =
         let none = none_moves q ms (sym (any_ascending row_order q (map (λ (m : Move Row). m.key) (row_moves ms))) ∙ ap (list_any (row_eq q)) (sym named_are) ∙ e) in
         omega (arith, h q, moves (is q), none.0, none.1)

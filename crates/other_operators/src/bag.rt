@@ -3,7 +3,7 @@ ghost use Rattle.std.specs.Prelude.{◌≡◌, ◌≤◌, [], List, None, Some, 
 ghost use Rattle.indexmap.specs.IndexMap.{get, spare};
 ghost use Rattle.ss_text.specs.Ascending.{ascending};
 ghost use Rattle.ss_text.specs.Texts.{Row as RowValue, row_eq, row_cmp};
-ghost use Rattle.counts.specs.Counted.{counted, changed_get, IsNet};
+ghost use Rattle.counts.specs.Counted.{counted, keys_of, changed_get, IsNet};
 ghost use Rattle.operator_law.specs.Bags.{MovesBag};
 ghost use Rattle.other_operators.specs.RowCounts.{count_in, row_move, row_moves, AreCountsOf, CanBeCounted, KeepsRows, MovesRowCounts};
 
@@ -75,13 +75,12 @@ fn row_moves(alloc: Global, moves: &[Signed]) -> Result<Vec<Move<Row>>, NoMemory
 }
 
 // What the moves come to.
-#[tactic(auto, using(ss_text::proofs::KeyLemmas::row_order))]
 fn net_of(alloc: Global, moves: &[Signed]) -> Result<Net<Row>, NoMemory>
-    ensures net { IfOk result (λ net. IsNet row_eq (row_moves moves.now) net.ups net.downs) }
-    ensures named { IfOk result (λ net. net.named.items ≡ ascending row_cmp (map (λ m. m.key) (row_moves moves.now))) }
+    ensures net { IfOk result (λ net. IsNet row_eq (row_moves moves.now) net) }
+    ensures keys { IfOk result (λ net. keys_of net ≡ ascending row_cmp (map (λ m. m.key) (row_moves moves.now))) }
 {
     let keys = row_moves(alloc, moves)?;
-    let net = Net::of(alloc, Seed::fixed(), &keys)?;
+    let net = Net::of(alloc, keys)?;
     Ok(net)
 }
 
@@ -97,7 +96,7 @@ fn made_ready(
     ensures room { IfOk result (λ ready. length ready.items ≤ spare counts.new) }
 {
     let net = net_of(alloc, moves)?;
-    make_room(counts, net.named.len())?;
+    make_room(counts, net.tallies().len())?;
     let ready = net.new_counts(alloc, counts)?;
     Ok(ready)
 }

@@ -10,6 +10,7 @@ use Rattle.std.proofs.lemmas.List.Kept.{IsStrictlySortedBy-filter}
 use Rattle.ss_text.specs.Texts.{Text, text_cmp}
 use Rattle.ss_text.proofs.PairLemmas.{ascending_ascends}
 use Rattle.unfold_op.specs.declared.facts.FactCounts.{FactCounts}
+use Rattle.counts.specs.Counted.{keys_of}
 use Rattle.unfold_op.specs.declared.facts.Nets.{Nets}
 use Rattle.unfold_op.specs.Touched.{Place, Entry, place_cmp, place_eq, entry_cmp}
 use Rattle.unfold_op.specs.Kept.{first_clash, held_at, places_of}
@@ -44,7 +45,7 @@ no_clash_ascends label (e ∷ d ∷ es) s h = by_test (place_eq e.0 d.0) refl (�
         ((lt, greater_all e.0 d.0 (map (λ (c : Entry). c.0) es) lt later.0), later)
 
 pub present_sorted : (k : FactCounts) (n : Nets) → IsStrictlySortedBy entry_cmp (present_of k n)
-present_sorted k n = IsStrictlySortedBy-filter entry_cmp (λ e. nat_lt 0 ((now k n).entries e)) _ (ascending_ascends entry_order (n.entries.named.items ++ filter_map (held_at k.cells) (places_of n.entries.named.items)))
+present_sorted k n = IsStrictlySortedBy-filter entry_cmp (λ e. nat_lt 0 ((now k n).entries e)) _ (ascending_ascends entry_order ((keys_of n.entries) ++ filter_map (held_at k.cells) (places_of (keys_of n.entries))))
 
 pub present_ascends : (label : Text) (k : FactCounts) (n : Nets) → first_clash label (present_of k n) ≡ None → IsStrictlySortedBy place_cmp (map (λ (e : Entry). e.0) (present_of k n))
 present_ascends label k n h = no_clash_ascends label (present_of k n) (present_sorted k n) h

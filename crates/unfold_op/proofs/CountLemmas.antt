@@ -5,12 +5,12 @@ use Rattle.std.specs.Option.{option_map_or}
 use Rattle.std.specs.List.{list_any, filter_map, cons_option}
 use Rattle.std.proofs.lemmas.Bool.{false≢true}
 use Rattle.std.proofs.lemmas.List.Sums.{sum_by-cons, count_by-le-length}
-use Rattle.indexmap.specs.IndexMap.{IndexMap}
 use Rattle.ss_text.specs.Texts.{Text, Row, text_eq, row_eq, text_cmp, row_cmp}
 use Rattle.ss_text.specs.Ascending.{ascending}
 use Rattle.flow_law.specs.Facts.{Fact, column_of}
 use Rattle.counts.specs.declared.moves.Move.{Move}
-use Rattle.counts.specs.Counted.{counted, after, CanMove}
+use Rattle.counts.specs.declared.tally.Tally.{Tally}
+use Rattle.counts.specs.Counted.{counted, keys_of, ups_in, downs_in, after, CanMove}
 use Rattle.unfold_op.specs.declared.facts.FactCounts.{FactCounts}
 use Rattle.unfold_op.specs.declared.facts.Nets.{Nets}
 use Rattle.unfold_op.specs.Touched.{Entry, entry_eq, entry_cmp, entry_of, bears_key, bears_column, bears_entry, SameBeyond}
@@ -94,8 +94,8 @@ moved x c y g h = omega (arith, h)
 -- parts of facts that are counted, and moved
 module _ {K : Type 0} (eq : K → K → Bool) (bears : K → Fact → Bool) (kept : K → ℕ) (old : List Fact) (ms : List (Move Fact)) (new : List Fact)
     (stands : (q : K) → kept q ≡ count_by (bears q) old) (h : MovesFacts old ms new) (small : length new < 2 ^ 128) where
-  module _ {S : Type 0} (ups downs : IndexMap K ℕ S) (come_is : (q : K) → counted eq ups q ≡ come_by (bears q) ms) (go_is : (q : K) → counted eq downs q ≡ go_by (bears q) ms) where
-    pub can_move : CanMove eq kept ups downs
+  module _ (net : List (Tally K)) (come_is : (q : K) → ups_in eq net q ≡ come_by (bears q) ms) (go_is : (q : K) → downs_in eq net q ≡ go_by (bears q) ms) where
+    pub can_move : CanMove eq kept net
     can_move = record {
       enough = λ q. rw (stands q, come_is q, go_is q) (enough _ _ _ _ (h.counts (bears q)));
       small = λ q. rw (stands q, come_is q, go_is q) (few q);
@@ -107,7 +107,7 @@ module _ {K : Type 0} (eq : K → K → Bool) (bears : K → Fact → Bool) (kep
         few : (q : K) → count_by (bears q) old + come_by (bears q) ms < 2 ^ 128 + go_by (bears q) ms
         few q = omega (arith, h.counts (bears q), small, count_by-le-length (bears q) new)
 
-    pub after_is : (q : K) → after eq kept ups downs q ≡ count_by (bears q) new
+    pub after_is : (q : K) → after eq kept net q ≡ count_by (bears q) new
     after_is q = rw (stands q, come_is q, go_is q) (moved (count_by (bears q) old) (come_by (bears q) ms) (count_by (bears q) new) (go_by (bears q) ms) (h.counts (bears q)))
 
 -- what the moves name
@@ -135,39 +135,39 @@ keys_moved (m ∷ ms) = ap (λ ks. m.key.key ∷ ks) (keys_moved ms)
 
 -- a change of what is kept
 module _ (k : FactCounts) (n : Nets) (label : Text) (constants : Row) (ms : List (Move Fact)) (old new : List Fact) (h : IsChange k n label constants ms old new) where
-  key_come : (q : Row) → counted row_eq n.keys.ups q ≡ come_by (bears_key q) ms
+  key_come : (q : Row) → ups_in row_eq n.keys q ≡ come_by (bears_key q) ms
   key_come q = h.nets.keys.come q ∙ key_count (λ b. b) q ms
 
-  key_go : (q : Row) → counted row_eq n.keys.downs q ≡ go_by (bears_key q) ms
+  key_go : (q : Row) → downs_in row_eq n.keys q ≡ go_by (bears_key q) ms
   key_go q = h.nets.keys.go q ∙ key_count not q ms
 
-  column_come : (q : Text) → counted text_eq n.columns.ups q ≡ come_by (bears_column q) ms
+  column_come : (q : Text) → ups_in text_eq n.columns q ≡ come_by (bears_column q) ms
   column_come q = h.nets.columns.come q ∙ column_count (λ b. b) q ms
 
-  column_go : (q : Text) → counted text_eq n.columns.downs q ≡ go_by (bears_column q) ms
+  column_go : (q : Text) → downs_in text_eq n.columns q ≡ go_by (bears_column q) ms
   column_go q = h.nets.columns.go q ∙ column_count not q ms
 
-  entry_come : (q : Entry) → counted entry_eq n.entries.ups q ≡ come_by (bears_entry q) ms
+  entry_come : (q : Entry) → ups_in entry_eq n.entries q ≡ come_by (bears_entry q) ms
   entry_come q = h.nets.entries.come q ∙ part_count entry_eq entry_of (λ b. b) q ms
 
-  entry_go : (q : Entry) → counted entry_eq n.entries.downs q ≡ go_by (bears_entry q) ms
+  entry_go : (q : Entry) → downs_in entry_eq n.entries q ≡ go_by (bears_entry q) ms
   entry_go q = h.nets.entries.go q ∙ part_count entry_eq entry_of not q ms
 
   pub can_move_all : CanMoveAll k n
   can_move_all = record {
-    keys = can_move row_eq bears_key (counted row_eq k.keys) old ms new h.stands.keys h.moves h.small n.keys.ups n.keys.downs key_come key_go;
-    columns = can_move text_eq bears_column (counted text_eq k.columns) old ms new h.stands.columns h.moves h.small n.columns.ups n.columns.downs column_come column_go;
-    entries = can_move entry_eq bears_entry (held k.cells) old ms new h.stands.entries h.moves h.small n.entries.ups n.entries.downs entry_come entry_go;
+    keys = can_move row_eq bears_key (counted row_eq k.keys) old ms new h.stands.keys h.moves h.small n.keys key_come key_go;
+    columns = can_move text_eq bears_column (counted text_eq k.columns) old ms new h.stands.columns h.moves h.small n.columns column_come column_go;
+    entries = can_move entry_eq bears_entry (held k.cells) old ms new h.stands.entries h.moves h.small n.entries entry_come entry_go;
   }
 
   pub keys_after : (q : Row) → (now k n).keys q ≡ count_by (bears_key q) new
-  keys_after = after_is row_eq bears_key (counted row_eq k.keys) old ms new h.stands.keys h.moves h.small n.keys.ups n.keys.downs key_come key_go
+  keys_after = after_is row_eq bears_key (counted row_eq k.keys) old ms new h.stands.keys h.moves h.small n.keys key_come key_go
 
   pub columns_after : (q : Text) → (now k n).columns q ≡ count_by (bears_column q) new
-  columns_after = after_is text_eq bears_column (counted text_eq k.columns) old ms new h.stands.columns h.moves h.small n.columns.ups n.columns.downs column_come column_go
+  columns_after = after_is text_eq bears_column (counted text_eq k.columns) old ms new h.stands.columns h.moves h.small n.columns column_come column_go
 
   pub entries_after : (q : Entry) → (now k n).entries q ≡ count_by (bears_entry q) new
-  entries_after = after_is entry_eq bears_entry (held k.cells) old ms new h.stands.entries h.moves h.small n.entries.ups n.entries.downs entry_come entry_go
+  entries_after = after_is entry_eq bears_entry (held k.cells) old ms new h.stands.entries h.moves h.small n.entries entry_come entry_go
 
   pub counts_before : Counts (before k) old
   counts_before = record {
@@ -183,7 +183,7 @@ module _ (k : FactCounts) (n : Nets) (label : Text) (constants : Row) (ms : List
     entries = λ q. ap (nat_lt 0) (entries_after q) ∙ any_counted (bears_entry q) new;
   }
 
-  pub names : Names n.keys.named.items n.columns.named.items n.entries.named.items (map (λ (m : Move Fact). m.key) ms)
+  pub names : Names (keys_of n.keys) (keys_of n.columns) (keys_of n.entries) (map (λ (m : Move Fact). m.key) ms)
   names = record {
     keys_are = h.nets.keys_named ∙ ap (ascending row_cmp) (keys_moved ms);
     columns_are = h.nets.columns_named ∙ ap (ascending text_cmp) (columns_moved ms);

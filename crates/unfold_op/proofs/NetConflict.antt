@@ -23,6 +23,7 @@ use Rattle.unfold_op.specs.Kept.{first_clash, clash_of_two, held_at, places_of, 
 use Rattle.unfold_op.proofs.Picked.{given_same}
 use Rattle.unfold_op.proofs.TouchedLines.{any_value}
 use Rattle.unfold_op.specs.declared.facts.FactCounts.{FactCounts}
+use Rattle.counts.specs.Counted.{keys_of}
 use Rattle.unfold_op.specs.declared.facts.Nets.{Nets}
 use Rattle.unfold_op.specs.Nets.{before, now, present_of}
 use Rattle.unfold_op.proofs.Present.{has_entry, entry_order, any_left, any_place_of, any_places}
@@ -176,9 +177,9 @@ pub at_most_one : (s : Spot) (vs : List Text) (o : Option Text) → ((v : Text) 
 at_most_one s vs o h = ap (clash_of s) (ascend_alike vs (option_to_list o) h) ∙ one_is_none s o
 
 module _ (k : FactCounts) (old : List Fact) (counts : Counts (before k) old) (label : Text) (n : Nets) (named new : List Fact) (beyond : SameBeyond named old new) (after : Counts (now k n) new)
-    (names : Names n.keys.named.items n.columns.named.items n.entries.named.items named) (bear : AllBear label new) where
+    (names : Names (keys_of n.keys) (keys_of n.columns) (keys_of n.entries) named) (bear : AllBear label new) where
   abbrev pub es : List Entry
-  es = n.entries.named.items
+  es = (keys_of n.entries)
 
   abbrev pub left : List Entry
   left = present_of k n

@@ -19,7 +19,7 @@ use Rattle.ss_text.proofs.PairLemmas.{any_ascending, any_filtered, ascending_asc
 use Rattle.ss_text.proofs.SetLemmas.{least_first}
 use Rattle.flow_law.specs.declared.refused.IllegalLabel.{IllegalLabel}
 use Rattle.flow_law.specs.Facts.{Fact, Pair, pair_cmp, pairs_of, illegal_column}
-use Rattle.counts.proofs.Pairs.{pair_same}
+use Rattle.counts.specs.Pairs.{pair_same}
 use Rattle.unfold_op.specs.Touched.{has_column, columns_named, SameBeyond}
 use Rattle.unfold_op.specs.Kept.{first_illegal}
 use Rattle.unfold_op.proofs.FactCells.{column_named}

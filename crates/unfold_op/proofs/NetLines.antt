@@ -12,7 +12,7 @@ use Rattle.ss_text.proofs.SetLemmas.{same_ascending, same_back, same_map, ascend
 use Rattle.flow_law.specs.Facts.{Fact}
 use Rattle.flow_law.specs.FactTables.{value_for}
 use Rattle.flow_law.specs.declared.line.TableLine.TheVariants.{Cell}
-use Rattle.counts.specs.Counted.{goes}
+use Rattle.counts.specs.Counted.{keys_of, goes}
 use Rattle.unfold_op.specs.declared.facts.FactCounts.{FactCounts}
 use Rattle.unfold_op.specs.declared.facts.Nets.{Nets}
 use Rattle.unfold_op.specs.Touched.{Place, Entry, place_cmp, place_eq, entry_eq, entry_of, place_of, has_key, has_column, places_named, entries_named, value_moves, touched_lines, SameBeyond}
@@ -115,9 +115,9 @@ module _ (k : FactCounts) (old : List Fact) (counts : Counts (before k) old) whe
           by_test false s h = absurd (cc)
 
   module _ (label : Text) (n : Nets) (named new : List Fact) (beyond : SameBeyond named old new) (after : Counts (now k n) new)
-      (names : Names n.keys.named.items n.columns.named.items n.entries.named.items named) where
+      (names : Names (keys_of n.keys) (keys_of n.columns) (keys_of n.entries) named) where
     abbrev pub es : List Entry
-    es = n.entries.named.items
+    es = (keys_of n.entries)
 
     pub are_named : (e : Entry) → list_any (entry_eq e) es ≡ has_entry named e
     are_named e = ap (list_any (entry_eq e)) names.entries_are ∙ any_ascending entry_order e (filter_map entry_of named) ∙ any_entry e named
@@ -143,10 +143,10 @@ module _ (k : FactCounts) (old : List Fact) (counts : Counts (before k) old) whe
       pub net_lines_touched : net_lines label k n ≡ touched_lines label named old new
       net_lines_touched =
           rw (
-            goes_is (before k).keys (now k n).keys (has_key old) (has_key new) counts.keys after.keys n.keys.named.items,
-            goes_is (before k).columns (now k n).columns (has_column old) (has_column new) counts.columns after.columns n.columns.named.items,
-            goes_is (now k n).columns (before k).columns (has_column new) (has_column old) after.columns counts.columns n.columns.named.items,
-            goes_is (now k n).keys (before k).keys (has_key new) (has_key old) after.keys counts.keys n.keys.named.items,
+            goes_is (before k).keys (now k n).keys (has_key old) (has_key new) counts.keys after.keys (keys_of n.keys),
+            goes_is (before k).columns (now k n).columns (has_column old) (has_column new) counts.columns after.columns (keys_of n.columns),
+            goes_is (now k n).columns (before k).columns (has_column new) (has_column old) after.columns counts.columns (keys_of n.columns),
+            goes_is (now k n).keys (before k).keys (has_key new) (has_key old) after.keys counts.keys (keys_of n.keys),
             cell_lines,
             names.keys_are,
             names.columns_are,

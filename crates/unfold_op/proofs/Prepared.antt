@@ -3,7 +3,7 @@ use Rattle.std.proofs.Common.{◌≡◌, List, None, sym, ◌∙◌, ap, map}
 use Rattle.std.specs.Prelude.{filter}
 use Rattle.ss_text.specs.Texts.{Text, Row}
 use Rattle.counts.specs.declared.moves.Move.{Move}
-use Rattle.counts.specs.Counted.{goes}
+use Rattle.counts.specs.Counted.{keys_of, goes}
 use Rattle.flow_law.specs.Facts.{Fact, illegal_column, conflict}
 use Rattle.flow_law.specs.FactTables.{fact_table}
 use Rattle.flow_law.specs.Script.{lines_between}
@@ -20,7 +20,7 @@ use Rattle.unfold_op.proofs.NetIllegal.{illegal_is_first}
 use Rattle.unfold_op.proofs.CountLemmas.{counts_before, counts_now, names, beyond}
 
 abbrev pub begun : FactCounts → Nets → Row
-begun k n = filter (goes (now k n).columns (before k).columns) n.columns.named.items
+begun k n = filter (goes (now k n).columns (before k).columns) (keys_of n.columns)
 
 module _ (k : FactCounts) (n : Nets) (label : Text) (constants : Row) (ms : List (Move Fact)) (old new : List Fact) (h : IsChange k n label constants ms old new) where
   named : List Fact
@@ -28,7 +28,7 @@ module _ (k : FactCounts) (n : Nets) (label : Text) (constants : Row) (ms : List
 
   pub illegal_is : first_illegal label constants (begun k n) ≡ illegal_column constants new
   illegal_is =
-      ap (first_illegal label constants) (goes_is (now k n).columns (before k).columns (has_column new) (has_column old) (counts_now k n label constants ms old new h).columns (counts_before k n label constants ms old new h).columns n.columns.named.items
+      ap (first_illegal label constants) (goes_is (now k n).columns (before k).columns (has_column new) (has_column old) (counts_now k n label constants ms old new h).columns (counts_before k n label constants ms old new h).columns (keys_of n.columns)
       ∙ ap (filter _) (names k n label constants ms old new h).columns_are)
       ∙ sym (illegal_is_first label constants (map (λ (m : Move Fact). m.key) ms) old new (beyond k n label constants ms old new h) h.bear h.legal)
 

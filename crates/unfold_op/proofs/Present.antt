@@ -17,7 +17,7 @@ use Rattle.flow_law.specs.FactTables.{value_for}
 use Rattle.unfold_op.specs.Touched.{Place, Entry, place_cmp, place_eq, entry_cmp, entry_eq, bears_entry, SameBeyond}
 use Rattle.unfold_op.specs.Kept.{places_of, value_among}
 use Rattle.unfold_op.proofs.TouchedLines.{place_order, any_value}
-use Rattle.counts.proofs.Pairs.{pair_same}
+use Rattle.counts.specs.Pairs.{pair_same}
 use Rattle.std.specs.Cmp.{on_total, then_total}
 use Rattle.std.specs.Cmp.Lexicographic.{nat_list_cmp_total}
 use Rattle.std.specs.Ordering.{ordering_then, is_eq}

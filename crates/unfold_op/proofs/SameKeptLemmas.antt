@@ -6,7 +6,7 @@ use Rattle.std.specs.List.{filter_map}
 use Rattle.std.specs.List.Sorted.{IsStrictlySortedBy}
 use Rattle.ss_text.specs.Texts.{Text, Row, text_eq, row_eq}
 use Rattle.ss_text.specs.Ascending.{ascending}
-use Rattle.counts.specs.Counted.{counted, CanMove}
+use Rattle.counts.specs.Counted.{keys_of, ups_in, downs_in, CanMove}
 use Rattle.unfold_op.specs.declared.facts.FactCounts.{FactCounts}
 use Rattle.unfold_op.specs.declared.facts.Nets.{Nets}
 use Rattle.unfold_op.specs.Touched.{Entry, place_cmp, entry_cmp, entry_eq}
@@ -24,16 +24,16 @@ held_at_same k l h = λ i p. option_map (λ (v : Text × ℕ). let e : Entry = (
 
 pub present_is_same : (k l : FactCounts) (n : Nets) → SameKept k l → present_of k n ≡ present_of l n
 present_is_same k l n h = λ i.
-    filter (λ e. nat_lt 0 ((held_same k l h i e + counted entry_eq n.entries.ups e) - counted entry_eq n.entries.downs e)) (ascending entry_cmp (n.entries.named.items ++ filter_map (held_at_same k l h i) (places_of n.entries.named.items)))
+    filter (λ e. nat_lt 0 ((held_same k l h i e + ups_in entry_eq n.entries e) - downs_in entry_eq n.entries e)) (ascending entry_cmp ((keys_of n.entries) ++ filter_map (held_at_same k l h i) (places_of (keys_of n.entries))))
 
 pub present_same : (k l : FactCounts) (n : Nets) → SameKept k l → IsStrictlySortedBy place_cmp (map (λ (e : Entry). e.0) (present_of k n)) → IsStrictlySortedBy place_cmp (map (λ (e : Entry). e.0) (present_of l n))
 present_same k l n h s = subst (λ (es : List Entry). IsStrictlySortedBy place_cmp (map (λ (e : Entry). e.0) es)) (present_is_same k l n h) s
 
 pub can_move_same : (k l : FactCounts) (n : Nets) → SameKept k l → CanMoveAll k n → CanMoveAll l n
 can_move_same k l n h m = record {
-  keys = subst (λ (f : Row → ℕ). CanMove row_eq f n.keys.ups n.keys.downs) (λ i q. unwrap_or (sym (h.keys q) i) 0) m.keys;
-  columns = subst (λ (f : Text → ℕ). CanMove text_eq f n.columns.ups n.columns.downs) (λ i q. unwrap_or (sym (h.columns q) i) 0) m.columns;
-  entries = subst (λ (f : Entry → ℕ). CanMove entry_eq f n.entries.ups n.entries.downs) (held_same k l h) m.entries;
+  keys = subst (λ (f : Row → ℕ). CanMove row_eq f n.keys) (λ i q. unwrap_or (sym (h.keys q) i) 0) m.keys;
+  columns = subst (λ (f : Text → ℕ). CanMove text_eq f n.columns) (λ i q. unwrap_or (sym (h.columns q) i) 0) m.columns;
+  entries = subst (λ (f : Entry → ℕ). CanMove entry_eq f n.entries) (held_same k l h) m.entries;
 }
 
 pub stands_same : (k l : FactCounts) (fs : List Fact) → SameKept k l → Stands k fs → Stands l fs

@@ -12,7 +12,7 @@ use Rattle.ss_text.proofs.KeyLemmas.{IsKeyOrder, text_order, row_order, equal_is
 use Rattle.ss_text.proofs.PairLemmas.{turned}
 use Rattle.flow_law.specs.Facts.{Fact}
 use Rattle.counts.specs.declared.moves.Move.{Move}
-use Rattle.counts.specs.Counted.{counted, changed_get, positive}
+use Rattle.counts.specs.Counted.{counted, keys_of, changed_get, positive}
 use Rattle.unfold_op.specs.declared.facts.FactCounts.{FactCounts}
 use Rattle.unfold_op.specs.declared.facts.Nets.{Nets}
 use Rattle.unfold_op.specs.declared.ready.NewCounts.{NewCounts}
@@ -71,18 +71,18 @@ module _ (k : FactCounts) (n : Nets) (label : Text) (constants : Row) (ms : List
   keys_stored : (q : Row) → counted row_eq after.keys q ≡ count_by (bears_key q) new
   keys_stored q =
       ap (λ (v : Option ℕ). unwrap_or v 0) (keys q ∙ ap (λ cs. changed_get row_eq cs (get row_eq k.keys) q) ready.keys)
-      ∙ count_stored row_order (λ p. count_by (bears_key p) old) (now k n).keys (λ p. count_by (bears_key p) new) n.keys.named.items (get row_eq k.keys) q (h.stands.keys q)
+      ∙ count_stored row_order (λ p. count_by (bears_key p) old) (now k n).keys (λ p. count_by (bears_key p) new) (keys_of n.keys) (get row_eq k.keys) q (h.stands.keys q)
       (λ e. same_count old ms new h.moves (bears_key q) (sym (key_named q (map (λ (m : Move Fact). m.key) ms)) ∙ ap (list_any (row_eq q)) (sym (names k n label constants ms old new h).keys_are) ∙ e))
       (keys_after k n label constants ms old new h q)
 
   columns_stored : (q : Text) → counted text_eq after.columns q ≡ count_by (bears_column q) new
   columns_stored q =
       ap (λ (v : Option ℕ). unwrap_or v 0) (columns q ∙ ap (λ cs. changed_get text_eq cs (get text_eq k.columns) q) ready.columns)
-      ∙ count_stored text_order (λ p. count_by (bears_column p) old) (now k n).columns (λ p. count_by (bears_column p) new) n.columns.named.items (get text_eq k.columns) q (h.stands.columns q)
+      ∙ count_stored text_order (λ p. count_by (bears_column p) old) (now k n).columns (λ p. count_by (bears_column p) new) (keys_of n.columns) (get text_eq k.columns) q (h.stands.columns q)
       (λ e. same_count old ms new h.moves (bears_column q) (sym (column_named q (map (λ (m : Move Fact). m.key) ms)) ∙ ap (is_in q) (sym (names k n label constants ms old new h).columns_are) ∙ e))
       (columns_after k n label constants ms old new h q)
 
-  has_left : (e : Entry) → list_any (place_eq e.0) (places_of n.entries.named.items) ≡ true → list_any (text_eq e.1) (option_to_list (lookup (place_eq e.0) (present_of k n))) ≡ has_entry new e
+  has_left : (e : Entry) → list_any (place_eq e.0) (places_of (keys_of n.entries)) ≡ true → list_any (text_eq e.1) (option_to_list (lookup (place_eq e.0) (present_of k n))) ≡ has_entry new e
   has_left e there =
       found_among e.0 e.1 (present_of k n) (present_ascends label k n clean)
       ∙ any_present k old (counts_before k n label constants ms old new h) label n (map (λ (m : Move Fact). m.key) ms) new (beyond k n label constants ms old new h) (counts_now k n label constants ms old new h) (names k n label constants ms old new h) h.bear e
@@ -94,8 +94,8 @@ module _ (k : FactCounts) (n : Nets) (label : Text) (constants : Row) (ms : List
   held_stored : (e : Entry) → held after.cells e ≡ count_by (bears_entry e) new
   held_stored e =
       ap (λ (o : Option (Text × ℕ)). option_map_or (λ (v : Text × ℕ). if text_eq e.1 v.0 then v.1 else 0) o 0)
-      (cells e.0 ∙ ap (λ cs. changed_get place_eq cs (get place_eq k.cells) e.0) ready.cells ∙ stored place_order (new_cell k n) (places_of n.entries.named.items) (get place_eq k.cells) e.0)
-      ∙ by_place (list_any (place_eq e.0) (places_of n.entries.named.items)) refl
+      (cells e.0 ∙ ap (λ cs. changed_get place_eq cs (get place_eq k.cells) e.0) ready.cells ∙ stored place_order (new_cell k n) (places_of (keys_of n.entries)) (get place_eq k.cells) e.0)
+      ∙ by_place (list_any (place_eq e.0) (places_of (keys_of n.entries))) refl
     where
       by_found : (o : Option Text) → lookup (place_eq e.0) (present_of k n) ≡ o → list_any (text_eq e.1) (option_to_list o) ≡ has_entry new e
           → option_map_or (λ (v : Text × ℕ). if text_eq e.1 v.0 then v.1 else 0) (option_map (λ v. let c : Text × ℕ = (v, (now k n).entries (e.0, v)) in c) o) 0 ≡ count_by (bears_entry e) new
@@ -106,7 +106,7 @@ module _ (k : FactCounts) (n : Nets) (label : Text) (constants : Row) (ms : List
           by_test true u = ap (λ (w : Text). (now k n).entries (e.0, w)) (sym (equal_is text_order e.1 v u)) ∙ entries_after k n label constants ms old new h e
           by_test false u = sym (gone e (sym has ∙ ap (λ b. b || false) u))
 
-      by_place : (b : Bool) → list_any (place_eq e.0) (places_of n.entries.named.items) ≡ b
+      by_place : (b : Bool) → list_any (place_eq e.0) (places_of (keys_of n.entries)) ≡ b
           → option_map_or (λ (v : Text × ℕ). if text_eq e.1 v.0 then v.1 else 0) (cond b (new_cell k n e.0) (get place_eq k.cells e.0)) 0 ≡ count_by (bears_entry e) new
       by_place true t = by_found (lookup (place_eq e.0) (present_of k n)) refl (has_left e t)
       by_place false t =

@@ -8,7 +8,7 @@ use Rattle.ss_text.specs.Label.{is_column_label}
 use Rattle.flow_law.specs.Facts.{Fact, column_of, conflict}
 use Rattle.flow_law.specs.Labelled.{AllBear}
 use Rattle.counts.specs.declared.moves.Move.{Move}
-use Rattle.counts.specs.Counted.{counted, IsNet}
+use Rattle.counts.specs.Counted.{counted, keys_of, IsNet}
 use Rattle.unfold_op.specs.declared.facts.FactCounts.{FactCounts}
 use Rattle.unfold_op.specs.declared.facts.Nets.{Nets}
 use Rattle.unfold_op.specs.Touched.{Entry, entry_eq, entry_cmp, entry_of, bears_key, bears_column, bears_entry, has_column}
@@ -50,12 +50,12 @@ pub record CanCount (k : FactCounts) (f : Fact) (fs : List Fact) : Type 0 where
 
 -- the nets are those of these moves
 pub record AreNets (n : Nets) (ms : List (Move Fact)) : Type 0 where
-  pub keys : IsNet row_eq (key_moves ms) n.keys.ups n.keys.downs
-  pub columns : IsNet text_eq (column_moves ms) n.columns.ups n.columns.downs
-  pub entries : IsNet entry_eq (entry_moves ms) n.entries.ups n.entries.downs
-  pub keys_named : n.keys.named.items ≡ ascending row_cmp (map (λ (m : Move Row). m.key) (key_moves ms))
-  pub columns_named : n.columns.named.items ≡ ascending text_cmp (map (λ (m : Move Text). m.key) (column_moves ms))
-  pub entries_named : n.entries.named.items ≡ ascending entry_cmp (map (λ (m : Move Entry). m.key) (entry_moves ms))
+  pub keys : IsNet row_eq (key_moves ms) n.keys
+  pub columns : IsNet text_eq (column_moves ms) n.columns
+  pub entries : IsNet entry_eq (entry_moves ms) n.entries
+  pub keys_named : keys_of n.keys ≡ ascending row_cmp (map (λ (m : Move Row). m.key) (key_moves ms))
+  pub columns_named : keys_of n.columns ≡ ascending text_cmp (map (λ (m : Move Text). m.key) (column_moves ms))
+  pub entries_named : keys_of n.entries ≡ ascending entry_cmp (map (λ (m : Move Entry). m.key) (entry_moves ms))
 
 -- a change of the kept facts of one table, whose columns were legal before
 pub record IsChange (k : FactCounts) (n : Nets) (label : Text) (constants : Row) (ms : List (Move Fact)) (old new : List Fact) : Type 0 where

@@ -3,7 +3,7 @@ use Rattle.indexmap.specs.IndexMap.{get, spare}
 use Rattle.std.specs.Prelude.{◌≡◌, ◌≤◌, ℕ, map, Option, option_map, length}
 use Rattle.std.specs.Map.{lookup}
 use Rattle.ss_text.specs.Texts.{Text, Row, row_eq, text_eq}
-use Rattle.counts.specs.Counted.{counted, new_counts}
+use Rattle.counts.specs.Counted.{counted, keys_of, new_counts}
 use Rattle.unfold_op.specs.declared.facts.FactCounts.{FactCounts}
 use Rattle.unfold_op.specs.declared.facts.Nets.{Nets}
 use Rattle.unfold_op.specs.declared.ready.NewCounts.{NewCounts}
@@ -17,9 +17,9 @@ new_cell k n p = option_map (λ v. (v, (now k n).entries (p, v))) (lookup (place
 
 -- what is made ready for a change: the new counts and the new cells of what it names
 pub record IsReady (k : FactCounts) (n : Nets) (r : NewCounts) : Type 0 where
-  pub keys : r.keys.items ≡ new_counts row_eq (counted row_eq k.keys) n.keys.ups n.keys.downs n.keys.named.items
-  pub columns : r.columns.items ≡ new_counts text_eq (counted text_eq k.columns) n.columns.ups n.columns.downs n.columns.named.items
-  pub cells : r.cells.items ≡ map (λ p. (p, new_cell k n p)) (places_of n.entries.named.items)
+  pub keys : r.keys.items ≡ new_counts row_eq (counted row_eq k.keys) n.keys
+  pub columns : r.columns.items ≡ new_counts text_eq (counted text_eq k.columns) n.columns
+  pub cells : r.cells.items ≡ map (λ p. (p, new_cell k n p)) (places_of (keys_of n.entries))
 
 -- there is room for what was made ready
 pub record HasRoom (k : FactCounts) (r : NewCounts) : Type 0 where

@@ -9,7 +9,7 @@ use crate::parts::key_in;
 use counts::{Move, Net};
 use flow_law::Shape;
 use operator_law::Signed;
-use ss_text::{NoMemory, Row, Seed, Text};
+use ss_text::{NoMemory, Row, Text};
 use std::alloc::Global;
 
 fn key_move(alloc: Global, shape: &Shape, m: &Signed) -> Result<Move<Row>, NoMemory>
@@ -118,20 +118,14 @@ fn entry_moves(
     Ok(entries)
 }
 
-/// What moves of fact rows come to, in maps that hash by a seed.
-#[tactic(auto, using(counts::proofs::Pairs::pair_same, ss_text::proofs::KeyLemmas::text_order, ss_text::proofs::KeyLemmas::row_order))]
-pub(crate) fn nets_of(
-    alloc: Global,
-    seed: Seed,
-    shape: &Shape,
-    moves: &[Signed],
-) -> Result<Nets, NoMemory>
+/// What moves of fact rows come to.
+pub(crate) fn nets_of(alloc: Global, shape: &Shape, moves: &[Signed]) -> Result<Nets, NoMemory>
     requires { All (λ m. length m.row ≡ fact_width shape.now) moves.now }
     ensures { IfOk result (λ nets. AreNets nets (fact_moves shape.now moves.now)) }
 {
-    let keys = Net::of(alloc, seed, &key_moves(alloc, shape, moves)?)?;
-    let columns = Net::of(alloc, seed, &column_moves(alloc, shape, moves)?)?;
-    let entries = Net::of(alloc, seed, &entry_moves(alloc, shape, moves)?)?;
+    let keys = Net::of(alloc, key_moves(alloc, shape, moves)?)?;
+    let columns = Net::of(alloc, column_moves(alloc, shape, moves)?)?;
+    let entries = Net::of(alloc, entry_moves(alloc, shape, moves)?)?;
     Ok(Nets {
         keys,
         columns,

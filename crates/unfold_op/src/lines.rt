@@ -3,7 +3,7 @@ ghost use Rattle.std.specs.Prelude.{◌≡◌, ◌<◌, ◌+◌, ◌++◌, [], �
 ghost use Rattle.std.specs.List.Sorted.{IsStrictlySortedBy};
 ghost use Rattle.ss_text.specs.Texts.{row_eq, text_eq};
 ghost use Rattle.flow_law.specs.declared.line.TableLine.TheVariants as line;
-ghost use Rattle.counts.specs.Counted.{counted, after, goes, CanMove};
+ghost use Rattle.counts.specs.Counted.{counted, keys_of, after, goes, CanMove};
 ghost use Rattle.unfold_op.specs.Touched.{place_cmp};
 ghost use Rattle.unfold_op.specs.Kept.{held, value_held, value_among, place_line, outer_lines, first_clash, first_illegal, places_of};
 ghost use Rattle.unfold_op.specs.Nets.{before, now, CanMoveAll, present_of, net_lines};
@@ -159,7 +159,7 @@ pub(crate) fn outer_lines(
     nets: &Nets,
 ) -> Result<Vec<TableLine>, NoMemory>
     requires { CanMoveAll counts.now nets.now }
-    ensures { IfOk result (λ lines. lines.items ≡ outer_lines label.now (before counts.now) (now counts.now nets.now) nets.now.keys.named.items nets.now.columns.named.items) }
+    ensures { IfOk result (λ lines. lines.items ≡ outer_lines label.now (before counts.now) (now counts.now nets.now) (keys_of nets.now.keys) (keys_of nets.now.columns)) }
 {
     let mut lines = Vec::new(alloc);
     let gone = nets.keys.gone(alloc, &counts.keys)?;
@@ -181,10 +181,10 @@ pub(crate) fn present_of(
     places: &[(Row, Text)],
 ) -> Result<Vec<((Row, Text), Text)>, NoMemory>
     requires moves { CanMoveAll counts.now nets.now }
-    requires places { places.now ≡ places_of nets.now.entries.named.items }
+    requires places { places.now ≡ places_of (keys_of nets.now.entries) }
     ensures { IfOk result (λ entries. entries.items ≡ present_of counts.now nets.now) }
 {
-    let touched = touched(alloc, &counts.cells, &nets.entries.named, places)?;
+    let touched = touched(alloc, &counts.cells, nets.entries.tallies(), places)?;
     let entries = present(alloc, &counts.cells, &nets.entries, &touched)?;
     Ok(entries)
 }
@@ -200,7 +200,7 @@ fn lines_of(
 ) -> Result<Vec<TableLine>, NoMemory>
     requires moves { CanMoveAll counts.now nets.now }
     requires ascend { IsStrictlySortedBy place_cmp (map (λ e. e.0) present.now) }
-    ensures { IfOk result (λ lines. lines.items ≡ outer_lines label.now (before counts.now) (now counts.now nets.now) nets.now.keys.named.items nets.now.columns.named.items
+    ensures { IfOk result (λ lines. lines.items ≡ outer_lines label.now (before counts.now) (now counts.now nets.now) (keys_of nets.now.keys) (keys_of nets.now.columns)
         ++ filter_map (place_line label.now (now counts.now nets.now).keys (now counts.now nets.now).columns (value_held counts.now.cells) (value_among present.now)) places.now) }
 {
     let mut lines = outer_lines(alloc, label, counts, nets)?;
@@ -237,7 +237,7 @@ fn first_illegal(
     nets: &Nets,
 ) -> Result<Option<IllegalLabel>, NoMemory>
     requires { CanMoveAll counts.now nets.now }
-    ensures { IfOk result (λ found. found ≡ first_illegal label.now constants.now (filter (goes (now counts.now nets.now).columns (before counts.now).columns) nets.now.columns.named.items)) }
+    ensures { IfOk result (λ found. found ≡ first_illegal label.now constants.now (filter (goes (now counts.now nets.now).columns (before counts.now).columns) (keys_of nets.now.columns))) }
 {
     let begun = nets.columns.begun(alloc, &counts.columns)?;
     let found = illegal_label(label, constants, &begun)?;
@@ -257,7 +257,7 @@ fn clash_or_lines(
     ensures ok { IfOk result (λ answer. IfOk answer (λ lines. lines.items ≡ net_lines label.now counts.now nets.now)) }
     ensures err { IfOk result (λ answer. IfErr answer (λ clash. first_clash label.now (present_of counts.now nets.now) ≡ Some clash)) }
 {
-    let places = places(alloc, &nets.entries.named)?;
+    let places = places(alloc, nets.entries.tallies())?;
     let present = present_of(alloc, counts, nets, &places)?;
     if let Some(clash) = first_clash(label, &present)? {
         return Ok(Err(clash));
@@ -275,10 +275,10 @@ pub fn net_lines(
     nets: &Nets,
 ) -> Result<Vec<TableLine>, EvalFault>
     requires { CanMoveAll counts.now nets.now }
-    ensures legal { IfOk result (λ lines. first_illegal label.now constants.now (filter (goes (now counts.now nets.now).columns (before counts.now).columns) nets.now.columns.named.items) ≡ None) }
+    ensures legal { IfOk result (λ lines. first_illegal label.now constants.now (filter (goes (now counts.now nets.now).columns (before counts.now).columns) (keys_of nets.now.columns)) ≡ None) }
     ensures none { IfOk result (λ lines. first_clash label.now (present_of counts.now nets.now) ≡ None) }
     ensures ok { IfOk result (λ lines. lines.items ≡ net_lines label.now counts.now nets.now) }
-    ensures err { IfErr result (λ s. StopsFor (first_illegal label.now constants.now (filter (goes (now counts.now nets.now).columns (before counts.now).columns) nets.now.columns.named.items))
+    ensures err { IfErr result (λ s. StopsFor (first_illegal label.now constants.now (filter (goes (now counts.now nets.now).columns (before counts.now).columns) (keys_of nets.now.columns)))
         (first_clash label.now (present_of counts.now nets.now)) s) }
 {
     if let Some(found) = first_illegal(alloc, label, constants, counts, nets)? {

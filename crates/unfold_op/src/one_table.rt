@@ -196,7 +196,7 @@ impl OneTable {
             → lines.items ≡ lines_between label.now (fact_table (facts_in self.now.shape old)) (fact_table (facts_in self.now.shape new))) }
         ensures stops { IfErr result (MayStop (seen self.now) change.now) }
     {
-        let nets = nets_of(alloc, self.counts.seed(), &self.shape, &change.moves)?;
+        let nets = nets_of(alloc, &self.shape, &change.moves)?;
         match prepare(alloc, label, &self.shape.constants, &self.counts, &nets) {
             Ok(lines) => Ok(lines),
             Err(stop) => Err(stop),
@@ -236,8 +236,8 @@ impl OneTable {
         self.waiting = None;
         let label = label_for(&self.shape, &self.label, &change.moves).copy()?;
         let total = total_after(self.total, &change.moves);
-        let nets = nets_of(alloc, self.counts.seed(), &self.shape, &change.moves)?;
-        let counts = reserve(alloc, &mut self.counts, &nets)?;
+        let nets = nets_of(alloc, &self.shape, &change.moves)?;
+        let counts = reserve(alloc, &mut self.counts, nets)?;
         self.waiting = Some(Waiting {
             of: Snapshot::of(change),
             counts,

@@ -3,7 +3,7 @@ ghost use Rattle.std.specs.Prelude.{◌≡◌, ◌≤◌, ◌<◌, List, length,
 ghost use Rattle.std.specs.List.Sorted.{IsStrictlySortedBy};
 ghost use Rattle.std.specs.Map.{lookup};
 ghost use Rattle.indexmap.specs.IndexMap.{get, spare};
-ghost use Rattle.counts.specs.Counted.{changed_get};
+ghost use Rattle.counts.specs.Counted.{keys_of, changed_get};
 ghost use Rattle.ss_text.specs.Texts.{Text, Row, row_eq, text_eq};
 ghost use Rattle.unfold_op.specs.Touched.{Place, place_eq, place_cmp, entry_eq};
 ghost use Rattle.unfold_op.specs.Kept.{places_of, held, first_clash};
@@ -96,23 +96,23 @@ fn cells_of(
 ) -> Result<Vec<((Row, Text), Option<(Text, u128)>)>, NoMemory>
     requires moves { CanMoveAll counts.now nets.now }
     requires ascend { IsStrictlySortedBy place_cmp (map (λ e. e.0) (present_of counts.now nets.now)) }
-    ensures { IfOk result (λ cells. cells.items ≡ map (λ p. (p, new_cell counts.now nets.now p)) (places_of nets.now.entries.named.items)) }
+    ensures { IfOk result (λ cells. cells.items ≡ map (λ p. (p, new_cell counts.now nets.now p)) (places_of (keys_of nets.now.entries))) }
 {
-    let places = places(alloc, &nets.entries.named)?;
+    let places = places(alloc, nets.entries.tallies())?;
     let present = present_of(alloc, counts, nets, &places)?;
     let cells = new_cells(alloc, counts, nets, &present, &places)?;
     Ok(cells)
 }
 
 /// Makes ready what is new after a change.
-pub fn made_ready(alloc: Global, counts: &FactCounts, nets: &Nets) -> Result<NewCounts, NoMemory>
-    requires moves { CanMoveAll counts.now nets.now }
-    requires ascend { IsStrictlySortedBy place_cmp (map (λ e. e.0) (present_of counts.now nets.now)) }
-    ensures { IfOk result (λ ready. IsReady counts.now nets.now ready) }
+pub fn made_ready(alloc: Global, counts: &FactCounts, nets: Nets) -> Result<NewCounts, NoMemory>
+    requires moves { CanMoveAll counts.now nets }
+    requires ascend { IsStrictlySortedBy place_cmp (map (λ e. e.0) (present_of counts.now nets)) }
+    ensures { IfOk result (λ ready. IsReady counts.now nets ready) }
 {
+    let cells = cells_of(alloc, counts, &nets)?;
     let keys = nets.keys.new_counts(alloc, &counts.keys)?;
     let columns = nets.columns.new_counts(alloc, &counts.columns)?;
-    let cells = cells_of(alloc, counts, nets)?;
     Ok(NewCounts {
         keys,
         columns,
@@ -122,37 +122,37 @@ pub fn made_ready(alloc: Global, counts: &FactCounts, nets: &Nets) -> Result<New
 
 fn room(counts: &mut FactCounts, nets: &Nets, cells: usize) -> Result<(), NoMemory>
     ensures same { SameKept counts.old counts.new }
-    ensures keys { OnOk result (length nets.now.keys.named.items ≤ spare counts.new.keys) }
-    ensures columns { OnOk result (length nets.now.columns.named.items ≤ spare counts.new.columns) }
+    ensures keys { OnOk result (length nets.now.keys ≤ spare counts.new.keys) }
+    ensures columns { OnOk result (length nets.now.columns ≤ spare counts.new.columns) }
     ensures cells { OnOk result (cells ≤ spare counts.new.cells) }
 {
-    make_room(&mut counts.keys, nets.keys.named.len())?;
-    make_room(&mut counts.columns, nets.columns.named.len())?;
+    make_room(&mut counts.keys, nets.keys.tallies().len())?;
+    make_room(&mut counts.columns, nets.columns.tallies().len())?;
     make_room(&mut counts.cells, cells)?;
     Ok(())
 }
 
 // Takes the memory, and makes ready what is new; what is kept stays.
-#[tactic(auto, using(crate::proofs::SameKeptLemmas::present_same, crate::proofs::SameKeptLemmas::present_is_same))]
-fn take_ready(alloc: Global, counts: &mut FactCounts, nets: &Nets) -> Result<NewCounts, NoMemory>
-    requires moves { CanMoveAll counts.old nets.now }
-    requires ascend { IsStrictlySortedBy place_cmp (map (λ e. e.0) (present_of counts.old nets.now)) }
+#[tactic(auto, using(crate::proofs::SameKeptLemmas::present_is_same))]
+fn take_ready(alloc: Global, counts: &mut FactCounts, nets: Nets) -> Result<NewCounts, NoMemory>
+    requires moves { CanMoveAll counts.old nets }
+    requires ascend { IsStrictlySortedBy place_cmp (map (λ e. e.0) (present_of counts.old nets)) }
     ensures same { SameKept counts.old counts.new }
-    ensures ready { IfOk result (λ ready. IsReady counts.new nets.now ready) }
+    ensures ready { IfOk result (λ ready. IsReady counts.new nets ready) }
     ensures room { IfOk result (λ ready. HasRoom counts.new ready) }
 {
-    let cells = places(alloc, &nets.entries.named)?.len();
-    room(counts, nets, cells)?;
+    let cells = places(alloc, nets.entries.tallies())?.len();
+    room(counts, &nets, cells)?;
     let ready = made_ready(alloc, counts, nets)?;
     Ok(ready)
 }
 
 /// Takes all memory that a change of the facts needs, and makes ready what is new. What is kept stays.
-pub fn reserve(alloc: Global, counts: &mut FactCounts, nets: &Nets) -> Result<NewCounts, NoMemory>
-    requires { (label : Text) × (constants : Row) × (ms : List (Move Fact)) × (old : List Fact) × (new : List Fact) × IsChange counts.old nets.now label constants ms old new × (conflict new ≡ None) }
+pub fn reserve(alloc: Global, counts: &mut FactCounts, nets: Nets) -> Result<NewCounts, NoMemory>
+    requires { (label : Text) × (constants : Row) × (ms : List (Move Fact)) × (old : List Fact) × (new : List Fact) × IsChange counts.old nets label constants ms old new × (conflict new ≡ None) }
     ensures stands { (fs : List Fact) → Stands counts.old fs → Stands counts.new fs }
     ensures only { (fs : List Fact) → Stands counts.new fs → Stands counts.old fs }
-    ensures ready { IfOk result (λ ready. IsReady counts.new nets.now ready) }
+    ensures ready { IfOk result (λ ready. IsReady counts.new nets ready) }
     ensures room { IfOk result (λ ready. HasRoom counts.new ready) }
 {
     match take_ready(alloc, counts, nets) {

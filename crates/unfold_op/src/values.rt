@@ -3,11 +3,11 @@ ghost use Rattle.std.specs.Prelude.{◌≡◌, ◌<◌, ◌+◌, ◌++◌, [], �
 ghost use Rattle.std.specs.List.Sorted.{IsStrictlySortedBy};
 ghost use Rattle.std.specs.Map.{lookup};
 ghost use Rattle.ss_text.specs.Ascending.{ascending};
-ghost use Rattle.counts.specs.Counted.{after, CanMove};
+ghost use Rattle.counts.specs.Counted.{keys_of, after, CanMove};
 ghost use Rattle.unfold_op.specs.Touched.{place_cmp, place_eq, entry_cmp, entry_eq};
 ghost use Rattle.unfold_op.specs.Kept.{held, held_at, value_held, value_among, places_of, clash_of_two, first_clash};
 
-use counts::{Key, Net};
+use counts::{Key, Net, Tally};
 use flow_law::Clash;
 use indexmap::IndexMap;
 use ss_text::{NoMemory, Row, Seed, Text, make_ascending};
@@ -40,16 +40,16 @@ pub(crate) fn value_held<'a>(
 }
 
 /// The places of entries, each once, ascending.
-#[tactic(auto, using(counts::proofs::Pairs::pair_same, ss_text::proofs::KeyLemmas::text_order, ss_text::proofs::KeyLemmas::row_order))]
+#[tactic(auto, using(counts::specs::Pairs::pair_same, ss_text::proofs::KeyLemmas::text_order, ss_text::proofs::KeyLemmas::row_order))]
 pub(crate) fn places(
     alloc: Global,
-    entries: &[((Row, Text), Text)],
+    entries: &[Tally<((Row, Text), Text)>],
 ) -> Result<Vec<(Row, Text)>, NoMemory>
-    ensures { IfOk result (λ places. places.items ≡ places_of entries.now) }
+    ensures { IfOk result (λ places. places.items ≡ places_of (keys_of entries.now)) }
 {
     let mut places = Vec::new(alloc);
     for entry in entries {
-        places.push(entry.0.copied()?)?;
+        places.push(entry.key.0.copied()?)?;
     }
     make_ascending(&mut places)?;
     Ok(places)
@@ -69,18 +69,18 @@ fn push_held(
 }
 
 /// The entries that a change names and those that are kept at their places, each once, ascending.
-#[tactic(auto, using(counts::proofs::Pairs::pair_same, ss_text::proofs::KeyLemmas::text_order, ss_text::proofs::KeyLemmas::row_order))]
+#[tactic(auto, using(counts::specs::Pairs::pair_same, ss_text::proofs::KeyLemmas::text_order, ss_text::proofs::KeyLemmas::row_order))]
 pub(crate) fn touched(
     alloc: Global,
     cells: &IndexMap<(Row, Text), (Text, u128), Seed>,
-    named: &[((Row, Text), Text)],
+    named: &[Tally<((Row, Text), Text)>],
     places: &[(Row, Text)],
 ) -> Result<Vec<((Row, Text), Text)>, NoMemory>
-    ensures { IfOk result (λ entries. entries.items ≡ ascending entry_cmp (named.now ++ filter_map (held_at cells.now) places.now)) }
+    ensures { IfOk result (λ entries. entries.items ≡ ascending entry_cmp (keys_of named.now ++ filter_map (held_at cells.now) places.now)) }
 {
     let mut entries = Vec::new(alloc);
     for entry in named {
-        entries.push(entry.copied()?)?;
+        entries.push(entry.key.copied()?)?;
     }
     for place in places {
         push_held(&mut entries, cells, place)?;
@@ -94,8 +94,8 @@ fn is_present(
     net: &Net<((Row, Text), Text)>,
     entry: &((Row, Text), Text),
 ) -> bool
-    requires { CanMove entry_eq (held cells.now) net.now.ups net.now.downs }
-    ensures { result ≡ nat_lt 0 (after entry_eq (held cells.now) net.now.ups net.now.downs entry.now) }
+    requires { CanMove entry_eq (held cells.now) net.now }
+    ensures { result ≡ nat_lt 0 (after entry_eq (held cells.now) net.now entry.now) }
 {
     net.after(held(cells, entry), entry) > 0
 }
@@ -107,8 +107,8 @@ pub(crate) fn present(
     net: &Net<((Row, Text), Text)>,
     touched: &[((Row, Text), Text)],
 ) -> Result<Vec<((Row, Text), Text)>, NoMemory>
-    requires { CanMove entry_eq (held cells.now) net.now.ups net.now.downs }
-    ensures { IfOk result (λ entries. entries.items ≡ filter (λ e. nat_lt 0 (after entry_eq (held cells.now) net.now.ups net.now.downs e)) touched.now) }
+    requires { CanMove entry_eq (held cells.now) net.now }
+    ensures { IfOk result (λ entries. entries.items ≡ filter (λ e. nat_lt 0 (after entry_eq (held cells.now) net.now e)) touched.now) }
 {
     let mut entries = Vec::new(alloc);
     for entry in touched {

@@ -11,14 +11,14 @@ pub returns : goal.returns
 returns c =
     let shape = c.args.shape.now in
     let ms = c.args.moves.now in
-    let keys = c.deref.ensures.value ∙ c.in_ok-key_moves.ensures ∙ keys_of_rows shape ms in
-    let columns = c.deref-2.ensures.value ∙ c.in_ok-column_moves.ensures ∙ columns_of_rows shape ms in
-    let entries = c.deref-3.ensures.value ∙ c.in_ok-entry_moves.ensures ∙ entries_of_rows shape ms in
+    let keys = c.in_ok-key_moves.ensures ∙ keys_of_rows shape ms in
+    let columns = c.in_ok-column_moves.ensures ∙ columns_of_rows shape ms in
+    let entries = c.in_ok-entry_moves.ensures ∙ entries_of_rows shape ms in
     record {
-      keys = subst (λ (ls : List (Move Row)). IsNet row_eq ls c.in_ok-keys.keys.ups c.in_ok-keys.keys.downs) keys c.in_ok-keys.ensures.net;
-      columns = subst (λ (ls : List (Move Text)). IsNet text_eq ls c.in_ok-columns.columns.ups c.in_ok-columns.columns.downs) columns c.in_ok-columns.ensures.net;
-      entries = subst (λ (ls : List (Move Entry)). IsNet entry_eq ls c.in_ok-entries.entries.ups c.in_ok-entries.entries.downs) entries c.in_ok-entries.ensures.net;
-      keys_named = c.in_ok-keys.ensures.named ∙ ap (λ (ls : List (Move Row)). ascending row_cmp (map (λ (m : Move Row). m.key) ls)) keys;
-      columns_named = c.in_ok-columns.ensures.named ∙ ap (λ (ls : List (Move Text)). ascending text_cmp (map (λ (m : Move Text). m.key) ls)) columns;
-      entries_named = c.in_ok-entries.ensures.named ∙ ap (λ (ls : List (Move Entry)). ascending entry_cmp (map (λ (m : Move Entry). m.key) ls)) entries;
+      keys = subst (λ (ls : List (Move Row)). IsNet row_eq ls c.in_ok-keys.keys) keys c.in_ok-keys.ensures.net;
+      columns = subst (λ (ls : List (Move Text)). IsNet text_eq ls c.in_ok-columns.columns) columns c.in_ok-columns.ensures.net;
+      entries = subst (λ (ls : List (Move Entry)). IsNet entry_eq ls c.in_ok-entries.entries) entries c.in_ok-entries.ensures.net;
+      keys_named = c.in_ok-keys.ensures.keys ∙ ap (λ (ls : List (Move Row)). ascending row_cmp (map (λ (m : Move Row). m.key) ls)) keys;
+      columns_named = c.in_ok-columns.ensures.keys ∙ ap (λ (ls : List (Move Text)). ascending text_cmp (map (λ (m : Move Text). m.key) ls)) columns;
+      entries_named = c.in_ok-entries.ensures.keys ∙ ap (λ (ls : List (Move Entry)). ascending entry_cmp (map (λ (m : Move Entry). m.key) ls)) entries;
     }
